@@ -4,7 +4,7 @@ use Rattle.std.specs.Prelude.{◌==◌, ◌<◌, ◌^◌, ◌&&◌, not, length,
 use Rattle.ckc_base.specs.declared.places.Pos.{Pos}
 use Rattle.ckc_types.specs.declared.types.Kind.{Kind}
 use Rattle.ckc_types.specs.declared.types.Kind.TheVariants as kind
-use Rattle.ckc_types.specs.declared.types.CType.{CType}
+use Rattle.ckc_types.specs.declared.types.CType.{CType, CType-F, out-CType}
 use Rattle.ckc_types.specs.declared.types.CType.TheVariants as ctype
 use Rattle.ckc_linear.specs.declared.forms.Form.{Form}
 use Rattle.ckc_syntax.specs.declared.tree.Name.{Name}
@@ -22,7 +22,7 @@ use Rattle.ckc_typed.specs.Conversions.{is_null}
 use Rattle.ckc_typed.specs.Operands.{is_raw_kind, is_moved, arithmetic_type}
 use Rattle.ckc_typed.specs.Expressions.{address_kind, has_address}
 use Rattle.ckc_typed.specs.Trees.{NotedLimits, NotedNode, NotedExpr, NotedLayer}
-use Rattle.ckc_typed.specs.Types.{type_written, is_integer, is_pointer, is_void, kind_of, element_of}
+use Rattle.ckc_typed.specs.Types.{type_written, is_integer, is_pointer, is_void, is_scalar, kind_of, element_of}
 use Rattle.ckc_typed_welltyped.specs.Expressions.{AnyLimits, AnyNode}
 use Rattle.ckc_typed_welltyped.proofs.Nodes.{node_of, node_rolled}
 use Rattle.ckc_bounds_points.specs.Flow.{State}
@@ -44,7 +44,7 @@ use Rattle.ckc_typed.specs.Layouts.{member_number}
 use Rattle.ckc_build_values.specs.Kinds.{integer_of, width_of, size_behind, count_of_kind, tag_of}
 use Rattle.ckc_build_values.specs.Members.{offset_of, count_of_member}
 use Rattle.ckc_build_values.specs.Places.{element_place, target_place, member_place, read_at}
-use Rattle.ckc_build_values.specs.Expressions.{node_address, Part, NodePart, LimitsPart, local_in, limits_parts, node_parts, expr_parts, node_value, part_of, part_of_node, part_of_limits}
+use Rattle.ckc_build_values.specs.Expressions.{node_address, node_place, Part, NodePart, LimitsPart, local_in, limits_parts, node_parts, expr_parts, node_value, part_of, part_of_node, part_of_limits}
 use Rattle.ckc_build_values.specs.Operators.{of_operands}
 use Rattle.ckc_blame_sound.specs.Settings.{Setting}
 use Rattle.ckc_blame_sound.specs.Values.{AreTrue}
@@ -52,12 +52,12 @@ use Rattle.ckc_blame_sound.specs.Points.{HoldsAt}
 use Rattle.ckc_blame_numbers.specs.Typed.{IsRow, HasRow, IsTyped, Agrees}
 use Rattle.ckc_blame_numbers.proofs.Exprs as numbers
 use Rattle.ckc_blame_numbers.proofs.Holding.{form_exact, form_exact_in, side_told}
-use Rattle.ckc_blame_numbers.proofs.Types.{no_pointer, IsWide, number_wide, size_wide}
+use Rattle.ckc_blame_numbers.proofs.Types.{no_pointer, sign_row, IsWide, number_wide, size_wide}
 use Rattle.ckc_blame_sound.specs.Bodies.{AreFresh}
 use Rattle.ckc_blame_pointers.specs.Valuations.{address_by}
-use Rattle.ckc_blame_pointers.specs.Covered.{DeclareLocals, DeclareOnes, IsSoundStore, IsElement, IsSingle, IsArrow, IsPointerArrow, IsAddressed, IsCoveredNode, IsCoveredExpr, IsCovered}
+use Rattle.ckc_blame_pointers.specs.Covered.{DeclareLocals, DeclareOnes, IsSoundStore, IsElement, IsSingle, IsArrow, IsPointerArrow, IsAddressed, IsStaticInteger, IsStaticArray, IsStaticPointer, IsStaticStructure, IsStructureTarget, IsStructureElement, IsStructureNode, IsCoveredNode, IsCoveredExpr, AreCovered, IsCovered}
 use Rattle.ckc_blame_pointers.specs.Meant.{IsNotStuck}
-use Rattle.ckc_blame_pointers.proofs.Claims.{Claims, weaker, holds_on}
+use Rattle.ckc_blame_pointers.proofs.Claims.{Claims, weaker, holds_on, nothing_read}
 use Rattle.ckc_blame_numbers.proofs.Known.{form_known}
 use Rattle.ckc_blame_pointers.proofs.Inside.{EveryNode, PartsEvery, parts_every, node_every, node_out, one_part, two_parts, three_parts, IsJudged, judged_is, operand_is}
 use Rattle.ckc_blame_pointers.proofs.Nodes.{node_fresh, NodeClaims}
@@ -71,7 +71,13 @@ use Rattle.ckc_blame_pointers.proofs.Loads.{integer_part, no_count}
 use Rattle.ckc_blame_slots.specs.Cells.{IsPart}
 use Rattle.ckc_blame_pointers.proofs.Addresses.{address_row, target_claims, index_claims}
 use Rattle.ckc_blame_pointers.proofs.Rows.{counted_pointer}
-use Rattle.ckc_blame_pointers.proofs.Arrows.{count_there, arrow_claims}
+use Rattle.ckc_blame_pointers.proofs.Arrows.{arrow_node}
+use Rattle.ckc_blame_pointers.proofs.Held.{held_claims}
+use Rattle.ckc_blame_pointers.proofs.Through.{target_structure, element_structure}
+use Rattle.ckc_blame_pointers.proofs.Reach.{IsStructurePlace}
+use Rattle.ckc_blame_pointers.proofs.Dots.{object_structure, dot_node, integer_held}
+use Rattle.ckc_blame_pointers.proofs.Scalars.{integer_scalar, moved_pointer, pointer_scalar, kind_scalar, through_scalar, no_structure, structure_pointer, true_if, target_scalar, index_scalar, binary_scalar, choice_scalar, cast_scalar, null_scalar}
+use Rattle.std.proofs.lemmas.Bool.{and_parts}
 use Rattle.ckc_blame_pointers.proofs.Members.{member_behind}
 use Rattle.ckc_blame_pointers.proofs.Single.{single_claims}
 use Rattle.ckc_blame_pointers.proofs.Statics.{static_claims}
@@ -85,7 +91,7 @@ module _ (globals : Globals) (s : Setting) (agrees : Agrees globals s) (declares
 
   record NodeHolds (n : NotedNode) : Type 0 where
     pub claims : (note : Note) (place : Pos) → IsRow globals s (out-Node Name Note n) note → EveryNode (HasRow globals s) n
-        → (here : Here) → EveryNode (IsCoveredExpr s store here.seen) n → IsCoveredNode s store here.seen note.ctype (out-Node Name Note n) → is_raw_kind (kind_of note.ctype) ≡ false
+        → (here : Here) → EveryNode (IsCoveredExpr s store here.seen) n → IsCoveredNode s store here.seen note.ctype (out-Node Name Note n) → is_raw_kind (kind_of note.ctype) ≡ false → is_scalar note.ctype ≡ true
         → (h : HoldsAt s store entry here) (fresh : ℕ) → fresh + length (node_fresh note.ctype (view_of_node s.frame n) here.at) < 2 ^ 32 → AreFresh s.frame fresh → (view_of_node s.frame n).judged note.ctype fresh here.at ≡ Ok n
         → (view_of_node s.frame n).fault place fresh here.at ≡ None
         → (is_pointer note.ctype ≡ true → note.range ≡ pointer_range note.ctype (view_of_node s.frame n) 0 fresh here.at)
@@ -97,13 +103,20 @@ module _ (globals : Globals) (s : Setting) (agrees : Agrees globals s) (declares
         → (r : CType) → is_pointer r ≡ true → kind_of r ≡ Some kind.Arr → element_of r ≡ note.ctype
         → (k : ℕ) → IsNotStuck (NodeClaims s store entry here h r (node_view s.frame (Node-F.Un op.Address (expr_view (record { node = view_of_node s.frame n; pos = place; note = note })))))
         (evaluated store ((part_of_node n).address note place s.text s.variables k))
+    -- the place of a structure
+    pub place : (note : Note) (place : Pos) → IsRow globals s (out-Node Name Note n) note → EveryNode (HasRow globals s) n
+        → (here : Here) → EveryNode (IsCoveredExpr s store here.seen) n → IsCoveredNode s store here.seen note.ctype (out-Node Name Note n) → IsStructureNode (out-Node Name Note n) → (tag : ℕ) → out-CType note.ctype ≡ CType-F.Struct tag
+        → (h : HoldsAt s store entry here) (fresh : ℕ) → fresh + length ((view_of_node s.frame n).fresh here.at) < 2 ^ 32 → AreFresh s.frame fresh → (view_of_node s.frame n).judged note.ctype fresh here.at ≡ Ok n
+        → (view_of_node s.frame n).fault place fresh here.at ≡ None → (k : ℕ) → IsStructurePlace store note.ctype ((part_of_node n).place note place s.text s.variables k)
 
   record ExprHolds (e : NotedExpr) : Type 0 where
-    pub claims : IsTyped globals s e → (here : Here) → IsCovered s store here.seen e → HoldsAt s store entry here → (fresh : ℕ) → fresh + length ((view s.frame e).fresh here.at) < 2 ^ 32 → AreFresh s.frame fresh → (view s.frame e).judged fresh here.at ≡ Ok e
+    pub claims : IsTyped globals s e → (here : Here) → AreCovered s store here.seen e → is_scalar e.note.ctype ≡ true → HoldsAt s store entry here → (fresh : ℕ) → fresh + length ((view s.frame e).fresh here.at) < 2 ^ 32 → AreFresh s.frame fresh → (view s.frame e).judged fresh here.at ≡ Ok e
         → (k : ℕ) → IsNotStuck (ExprClaims s store entry here e) (evaluated store ((part_of e).value s.text s.variables k))
-    pub address : IsTyped globals s e → (here : Here) → IsCovered s store here.seen e → IsAddressed (out-Node Name Note e.node) → (h : HoldsAt s store entry here) (fresh : ℕ) → fresh + length ((view s.frame e).fresh here.at) < 2 ^ 32 → AreFresh s.frame fresh
+    pub address : IsTyped globals s e → (here : Here) → AreCovered s store here.seen e → IsAddressed (out-Node Name Note e.node) → (h : HoldsAt s store entry here) (fresh : ℕ) → fresh + length ((view s.frame e).fresh here.at) < 2 ^ 32 → AreFresh s.frame fresh
         → (view s.frame e).operand fresh here.at ≡ Ok e → (r : CType) → is_pointer r ≡ true → kind_of r ≡ Some kind.Arr → element_of r ≡ e.note.ctype
         → (k : ℕ) → IsNotStuck (NodeClaims s store entry here h r (node_view s.frame (Node-F.Un op.Address (view s.frame e)))) (evaluated store ((part_of e).address s.text s.variables k))
+    pub place : IsTyped globals s e → (here : Here) → AreCovered s store here.seen e → IsStructureNode (out-Node Name Note e.node) → (tag : ℕ) → out-CType e.note.ctype ≡ CType-F.Struct tag → (h : HoldsAt s store entry here) (fresh : ℕ)
+        → fresh + length ((view s.frame e).fresh here.at) < 2 ^ 32 → AreFresh s.frame fresh → (view s.frame e).judged fresh here.at ≡ Ok e → (k : ℕ) → IsStructurePlace store e.note.ctype ((part_of e).place s.text s.variables k)
 
   abbrev KeptLimits : Type 0
   KeptLimits = (l : NotedLimits) × AnyLimitsHold l
@@ -168,7 +181,7 @@ module _ (globals : Globals) (s : Setting) (agrees : Agrees globals s) (declares
     abbrev Made : NotedLayer → Note → Pos → ℕ → Type 0
     Made x note place k = IsNotStuck (NodeClaims s store entry here h note.ctype (node_view s.frame (viewed_node x))) (evaluated store (node_value (part_node x) note place s.text s.variables k))
 
-    module _ (e f : KeptExpr) (typed : IsTyped globals s e.0 × IsTyped globals s f.0) (covered : IsCovered s store here.seen e.0 × IsCovered s store here.seen f.0) (fresh : ℕ)
+    module _ (e f : KeptExpr) (typed : IsTyped globals s e.0 × IsTyped globals s f.0) (covered : AreCovered s store here.seen e.0 × AreCovered s store here.seen f.0) (scalars : (is_scalar e.0.note.ctype ≡ true) × (is_scalar f.0.note.ctype ≡ true)) (fresh : ℕ)
         (little : fresh + length ((view s.frame e.0).fresh here.at) < 2 ^ 32) (are : AreFresh s.frame fresh) (k : ℕ) where
       abbrev v : Expr
       v = (part_of e.0).value s.text s.variables k
@@ -183,14 +196,14 @@ module _ (globals : Globals) (s : Setting) (agrees : Agrees globals s) (declares
       IsRight at = (view s.frame f.0).judged (fresh_behind (view s.frame e.0) fresh here.at) at ≡ Ok f.0
 
       left_claims : IsLeft → IsNotStuck (ExprClaims s store entry here e.0) (evaluated store v)
-      left_claims is = e.1.claims typed.0 here covered.0 h fresh little are is k
+      left_claims is = e.1.claims typed.0 here covered.0 scalars.0 h fresh little are is k
 
       -- where there is room for the fresh variables of the right operand
       abbrev HasRight : State → Type 0
       HasRight at = fresh_behind (view s.frame e.0) fresh here.at + length ((view s.frame f.0).fresh at) < 2 ^ 32
 
       right_claims : (at : State) → HasRight at → IsRight at → HoldsAt s store entry (record here { at = at }) → IsNotStuck (ExprClaims s store entry (record here { at = at }) f.0) (evaluated store w)
-      right_claims at room is holds = f.1.claims typed.1 (record here { at = at }) covered.1 holds (fresh_behind (view s.frame e.0) fresh here.at) room (are_on e.0 fresh little are) is (k + (part_of e.0).literals)
+      right_claims at room is holds = f.1.claims typed.1 (record here { at = at }) covered.1 scalars.1 holds (fresh_behind (view s.frame e.0) fresh here.at) room (are_on e.0 fresh little are) is (k + (part_of e.0).literals)
 
       binary_step : (o : TreeOp) (note : Note) (place : Pos) → IsRow globals s (Node-F.Bin o e.0 f.0) note → is_raw_kind (kind_of note.ctype) ≡ false → size_behind s.text.layout e.0.note.ctype < 2 ^ 32
           → IsLeft → HasRight (right_point o (view s.frame e.0) here.at) → IsRight (right_point o (view s.frame e.0) here.at)
@@ -213,16 +226,12 @@ module _ (globals : Globals) (s : Setting) (agrees : Agrees globals s) (declares
       binary_step o note place row checked sized left room right =
           other_claims s store entry here h s.text.layout e.0 f.0 note.ctype place v w (left_claims left) (is_null e.0) (is_null f.0) o refl refl row.row (right_claims here.at room right h)
 
-    covered_few : (e : NotedExpr) → IsCovered s store here.seen e → (view s.frame e).values + 1 < 2 ^ 32
+    covered_few : (e : NotedExpr) → AreCovered s store here.seen e → (view s.frame e).values + 1 < 2 ^ 32
     covered_few e c = (every_here-Expr Name Note AnyLimits AnyNode (IsCoveredExpr s store here.seen) e c).few
 
     some_if : (b : Bool) (t r : CType) → ◌≡◌ {A = Option CType} (if b then Some t else None) (Some r) → t ≡ r
     some_if true t r e = cc
     some_if false t r e = absurd (cc)
-
-    true_if : (b : Bool) (t r : CType) → ◌≡◌ {A = Option CType} (if b then Some t else None) (Some r) → b ≡ true
-    true_if true t r e = refl
-    true_if false t r e = absurd (cc)
 
     -- `*p` and `p[e]`
     read_claims : (n : NodeOfViews) (e : KeptExpr) → IsElement e.0 → (place : Pos) (index : Integer) (v w : Expr) (R : Value → Type 0) → IsNotStuck (ExprClaims s store entry here e.0) (evaluated store v)
@@ -258,22 +267,22 @@ module _ (globals : Globals) (s : Setting) (agrees : Agrees globals s) (declares
         widens (Some kind.Raw) is c = absurd (cc)
         widens None is c = absurd (cc)
 
-    covered_sized : (e : NotedExpr) → IsCovered s store here.seen e → size_behind s.text.layout e.note.ctype < 2 ^ 32
+    covered_sized : (e : NotedExpr) → AreCovered s store here.seen e → size_behind s.text.layout e.note.ctype < 2 ^ 32
     covered_sized e c = (every_here-Expr Name Note AnyLimits AnyNode (IsCoveredExpr s store here.seen) e c).sized
 
     node_step : (y : Node-F Name Note KeptLimits KeptNode KeptExpr) (note : Note) (place : Pos) → IsRow globals s (inner_node y) note → PartsEvery (HasRow globals s) (inner_node y)
-        → PartsEvery (IsCoveredExpr s store here.seen) (inner_node y) → IsCoveredNode s store here.seen note.ctype (inner_node y) → is_raw_kind (kind_of note.ctype) ≡ false
+        → PartsEvery (IsCoveredExpr s store here.seen) (inner_node y) → IsCoveredNode s store here.seen note.ctype (inner_node y) → is_raw_kind (kind_of note.ctype) ≡ false → is_scalar note.ctype ≡ true
         → (fresh : ℕ) → fresh + length (node_fresh note.ctype (node_view s.frame (viewed_node (inner_node y))) here.at) < 2 ^ 32 → AreFresh s.frame fresh → fault_of_node s.frame (viewed_node (inner_node y)) place fresh here.at ≡ None → node_judged s.frame (viewed_node (inner_node y)) note.ctype fresh here.at ≡ Ok (node_of (inner_node y))
         → (is_pointer note.ctype ≡ true → note.range ≡ pointer_range note.ctype (node_view s.frame (viewed_node (inner_node y))) 0 fresh here.at)
         → (k : ℕ) → Made (inner_node y) note place k
-    node_step (Node-F.Number n uns) note place row typed covered node checked fresh little are fault judged noted k =
+    node_step (Node-F.Number n uns) note place row typed covered node checked scalar fresh little are fault judged noted k =
         let wide : IsWide note.ctype uns = subst (λ t. IsWide t uns) (sym row.row) (number_wide uns) in
         number_claims s store entry here h n uns note.ctype wide.integer wide.wide row.word
-    node_step (Node-F.Size w) note place row typed covered node checked fresh little are fault judged noted k =
+    node_step (Node-F.Size w) note place row typed covered node checked scalar fresh little are fault judged noted k =
         let wide : IsWide note.ctype true = size_wide (type_written w) note.ctype row.row in
         size_claims s store entry here h w (size_of s.text.layout (type_written w)) note.ctype wide.integer wide.wide (subst (λ structs. size_of structs (type_written w) < 2 ^ 32) agrees.structs row.word)
-    node_step Node-F.Null note place row typed covered node checked fresh little are fault judged noted k = null_claims s store entry here h note.ctype
-    node_step (Node-F.Name (name.Local j)) note place row typed covered node checked fresh little are fault judged noted k =
+    node_step Node-F.Null note place row typed covered node checked scalar fresh little are fault judged noted k = null_claims s store entry here h note.ctype
+    node_step (Node-F.Name (name.Local j)) note place row typed covered node checked scalar fresh little are fault judged noted k =
         subst (λ t. IsNotStuck (NodeClaims s store entry here h t (node_view s.frame (Node-F.Name (name.Local j)))) (evaluated store (local_in s.text s.variables t j note.range))) same
         (local_claims s store entry here h globals agrees declares j node note.range (λ i. row.bare (subst (λ t. is_integer t ≡ true) same i)) (λ p. noted_is (subst (λ t. is_pointer t ≡ true) same p)))
       where
@@ -282,39 +291,43 @@ module _ (globals : Globals) (s : Setting) (agrees : Agrees globals s) (declares
 
         noted_is : is_pointer note.ctype ≡ true → note.range ≡ range_of_local s.frame j here.at.widened
         noted_is p = noted p ∙ ap (λ b. if b then range_of_local s.frame j here.at.widened else range.Missing) p
-    node_step (Node-F.Name (name.Static j)) note place row typed covered node checked fresh little are fault judged noted k =
-        ⊎_elim (λ c. static_claims s store entry next ready here h note.ctype j c place) (λ c. ⊎_elim (λ c. array_claims s store entry next ready here h note.ctype j c place) (λ c. pointer_claims s store entry next ready here h note.ctype j c place) c) node
-    node_step (Node-F.Un op.Minus e) note place row typed covered node checked fresh little are fault judged noted k =
+    node_step (Node-F.Name (name.Static j)) note place row typed covered node checked scalar fresh little are fault judged noted k =
+        ⊎_elim (λ c. static_claims s store entry next ready here h note.ctype j c place) (λ c. ⊎_elim (λ c. array_claims s store entry next ready here h note.ctype j c place)
+        (λ c. ⊎_elim (λ c. pointer_claims s store entry next ready here h note.ctype j c place) (λ (c : IsStaticStructure s note.ctype j). absurd (no_structure note.ctype scalar c.tag c.struct)) c) c) node
+    node_step (Node-F.Un op.Minus e) note place row typed covered node checked scalar fresh little are fault judged noted k =
         minus_claims s store entry here h e.0 note.ctype place ((part_of e.0).value s.text s.variables k)
-        (e.1.claims typed here covered h fresh little are (one_part (λ a. Node-F.Un op.Minus a) (λ a b e. cc) _ e.0 judged) k) row.row
-    node_step (Node-F.Un op.Plus e) note place row typed covered node checked fresh little are fault judged noted k =
+        (e.1.claims typed here covered (integer_scalar e.0.note.ctype (sign_row e.0.note.ctype note.ctype row.row).0) h fresh little are (one_part (λ a. Node-F.Un op.Minus a) (λ a b e. cc) _ e.0 judged) k) row.row
+    node_step (Node-F.Un op.Plus e) note place row typed covered node checked scalar fresh little are fault judged noted k =
         plus_claims s store entry here h e.0 note.ctype place ((part_of e.0).value s.text s.variables k)
-        (e.1.claims typed here covered h fresh little are (one_part (λ a. Node-F.Un op.Plus a) (λ a b e. cc) _ e.0 judged) k) row.row
-    node_step (Node-F.Un op.Flip e) note place row typed covered node checked fresh little are fault judged noted k =
+        (e.1.claims typed here covered (integer_scalar e.0.note.ctype (sign_row e.0.note.ctype note.ctype row.row).0) h fresh little are (one_part (λ a. Node-F.Un op.Plus a) (λ a b e. cc) _ e.0 judged) k) row.row
+    node_step (Node-F.Un op.Flip e) note place row typed covered node checked scalar fresh little are fault judged noted k =
         flip_claims s store entry here h e.0 note.ctype place ((part_of e.0).value s.text s.variables k)
-        (e.1.claims typed here covered h fresh little are (one_part (λ a. Node-F.Un op.Flip a) (λ a b e. cc) _ e.0 judged) k) row.row
-    node_step (Node-F.Un op.Not e) note place row typed covered node checked fresh little are fault judged noted k =
+        (e.1.claims typed here covered (integer_scalar e.0.note.ctype (sign_row e.0.note.ctype note.ctype row.row).0) h fresh little are (one_part (λ a. Node-F.Un op.Flip a) (λ a b e. cc) _ e.0 judged) k) row.row
+    node_step (Node-F.Un op.Not e) note place row typed covered node checked scalar fresh little are fault judged noted k =
         not_claims s store entry here h e.0 note.ctype place ((part_of e.0).value s.text s.variables k)
-        (e.1.claims typed here covered h fresh little are (one_part (λ a. Node-F.Un op.Not a) (λ a b e. cc) _ e.0 judged) k) row.row
-    node_step (Node-F.Bin o e f) note place row typed covered node checked fresh little are fault judged noted k =
+        (e.1.claims typed here covered (true_if (is_scalar e.0.note.ctype) ctype.Int note.ctype row.row) h fresh little are (one_part (λ a. Node-F.Un op.Not a) (λ a b e. cc) _ e.0 judged) k) row.row
+    node_step (Node-F.Bin o e f) note place row typed covered node checked scalar fresh little are fault judged noted k =
         let parts = two_parts (λ a b. Node-F.Bin o a b) (λ a b c d e. (cc, cc)) _ _ e.0 f.0 judged in
         subst (λ t. Of t (part_of f.0).ctype) (sym (parted_type e.0)) (subst (λ u. Of e.0.note.ctype u) (sym (parted_type f.0))
-        (binary_step e f typed covered fresh (left_room fresh ((view s.frame e.0).fresh here.at) _ little) are k o note place row checked (covered_sized e.0 covered.0) parts.0
+        (binary_step e f typed covered (binary_scalar e.0.note.ctype f.0.note.ctype note.ctype o (is_null e.0) (is_null f.0) (null_scalar globals s e.0 typed.0) (null_scalar globals s f.0 typed.1) row.row) fresh (left_room fresh ((view s.frame e.0).fresh here.at) _ little) are k o note place row checked (covered_sized e.0 covered.0) parts.0
         (subst (λ us. fresh_behind (view s.frame e.0) fresh here.at + length us < 2 ^ 32) (right_fresh_is s.frame o (view s.frame e.0) f.0 here.at) (right_room fresh ((view s.frame e.0).fresh here.at) _ little)) parts.1))
       where
         Of : CType → CType → Type 0
         Of t u = IsNotStuck (NodeClaims s store entry here h note.ctype (node_view s.frame (Node-F.Bin o (view s.frame e.0) (view s.frame f.0))))
             (evaluated store (of_operands s.text.layout o t u place ((part_of e.0).value s.text s.variables k) ((part_of f.0).value s.text s.variables (k + (part_of e.0).literals))))
-    node_step (Node-F.Pick e f g) note place row typed covered node checked fresh little are fault judged noted k =
+    node_step (Node-F.Pick e f g) note place row typed covered node checked scalar fresh little are fault judged noted k =
         choice_claims s store entry here h e.0 f.0 g.0 note.ctype ((part_of e.0).value s.text s.variables k) ((part_of f.0).value s.text s.variables (k + (part_of e.0).literals))
-        ((part_of g.0).value s.text s.variables (k + (part_of e.0).literals + (part_of f.0).literals)) (e.1.claims typed.0 here covered.0 h fresh first are parts.0 k)
-        (f.1.claims typed.1 here covered.1 h (fresh_behind (view s.frame e.0) fresh here.at) second (are_on e.0 fresh first are) parts.1 (k + (part_of e.0).literals))
-        (g.1.claims typed.2 here covered.2 h (fresh_behind (view s.frame f.0) (fresh_behind (view s.frame e.0) fresh here.at) here.at) third (are_on f.0 _ second (are_on e.0 fresh first are)) parts.2
+        ((part_of g.0).value s.text s.variables (k + (part_of e.0).literals + (part_of f.0).literals)) (e.1.claims typed.0 here covered.0 scalars.0 h fresh first are parts.0 k)
+        (f.1.claims typed.1 here covered.1 scalars.1 h (fresh_behind (view s.frame e.0) fresh here.at) second (are_on e.0 fresh first are) parts.1 (k + (part_of e.0).literals))
+        (g.1.claims typed.2 here covered.2 scalars.2 h (fresh_behind (view s.frame f.0) (fresh_behind (view s.frame e.0) fresh here.at) here.at) third (are_on f.0 _ second (are_on e.0 fresh first are)) parts.2
         (k + (part_of e.0).literals + (part_of f.0).literals)) row.row
       where
         parts : ((view s.frame e.0).judged fresh here.at ≡ Ok e.0) × ((view s.frame f.0).judged (fresh_behind (view s.frame e.0) fresh here.at) here.at ≡ Ok f.0)
             × ((view s.frame g.0).judged (fresh_behind (view s.frame f.0) (fresh_behind (view s.frame e.0) fresh here.at) here.at) here.at ≡ Ok g.0)
         parts = three_parts _ _ _ e.0 f.0 g.0 judged
+
+        scalars : (is_scalar e.0.note.ctype ≡ true) × (is_scalar f.0.note.ctype ≡ true) × (is_scalar g.0.note.ctype ≡ true)
+        scalars = choice_scalar e.0.note.ctype f.0.note.ctype g.0.note.ctype note.ctype row.row
 
         both : fresh + length ((view s.frame e.0).fresh here.at ++ (view s.frame f.0).fresh here.at) < 2 ^ 32
         both = left_room fresh ((view s.frame e.0).fresh here.at ++ (view s.frame f.0).fresh here.at) ((view s.frame g.0).fresh here.at) little
@@ -328,11 +341,11 @@ module _ (globals : Globals) (s : Setting) (agrees : Agrees globals s) (declares
         third : fresh_behind (view s.frame f.0) (fresh_behind (view s.frame e.0) fresh here.at) here.at + length ((view s.frame g.0).fresh here.at) < 2 ^ 32
         third = subst (λ n. n + length ((view s.frame g.0).fresh here.at) < 2 ^ 32) (sym (next_both fresh ((view s.frame e.0).fresh here.at) ((view s.frame f.0).fresh here.at) both))
             (right_room fresh ((view s.frame e.0).fresh here.at ++ (view s.frame f.0).fresh here.at) ((view s.frame g.0).fresh here.at) little)
-    node_step (Node-F.Cast w e) note place row typed covered node checked fresh little are fault judged noted k =
+    node_step (Node-F.Cast w e) note place row typed covered node checked scalar fresh little are fault judged noted k =
         cast_claims s store entry here h e.0 note.ctype place ((part_of e.0).value s.text s.variables k)
-        (e.1.claims typed here covered h fresh little are (one_part (λ a. Node-F.Cast w a) (λ a b e. cc) _ e.0 judged) k) w (type_written w) (part_of e.0).ctype (is_null e.0) row.row.1 checked row.row.0
-    node_step (Node-F.Un op.Deref e) note place row typed covered node checked fresh little are fault judged noted k =
-        subst (λ t. Of t (part_of e.0).ctype) is (subst (λ u. Of (element_of e.0.note.ctype) u) (sym (parted_type e.0)) (⊎_elim several single node))
+        (e.1.claims typed here covered (cast_scalar (type_written w) e.0.note.ctype (is_null e.0) (null_scalar globals s e.0 typed) row.row.0) h fresh little are (one_part (λ a. Node-F.Cast w a) (λ a b e. cc) _ e.0 judged) k) w (type_written w) (part_of e.0).ctype (is_null e.0) row.row.1 checked row.row.0
+    node_step (Node-F.Un op.Deref e) note place row typed covered node checked scalar fresh little are fault judged noted k =
+        subst (λ t. Of t (part_of e.0).ctype) is (subst (λ u. Of (element_of e.0.note.ctype) u) (sym (parted_type e.0)) (⊎_elim several (⊎_elim single structure) node))
       where
         is : element_of e.0.note.ctype ≡ note.ctype
         is = some_if (is_pointer e.0.note.ctype && not (is_void (element_of e.0.note.ctype))) (element_of e.0.note.ctype) note.ctype row.row
@@ -342,7 +355,10 @@ module _ (globals : Globals) (s : Setting) (agrees : Agrees globals s) (declares
             (evaluated store (read_at s.text.layout t (count_of_kind (kind_of t)) (target_place s.text.layout u place ((part_of e.0).value s.text s.variables k))))
 
         inside : IsNotStuck (ExprClaims s store entry here e.0) (evaluated store ((part_of e.0).value s.text s.variables k))
-        inside = e.1.claims typed here covered h fresh little are (one_part (λ a. Node-F.Un op.Deref a) (λ a b e. cc) _ e.0 judged) k
+        inside = e.1.claims typed here covered (target_scalar e.0 note.ctype row.row) h fresh little are (one_part (λ a. Node-F.Un op.Deref a) (λ a b e. cc) _ e.0 judged) k
+
+        structure : IsStructureTarget s e.0 → Of (element_of e.0.note.ctype) e.0.note.ctype
+        structure node = absurd (no_structure (element_of e.0.note.ctype) (ap is_scalar is ∙ scalar) node.tag node.struct)
 
         single : IsSingle s e.0 → Of (element_of e.0.note.ctype) e.0.note.ctype
         single node =
@@ -357,23 +373,26 @@ module _ (globals : Globals) (s : Setting) (agrees : Agrees globals s) (declares
             read_claims (Node-F.Un op.Deref (view s.frame e.0)) e node place Int ((part_of e.0).value s.text s.variables k) (Number 0) (λ x. Unit {0})
             inside tt (covered_few e.0 covered) fresh little are fault
             refl refl (λ b. refl) (ap kind_of (viewed_type e.0)) (λ x c j there a at f target. target_aims s store entry next ready here h e.0 fresh (covered_few e.0 covered) little are x c j there a at f target)
-    node_step (Node-F.Un op.Address e) note place row typed covered node checked fresh little are fault judged noted k =
+    node_step (Node-F.Un op.Address e) note place row typed covered node checked scalar fresh little are fault judged noted k =
         let t = address_row row.mode e.0.note.ctype note.ctype (some_if (has_address globals e.0) (ctype.Pointer (address_kind row.mode) e.0.note.ctype) note.ctype row.row) checked in
         e.1.address typed here covered node h fresh little are (one_part (λ a. Node-F.Un op.Address a) (λ a b e. cc) _ e.0 judged) note.ctype t.0 t.1 t.2 k
-    node_step (Node-F.Index e f) note place row typed covered node checked fresh little are fault judged noted k =
+    node_step (Node-F.Index e f) note place row typed covered node checked scalar fresh little are fault judged noted k =
         let parts = two_parts (λ a b. Node-F.Index a b) (λ a b c d e. (cc, cc)) _ _ e.0 f.0 judged in
         subst (λ t. Of t (part_of e.0).ctype (part_of f.0).ctype) is (subst (λ u. Of (element_of e.0.note.ctype) u (part_of f.0).ctype) (sym (parted_type e.0)) (subst (λ q. Of (element_of e.0.note.ctype) e.0.note.ctype q) (sym (parted_type f.0))
-        (read_claims (Node-F.Index (view s.frame e.0) (view s.frame f.0)) e node place (integer_of f.0.note.ctype) ((part_of e.0).value s.text s.variables k)
+        (⊎_elim (λ node. read_claims (Node-F.Index (view s.frame e.0) (view s.frame f.0)) e node place (integer_of f.0.note.ctype) ((part_of e.0).value s.text s.variables k)
         ((part_of f.0).value s.text s.variables (k + (part_of e.0).literals)) (ExprClaims s store entry here f.0)
-        (e.1.claims typed.0 here covered.0 h fresh first are parts.0 k)
-        (f.1.claims typed.1 here covered.1 h (fresh_behind (view s.frame e.0) fresh here.at) (right_room fresh ((view s.frame e.0).fresh here.at) ((view s.frame f.0).fresh here.at) little) (are_on e.0 fresh first are) parts.1 (k + (part_of e.0).literals))
+        (e.1.claims typed.0 here covered.0 scalars.0 h fresh first are parts.0 k)
+        (f.1.claims typed.1 here covered.1 scalars.1 h (fresh_behind (view s.frame e.0) fresh here.at) (right_room fresh ((view s.frame e.0).fresh here.at) ((view s.frame f.0).fresh here.at) little) (are_on e.0 fresh first are) parts.1 (k + (part_of e.0).literals))
         (covered_few e.0 covered.0) fresh first are fault refl refl (λ b. refl) (ap kind_of (viewed_type e.0))
         (λ x c j there a at g target. element_aims s store entry next ready here h e.0 fresh (covered_few e.0 covered.0) first are x c (exact (integer_of f.0.note.ctype) j.number) (view s.frame f.0).form
         (index_of here h f.0 typed.1 (k + (part_of e.0).literals) j there) a at (is_raw_kind (kind_of (view s.frame e.0).ctype))
-        (ap is_raw_kind (ap kind_of (viewed_type e.0)) ∙ (every_here-Expr Name Note AnyLimits AnyNode (IsCoveredExpr s store here.seen) e.0 covered.0).checked) g target))))
+        (ap is_raw_kind (ap kind_of (viewed_type e.0)) ∙ (every_here-Expr Name Note AnyLimits AnyNode (IsCoveredExpr s store here.seen) e.0 covered.0).checked) g target)) structure node)))
       where
         first : fresh + length ((view s.frame e.0).fresh here.at) < 2 ^ 32
         first = left_room fresh ((view s.frame e.0).fresh here.at) ((view s.frame f.0).fresh here.at) little
+
+        scalars : (is_scalar e.0.note.ctype ≡ true) × (is_scalar f.0.note.ctype ≡ true)
+        scalars = index_scalar e.0.note.ctype f.0.note.ctype note.ctype row.row
 
         is : element_of e.0.note.ctype ≡ note.ctype
         is = some_if (is_moved e.0.note.ctype && is_integer f.0.note.ctype) (element_of e.0.note.ctype) note.ctype row.row
@@ -382,7 +401,10 @@ module _ (globals : Globals) (s : Setting) (agrees : Agrees globals s) (declares
         Of t u q = IsNotStuck (NodeClaims s store entry here h t (node_view s.frame (Node-F.Index (view s.frame e.0) (view s.frame f.0))))
             (evaluated store (read_at s.text.layout t (count_of_kind (kind_of t))
             (element_place s.text.layout u place (integer_of q) ((part_of e.0).value s.text s.variables k) ((part_of f.0).value s.text s.variables (k + (part_of e.0).literals)))))
-    node_step (Node-F.Arrow e n spot) note place row typed covered node checked fresh little are fault judged noted k =
+
+        structure : IsStructureElement e.0 → Of (element_of e.0.note.ctype) e.0.note.ctype f.0.note.ctype
+        structure node = absurd (no_structure (element_of e.0.note.ctype) (ap is_scalar is ∙ scalar) node.tag node.struct)
+    node_step (Node-F.Arrow e n spot) note place row typed covered node checked scalar fresh little are fault judged noted k =
         subst Of (sym (parted_type e.0)) (⊎_elim number address node)
       where
         made : NodeView
@@ -404,8 +426,12 @@ module _ (globals : Globals) (s : Setting) (agrees : Agrees globals s) (declares
         Read : Type 0
         Read = IsNotStuck (NodeClaims s store entry here h note.ctype made) (evaluated store (read_at s.text.layout note.ctype None (member_place s.text.layout tag n (target_place s.text.layout e.0.note.ctype place v))))
 
+        pointer : is_scalar e.0.note.ctype ≡ true
+        pointer = ⊎_elim (λ (n : IsArrow s e.0 n note.ctype). ⊎_elim (λ c. pointer_scalar e.0.note.ctype (counted_pointer e.0.note.ctype c)) (λ one. kind_scalar e.0.note.ctype kind.One one.0) n.through)
+            (λ (n : IsPointerArrow s store e.0 n note.ctype). through_scalar s e.0.note.ctype n.through) node
+
         inside : IsNotStuck (ExprClaims s store entry here e.0) (evaluated store v)
-        inside = e.1.claims typed here covered h fresh inner are (one_part (λ a. Node-F.Arrow a n spot) (λ a b e. cc) _ e.0 judged) k
+        inside = e.1.claims typed here covered pointer h fresh inner are (one_part (λ a. Node-F.Arrow a n spot) (λ a b e. cc) _ e.0 judged) k
 
         ranged : is_counted_kind (kind_of e.0.note.ctype) ≡ true → (x : Value) → ExprClaims s store entry here e.0 x → IsRanged s store entry next ready here h e.0 fresh (covered_few e.0 covered) inner are x
         ranged counted = ranged_pointer s store entry next ready here h e.0 fresh (covered_few e.0 covered) inner are place (ap is_counted_kind (ap kind_of (viewed_type e.0)) ∙ counted) fault
@@ -425,16 +451,81 @@ module _ (globals : Globals) (s : Setting) (agrees : Agrees globals s) (declares
 
         address : IsPointerArrow s store e.0 n note.ctype → Of e.0.note.ctype
         address node =
-            subst (λ x. IsNotStuck (NodeClaims s store entry here h note.ctype made) (evaluated store x))
-            (sym (ap (λ o. read_at s.text.layout note.ctype o (member_place s.text.layout tag n (target_place s.text.layout e.0.note.ctype place v)))
-            (count_there s store entry next ready here h e.0 n spot note.ctype node (viewed_type e.0) fresh (covered_few e.0 covered) inner are place v inside ranged)))
-            (arrow_claims s store entry next ready here h e.0 n spot note.ctype node (viewed_type e.0) fresh (covered_few e.0 covered) inner are place v inside ranged)
+            held_claims s store entry next ready here h (element_of e.0.note.ctype) note.ctype n node.member checked made (arrow_node s store here e.0 n spot note.ctype node.member (viewed_type e.0)) (target_place s.text.layout e.0.note.ctype place v)
+            (target_structure s store entry next ready here h e.0 node.member.tag node.member.struct fresh (covered_few e.0 covered) inner are v inside ranged node.through place)
 
         number : IsArrow s e.0 n note.ctype → Of e.0.note.ctype
         number node =
             subst (λ x. IsNotStuck (NodeClaims s store entry here h note.ctype made) (evaluated store x))
             (sym (ap (λ o. read_at s.text.layout note.ctype o (member_place s.text.layout tag n (target_place s.text.layout e.0.note.ctype place v))) node.member.bare)) (⊎_elim (several node) (single node) node.through)
-    node_step y note place row typed covered node checked fresh little are fault judged noted k = absurd node
+    node_step (Node-F.Dot e n spot) note place row typed covered node checked scalar fresh little are fault judged noted k =
+        subst Of (sym (parted_type e.0)) (⊎_elim
+        (λ member. integer_held s store entry next ready here h e.0.note.ctype note.ctype n member made refl refl refl (λ b. nothing_read s store entry (λ facts. None) b here.at) ((part_of e.0).place s.text s.variables k) there)
+        (λ member. held_claims s store entry next ready here h e.0.note.ctype note.ctype n member checked made (dot_node s store here e.0 n spot note.ctype member (viewed_type e.0)) ((part_of e.0).place s.text s.variables k) there) node.member)
+      where
+        made : NodeView
+        made = node_view s.frame (Node-F.Dot (view s.frame e.0) n spot)
+
+        Of : CType → Type 0
+        Of u = IsNotStuck (NodeClaims s store entry here h note.ctype made)
+            (evaluated store (read_at s.text.layout note.ctype (count_of_member s.text.layout (tag_of u) n) (member_place s.text.layout (tag_of u) n ((part_of e.0).place s.text s.variables k))))
+
+        there : IsStructurePlace store e.0.note.ctype ((part_of e.0).place s.text s.variables k)
+        there =
+            e.1.place typed here covered node.operand node.tag node.struct h fresh (parts_room fresh ((view s.frame e.0).fresh here.at) (own_fresh note.ctype made here.at.facts) little) are
+            (one_part (λ a. Node-F.Dot a n spot) (λ a b e. cc) _ e.0 judged) k
+    node_step y note place row typed covered node checked scalar fresh little are fault judged noted k = absurd node
+
+    -- ---- the place of a structure
+
+    place_step : (y : Node-F Name Note KeptLimits KeptNode KeptExpr) (note : Note) (place : Pos) → IsRow globals s (inner_node y) note → PartsEvery (HasRow globals s) (inner_node y)
+        → PartsEvery (IsCoveredExpr s store here.seen) (inner_node y) → IsCoveredNode s store here.seen note.ctype (inner_node y) → IsStructureNode (inner_node y) → (tag : ℕ) → out-CType note.ctype ≡ CType-F.Struct tag
+        → (fresh : ℕ) → fresh + length ((node_view s.frame (viewed_node (inner_node y))).fresh here.at) < 2 ^ 32 → AreFresh s.frame fresh → node_judged s.frame (viewed_node (inner_node y)) note.ctype fresh here.at ≡ Ok (node_of (inner_node y))
+        → fault_of_node s.frame (viewed_node (inner_node y)) place fresh here.at ≡ None → (k : ℕ) → IsStructurePlace store note.ctype (node_place (part_node (inner_node y)) note place s.text s.variables k)
+    place_step (Node-F.Name (name.Static j)) note place row typed covered node structure tag struct fresh little are judged fault k =
+        ⊎_elim (λ (c : IsStaticInteger s note.ctype j). absurd (no_structure note.ctype (integer_scalar note.ctype c.integer) tag struct))
+        (λ c. ⊎_elim (λ (c : IsStaticArray s note.ctype j). absurd (no_structure note.ctype (pointer_scalar note.ctype c.pointer) tag struct))
+        (λ c. ⊎_elim (λ (c : IsStaticPointer s store note.ctype j). absurd (no_structure note.ctype (pointer_scalar note.ctype c.pointer) tag struct))
+        (λ c. object_structure s store next ready note.ctype j c place) c) c) node
+    place_step (Node-F.Un op.Deref e) note place row typed covered node structure tag struct fresh little are judged fault k =
+        subst (λ u. IsStructurePlace store u (target_place s.text.layout (part_of e.0).ctype place v)) is
+        (subst (λ t. IsStructurePlace store (element_of e.0.note.ctype) (target_place s.text.layout t place v)) (sym (parted_type e.0))
+        (⊎_elim (λ (n : IsElement e.0). none n.integer) (λ c. ⊎_elim (λ (n : IsSingle s e.0). none n.integer) (λ (n : IsStructureTarget s e.0).
+        target_structure s store entry next ready here h e.0 n.tag n.struct fresh (covered_few e.0 covered) little are v
+        (e.1.claims typed here covered (target_scalar e.0 note.ctype row.row) h fresh little are (one_part (λ a. Node-F.Un op.Deref a) (λ a b e. cc) _ e.0 judged) k)
+        (λ counted. ranged_pointer s store entry next ready here h e.0 fresh (covered_few e.0 covered) little are place (ap is_counted_kind (ap kind_of (viewed_type e.0)) ∙ counted) fault) n.through place) c) node))
+      where
+        v : Expr
+        v = (part_of e.0).value s.text s.variables k
+
+        is : element_of e.0.note.ctype ≡ note.ctype
+        is = some_if (is_pointer e.0.note.ctype && not (is_void (element_of e.0.note.ctype))) (element_of e.0.note.ctype) note.ctype row.row
+
+        none : is_integer (element_of e.0.note.ctype) ≡ true → IsStructurePlace store (element_of e.0.note.ctype) (target_place s.text.layout e.0.note.ctype place v)
+        none i = absurd (no_structure note.ctype (integer_scalar note.ctype (ap is_integer (sym is) ∙ i)) tag struct)
+    place_step (Node-F.Index e f) note place row typed covered node structure tag struct fresh little are judged fault k =
+        let parts = two_parts (λ a b. Node-F.Index a b) (λ a b c d e. (cc, cc)) _ _ e.0 f.0 judged in
+        subst (λ u. IsStructurePlace store u (element_place s.text.layout (part_of e.0).ctype place (integer_of (part_of f.0).ctype) v w)) is
+        (subst (λ t. IsStructurePlace store (element_of e.0.note.ctype) (element_place s.text.layout t place (integer_of (part_of f.0).ctype) v w)) (sym (parted_type e.0))
+        (⊎_elim (λ (n : IsElement e.0). absurd (no_structure note.ctype (integer_scalar note.ctype (ap is_integer (sym is) ∙ n.integer)) tag struct)) (λ (n : IsStructureElement e.0).
+        element_structure s store entry next ready here h e.0 n.tag n.struct fresh (covered_few e.0 covered.0) first are v
+        (left_claims e f typed covered (index_scalar e.0.note.ctype f.0.note.ctype note.ctype row.row) fresh first are k parts.0)
+        (λ counted. ranged_pointer s store entry next ready here h e.0 fresh (covered_few e.0 covered.0) first are place (ap is_counted_kind (ap kind_of (viewed_type e.0)) ∙ counted) fault) n.array place
+        (integer_of (part_of f.0).ctype) w (ExprClaims s store entry here f.0)
+        (right_claims e f typed covered (index_scalar e.0.note.ctype f.0.note.ctype note.ctype row.row) fresh first are k here.at (right_room fresh ((view s.frame e.0).fresh here.at) ((view s.frame f.0).fresh here.at) little) parts.1 h)) node))
+      where
+        first : fresh + length ((view s.frame e.0).fresh here.at) < 2 ^ 32
+        first = left_room fresh ((view s.frame e.0).fresh here.at) ((view s.frame f.0).fresh here.at) little
+
+        v : Expr
+        v = (part_of e.0).value s.text s.variables k
+
+        w : Expr
+        w = (part_of f.0).value s.text s.variables (k + (part_of e.0).literals)
+
+        is : element_of e.0.note.ctype ≡ note.ctype
+        is = some_if (is_moved e.0.note.ctype && is_integer f.0.note.ctype) (element_of e.0.note.ctype) note.ctype row.row
+    place_step y note place row typed covered node structure tag struct fresh little are judged fault k = absurd structure
 
     -- ---- the address of a place
 
@@ -445,24 +536,26 @@ module _ (globals : Globals) (s : Setting) (agrees : Agrees globals s) (declares
         → (k : ℕ) → IsNotStuck (NodeClaims s store entry here h r (node_view s.frame (Node-F.Un op.Address (expr_view (record { node = node_view s.frame (viewed_node (inner_node y)); pos = place; note = note })))))
         (evaluated store (node_address (part_node (inner_node y)) note place s.text s.variables k))
     address_step (Node-F.Un op.Deref e) note place row typed covered node addressed fresh little are judged r pointer array element k =
-        weaker (evaluated store ((part_of e.0).value s.text s.variables k)) (e.1.claims typed here covered h fresh little are (one_part (λ a. Node-F.Un op.Deref a) (λ a b e. cc) _ e.0 judged) k)
+        weaker (evaluated store ((part_of e.0).value s.text s.variables k)) (e.1.claims typed here covered (target_scalar e.0 note.ctype row.row) h fresh little are (one_part (λ a. Node-F.Un op.Deref a) (λ a b e. cc) _ e.0 judged) k)
         (λ x there c. target_claims s store entry here h e.0 note place bare r pointer array (element ∙ sym is) x c)
       where
         is : element_of e.0.note.ctype ≡ note.ctype
         is = some_if (is_pointer e.0.note.ctype && not (is_void (element_of e.0.note.ctype))) (element_of e.0.note.ctype) note.ctype row.row
 
         bare : is_pointer note.ctype ≡ false
-        bare = no_pointer note.ctype (subst (λ t. is_integer t ≡ true) is (⊎_elim (λ (n : IsElement e.0). n.integer) (λ (n : IsSingle s e.0). n.integer) node))
+        bare = subst (λ t. is_pointer t ≡ false) is
+            (⊎_elim (λ (n : IsElement e.0). no_pointer (element_of e.0.note.ctype) n.integer) (λ c. ⊎_elim (λ (n : IsSingle s e.0). no_pointer (element_of e.0.note.ctype) n.integer)
+            (λ (n : IsStructureTarget s e.0). structure_pointer (element_of e.0.note.ctype) n.tag n.struct) c) node)
     address_step (Node-F.Index e f) note place row typed covered node addressed fresh little are judged r pointer array element k =
         let parts = two_parts (λ a b. Node-F.Index a b) (λ a b c d e. (cc, cc)) _ _ e.0 f.0 judged in
         let small = covered_sized e.0 covered.0 in
         subst (λ t. Of t (part_of f.0).ctype) (sym (parted_type e.0)) (subst (λ u. Of e.0.note.ctype u) (sym (parted_type f.0))
         (weaker (evaluated store (of_operands s.text.layout op.Add e.0.note.ctype f.0.note.ctype place v w))
-        (sum_claims s store entry here h e.0 f.0 e.0.note.ctype place v w (left_claims e f typed covered fresh first are k parts.0)
-        (right_claims e f typed covered fresh first are k here.at (right_room fresh ((view s.frame e.0).fresh here.at) ((view s.frame f.0).fresh here.at) little) parts.1 h) (viewed_type e.0)
+        (sum_claims s store entry here h e.0 f.0 e.0.note.ctype place v w (left_claims e f typed covered scalars fresh first are k parts.0)
+        (right_claims e f typed covered scalars fresh first are k here.at (right_room fresh ((view s.frame e.0).fresh here.at) ((view s.frame f.0).fresh here.at) little) parts.1 h) (viewed_type e.0)
         (λ x is. index_of here h e.0 typed.0 k x is) (λ x is. index_of here h f.0 typed.1 (k + (part_of e.0).literals) x is) checked
         (ap (λ b. if b then Some e.0.note.ctype else (if is_integer e.0.note.ctype && is_moved f.0.note.ctype then Some f.0.note.ctype else arithmetic_type e.0.note.ctype f.0.note.ctype)) moved))
-        (λ x there c. index_claims s store entry here h e.0 note place bare r pointer array (element ∙ sym is) f.0 (counted_pointer e.0.note.ctype node.counted) checked (viewed_type e.0) x c)))
+        (λ x there c. index_claims s store entry here h e.0 note place bare r pointer array (element ∙ sym is) f.0 (moved_pointer e.0.note.ctype (and_parts (is_moved e.0.note.ctype) (is_integer f.0.note.ctype) moved).0) checked (viewed_type e.0) x c)))
       where
         first : fresh + length ((view s.frame e.0).fresh here.at) < 2 ^ 32
         first = left_room fresh ((view s.frame e.0).fresh here.at) ((view s.frame f.0).fresh here.at) little
@@ -486,15 +579,19 @@ module _ (globals : Globals) (s : Setting) (agrees : Agrees globals s) (declares
         is : element_of e.0.note.ctype ≡ note.ctype
         is = some_if (is_moved e.0.note.ctype && is_integer f.0.note.ctype) (element_of e.0.note.ctype) note.ctype row.row
 
+        scalars : (is_scalar e.0.note.ctype ≡ true) × (is_scalar f.0.note.ctype ≡ true)
+        scalars = index_scalar e.0.note.ctype f.0.note.ctype note.ctype row.row
+
         bare : is_pointer note.ctype ≡ false
-        bare = no_pointer note.ctype (subst (λ t. is_integer t ≡ true) is node.integer)
+        bare = subst (λ t. is_pointer t ≡ false) is
+            (⊎_elim (λ (n : IsElement e.0). no_pointer (element_of e.0.note.ctype) n.integer) (λ (n : IsStructureElement e.0). structure_pointer (element_of e.0.note.ctype) n.tag n.struct) node)
     address_step y note place row typed covered node addressed fresh little are judged r pointer array element k = absurd addressed
 
   -- ---- the induction
 
   node_by : (x : NotedLayer) (y : Node-F Name Note KeptLimits KeptNode KeptExpr) → inner_node y ≡ x → NodeHolds (roll-Node Name Note x)
   node_by x y is = subst (λ x. NodeHolds (roll-Node Name Note x)) is (record {
-    claims = λ note place row typed here covered node checked h fresh little are judged fault noted k.
+    claims = λ note place row typed here covered node checked scalar h fresh little are judged fault noted k.
         let out : out-Node Name Note (roll-Node Name Note (inner_node y)) ≡ inner_node y = node_out (inner_node y) in
         let n_is : view_of_node s.frame (roll-Node Name Note (inner_node y)) ≡ node_view s.frame (viewed_node (inner_node y)) =
         fold-roll-Node Name Note LimitsView NodeView View limits_view (node_view s.frame) expr_view (inner_node y) in
@@ -506,7 +603,7 @@ module _ (globals : Globals) (s : Setting) (agrees : Agrees globals s) (declares
         (node_step here h y note place (subst (λ z. IsRow globals s z note) out row)
         (subst (PartsEvery (HasRow globals s)) out (parts_every (HasRow globals s) (roll-Node Name Note (inner_node y)) typed))
         (subst (PartsEvery (IsCoveredExpr s store here.seen)) out (parts_every (IsCoveredExpr s store here.seen) (roll-Node Name Note (inner_node y)) covered))
-        (subst (IsCoveredNode s store here.seen note.ctype) out node) checked fresh (subst (λ (n : NodeView). fresh + length (node_fresh note.ctype n here.at) < 2 ^ 32) n_is little) are
+        (subst (IsCoveredNode s store here.seen note.ctype) out node) checked scalar fresh (subst (λ (n : NodeView). fresh + length (node_fresh note.ctype n here.at) < 2 ^ 32) n_is little) are
         (subst (λ (n : NodeView). n.fault place fresh here.at ≡ None) n_is fault)
         (subst (λ (n : NodeView). n.judged note.ctype fresh here.at ≡ Ok (node_of (inner_node y))) n_is (judged ∙ ap Ok (node_rolled (inner_node y))))
         (λ p. subst (λ (n : NodeView). note.range ≡ pointer_range note.ctype n 0 fresh here.at) n_is (noted p)) k));
@@ -525,6 +622,19 @@ module _ (globals : Globals) (s : Setting) (agrees : Agrees globals s) (declares
         (subst (PartsEvery (IsCoveredExpr s store here.seen)) out (parts_every (IsCoveredExpr s store here.seen) (roll-Node Name Note (inner_node y)) covered))
         (subst (IsCoveredNode s store here.seen note.ctype) out node) (subst IsAddressed out addressed) fresh (subst (λ (n : NodeView). fresh + length (n.fresh here.at) < 2 ^ 32) n_is little) are
         (subst (λ (n : NodeView). n.judged note.ctype fresh here.at ≡ Ok (node_of (inner_node y))) n_is (judged ∙ ap Ok (node_rolled (inner_node y)))) r pointer array element k));
+    place = λ note place row typed here covered node structure tag struct h fresh little are judged fault k.
+        let out : out-Node Name Note (roll-Node Name Note (inner_node y)) ≡ inner_node y = node_out (inner_node y) in
+        let n_is : view_of_node s.frame (roll-Node Name Note (inner_node y)) ≡ node_view s.frame (viewed_node (inner_node y)) =
+        fold-roll-Node Name Note LimitsView NodeView View limits_view (node_view s.frame) expr_view (inner_node y) in
+        let q_is : part_of_node (roll-Node Name Note (inner_node y)) ≡ node_parts (part_node (inner_node y)) =
+        fold-roll-Node Name Note LimitsPart NodePart Part limits_parts node_parts expr_parts (inner_node y) in
+        subst (λ (q : NodePart). IsStructurePlace store note.ctype (q.place note place s.text s.variables k)) (sym q_is)
+        (place_step here h y note place (subst (λ z. IsRow globals s z note) out row)
+        (subst (PartsEvery (HasRow globals s)) out (parts_every (HasRow globals s) (roll-Node Name Note (inner_node y)) typed))
+        (subst (PartsEvery (IsCoveredExpr s store here.seen)) out (parts_every (IsCoveredExpr s store here.seen) (roll-Node Name Note (inner_node y)) covered))
+        (subst (IsCoveredNode s store here.seen note.ctype) out node) (subst IsStructureNode out structure) tag struct fresh (subst (λ (n : NodeView). fresh + length (n.fresh here.at) < 2 ^ 32) n_is little) are
+        (subst (λ (n : NodeView). n.judged note.ctype fresh here.at ≡ Ok (node_of (inner_node y))) n_is (judged ∙ ap Ok (node_rolled (inner_node y))))
+        (subst (λ (n : NodeView). n.fault place fresh here.at ≡ None) n_is fault) k);
   })
 
   limits_by : (x : Limits-F Name Note NotedLimits NotedNode NotedExpr) (y : Limits-F Name Note KeptLimits KeptNode KeptExpr) → inner_limits y ≡ x → AnyLimitsHold (roll-Limits Name Note x)
@@ -532,7 +642,7 @@ module _ (globals : Globals) (s : Setting) (agrees : Agrees globals s) (declares
 
   expr_by : (x : Expr-F Name Note NotedLimits NotedNode NotedExpr) (y : Expr-F Name Note KeptLimits KeptNode KeptExpr) → inner_expr y ≡ x → ExprHolds (roll-Expr Name Note x)
   expr_by x y is = subst (λ x. ExprHolds (roll-Expr Name Note x)) is (record {
-    claims = λ typed here covered h fresh little are judged k.
+    claims = λ typed here covered scalar h fresh little are judged k.
         let e : NotedExpr = roll-Expr Name Note (inner_expr y) in
         let v_is : view s.frame e ≡ expr_view (viewed_expr (inner_expr y)) = fold-roll-Expr Name Note LimitsView NodeView View limits_view (node_view s.frame) expr_view (inner_expr y) in
         let q_is : part_of e ≡ expr_parts (part_expr (inner_expr y)) = fold-roll-Expr Name Note LimitsPart NodePart Part limits_parts node_parts expr_parts (inner_expr y) in
@@ -542,7 +652,7 @@ module _ (globals : Globals) (s : Setting) (agrees : Agrees globals s) (declares
         let row : IsRow globals s (out-Node Name Note y.node.0) y.note = every_here-Expr Name Note AnyLimits AnyNode (HasRow globals s) e typed in
         let cover : IsCoveredExpr s store here.seen (record { node = y.node.0; pos = y.pos; note = y.note }) = every_here-Expr Name Note AnyLimits AnyNode (IsCoveredExpr s store here.seen) e covered in
         subst (λ v. P v (part_of e)) (sym v_is) (subst (λ q. P (expr_view (viewed_expr (inner_expr y))) q) (sym q_is)
-        (y.node.1.claims y.note y.pos row (node_every (HasRow globals s) e typed) here (node_every (IsCoveredExpr s store here.seen) e covered) cover.node cover.checked h fresh (subst (λ (v : View). fresh + length (v.fresh here.at) < 2 ^ 32) v_is little) are seen.node seen.fault seen.range k));
+        (y.node.1.claims y.note y.pos row (node_every (HasRow globals s) e typed) here (node_every (IsCoveredExpr s store here.seen) e covered) cover.node cover.checked scalar h fresh (subst (λ (v : View). fresh + length (v.fresh here.at) < 2 ^ 32) v_is little) are seen.node seen.fault seen.range k));
     address = λ typed here covered addressed h fresh little are judged r pointer array element k.
         let e : NotedExpr = roll-Expr Name Note (inner_expr y) in
         let v_is : view s.frame e ≡ expr_view (viewed_expr (inner_expr y)) = fold-roll-Expr Name Note LimitsView NodeView View limits_view (node_view s.frame) expr_view (inner_expr y) in
@@ -554,6 +664,16 @@ module _ (globals : Globals) (s : Setting) (agrees : Agrees globals s) (declares
         let cover : IsCoveredExpr s store here.seen (record { node = y.node.0; pos = y.pos; note = y.note }) = every_here-Expr Name Note AnyLimits AnyNode (IsCoveredExpr s store here.seen) e covered in
         subst (λ v. P v (part_of e)) (sym v_is) (subst (λ q. P (expr_view (viewed_expr (inner_expr y))) q) (sym q_is)
         (y.node.1.address y.note y.pos row (node_every (HasRow globals s) e typed) here (node_every (IsCoveredExpr s store here.seen) e covered) cover.node addressed h fresh (parts_room fresh ((view_of_node s.frame y.node.0).fresh here.at) (own_fresh y.note.ctype (view_of_node s.frame y.node.0) here.at.facts) (subst (λ (v : View). fresh + length (v.fresh here.at) < 2 ^ 32) v_is little)) are seen r pointer array element k));
+    place = λ typed here covered structure tag struct h fresh little are judged k.
+        let e : NotedExpr = roll-Expr Name Note (inner_expr y) in
+        let v_is : view s.frame e ≡ expr_view (viewed_expr (inner_expr y)) = fold-roll-Expr Name Note LimitsView NodeView View limits_view (node_view s.frame) expr_view (inner_expr y) in
+        let q_is : part_of e ≡ expr_parts (part_expr (inner_expr y)) = fold-roll-Expr Name Note LimitsPart NodePart Part limits_parts node_parts expr_parts (inner_expr y) in
+        let seen : IsJudged (view_of_node s.frame y.node.0) y.pos y.note y.node.0 fresh here.at =
+        judged_is (view_of_node s.frame y.node.0) y.pos y.note y.node.0 fresh here.at (subst (λ (v : View). v.judged fresh here.at ≡ Ok e) v_is judged) in
+        let row : IsRow globals s (out-Node Name Note y.node.0) y.note = every_here-Expr Name Note AnyLimits AnyNode (HasRow globals s) e typed in
+        let cover : IsCoveredExpr s store here.seen (record { node = y.node.0; pos = y.pos; note = y.note }) = every_here-Expr Name Note AnyLimits AnyNode (IsCoveredExpr s store here.seen) e covered in
+        subst (λ (q : Part). IsStructurePlace store y.note.ctype (q.place s.text s.variables k)) (sym q_is)
+        (y.node.1.place y.note y.pos row (node_every (HasRow globals s) e typed) here (node_every (IsCoveredExpr s store here.seen) e covered) cover.node structure tag struct h fresh (parts_room fresh ((view_of_node s.frame y.node.0).fresh here.at) (own_fresh y.note.ctype (view_of_node s.frame y.node.0) here.at.facts) (subst (λ (v : View). fresh + length (v.fresh here.at) < 2 ^ 32) v_is little)) are seen.node seen.fault k);
   })
 
   expr_holds : (e : NotedExpr) → ExprHolds e
@@ -561,4 +681,4 @@ module _ (globals : Globals) (s : Setting) (agrees : Agrees globals s) (declares
 
   pub expr_claims : (e : NotedExpr) → IsTyped globals s e → (here : Here) → IsCovered s store here.seen e → HoldsAt s store entry here → (fresh : ℕ) → fresh + length ((view s.frame e).fresh here.at) < 2 ^ 32 → AreFresh s.frame fresh
       → (view s.frame e).judged fresh here.at ≡ Ok e → (k : ℕ) → IsNotStuck (ExprClaims s store entry here e) (evaluated store ((part_of e).value s.text s.variables k))
-  expr_claims e = (expr_holds e).claims
+  expr_claims e typed here covered = (expr_holds e).claims typed here covered.0 covered.1

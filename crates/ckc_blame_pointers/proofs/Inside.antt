@@ -36,6 +36,7 @@ module _ (P : Expr-F Name Note NotedLimits NotedNode NotedExpr → Type 0) where
   PartsEvery (Node-F.Pick e f g) = Every e × Every f × Every g
   PartsEvery (Node-F.Index e f) = Every e × Every f
   PartsEvery (Node-F.Cast w e) = Every e
+  PartsEvery (Node-F.Dot e n spot) = Every e
   PartsEvery (Node-F.Arrow e n spot) = Every e
   PartsEvery n = Unit {0}
 
@@ -57,6 +58,7 @@ module _ (P : Expr-F Name Note NotedLimits NotedNode NotedExpr → Type 0) where
   parts_of (Node-F.Pick e f g) = (e.1, f.1, g.1)
   parts_of (Node-F.Index e f) = (e.1, f.1)
   parts_of (Node-F.Cast w e) = e.1
+  parts_of (Node-F.Dot e n spot) = e.1
   parts_of (Node-F.Arrow e n spot) = e.1
   parts_of z = tt
 

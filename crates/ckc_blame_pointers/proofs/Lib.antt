@@ -26,4 +26,9 @@ pub mod Addresses
 pub mod Own
 pub mod Pointers
 pub mod Structures
+pub mod Reach
+pub mod Through
+pub mod Held
+pub mod Scalars
+pub mod Dots
 pub mod Arrows

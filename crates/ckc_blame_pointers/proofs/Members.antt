@@ -16,7 +16,7 @@ use Rattle.ckc_blame_texts.proofs.Accesses.{member_part}
 struct_form : (tag : ℕ) → out-CType (ctype.Struct tag) ≡ CType-F.Struct tag
 struct_form tag = search (rules, the_lemmas)
 
-member_there : (structs : Structs) (u : CType) (n : Name) (t : CType) (k : ℕ) → n ≡ name.Member k → dot_type structs u n ≡ Some t
+pub member_there : (structs : Structs) (u : CType) (n : Name) (t : CType) (k : ℕ) → n ≡ name.Member k → dot_type structs u n ≡ Some t
     → IsPart structs u (offset_of structs (tag_of u) (member_number n)) (width_of t)
 member_there structs u n t k named there =
     subst (λ n. IsPart structs u (offset_of structs (tag_of u) (member_number n)) (width_of t)) (sym named) (by (out-CType u) (sym (ap (dot_type structs u) named) ∙ there))

@@ -1,6 +1,6 @@
 -- The claims of a pointer that stands for itself.
 use Rattle.std.proofs.Common.{◌≡◌, ◌⊎◌, inl, inr, refl, sym, ap, subst, ◌∙◌, ℕ, Bool, true, false, List, arith}
-use Rattle.std.specs.Prelude.{◌+◌, ◌<◌, ◌≤◌, ◌^◌, ◌&&◌, length, if◌then◌else◌, ℤ, pos, ◌+ℤ◌, Option, None, Some, IfSome, IsOk}
+use Rattle.std.specs.Prelude.{◌+◌, ◌<◌, ◌≤◌, ◌^◌, ◌&&◌, length, if◌then◌else◌, ℤ, pos, ◌+ℤ◌, Option, None, Some, IfSome, Result, Ok, IsOk}
 use Rattle.std.specs.Option.{option_or}
 use Rattle.std.proofs.lemmas.Int.{ints}
 use Rattle.ckc_base.specs.declared.arithmetic.Width.TheVariants.{Word}
@@ -25,6 +25,7 @@ use Rattle.ckc_bounds_statements.specs.Paths.{Here}
 use Rattle.ckc_source.specs.declared.expr.Count.{Count}
 use Rattle.ckc_source.specs.declared.expr.Count.TheVariants as count
 use Rattle.ckc_source.specs.declared.expr.Pointee.{Pointee}
+use Rattle.ckc_source.specs.declared.outcome.Halt.{Halt}
 use Rattle.ckc_source.specs.declared.outcome.Value.{Value}
 use Rattle.ckc_source.specs.Blocks.{loaded}
 use Rattle.ckc_source.specs.LaidOut.{HoldBytes}
@@ -50,20 +51,29 @@ use Rattle.ckc_blame_pointers.proofs.Numbers.{same_number, one_behind}
 pub same_count : (c z : ℤ) → ◌≡◌ {A = Option Count} (Some (count.Fixed c)) (Some (count.Fixed z)) → c ≡ z
 same_count c z e = cc
 
--- A pointer in memory that has a constant number of elements and may be read is a word, and null or in range.
-pub fixed_reads : (store : Store) → HoldBytes store.blocks → (to : Pointee) (c : ℤ) (begin a : ℕ) → IsOk (loads_pointer store to (count.Fixed c) begin a)
-    → IsNotStuck (λ v. (v.number < 2 ^ 32) × ((v.number ≡ 0) ⊎ Ranged store.shapes store.blocks to v.number (pos v.number) (elements_behind v.number to.size c) v)) (loads_pointer store to (count.Fixed c) begin a)
-fixed_reads store bytes to c begin a ok = by (loaded Word a store.blocks) refl ok
+-- A pointer in memory that has a number of elements and may be read is a word, and null or in range.
+pub counted_reads : (store : Store) → HoldBytes store.blocks → (to : Pointee) (m : Count) (c : ℤ) (begin a : ℕ) → counted store begin m ≡ Ok c → IsOk (loads_pointer store to m begin a)
+    → IsNotStuck (λ v. (v.number < 2 ^ 32) × ((v.number ≡ 0) ⊎ Ranged store.shapes store.blocks to v.number (pos v.number) (elements_behind v.number to.size c) v)) (loads_pointer store to m begin a)
+counted_reads store bytes to m c begin a is ok = by (loaded Word a store.blocks) refl ok
   where
     Comes : Value → Type 0
     Comes v = (v.number < 2 ^ 32) × ((v.number ≡ 0) ⊎ Ranged store.shapes store.blocks to v.number (pos v.number) (elements_behind v.number to.size c) v)
 
-    by : (o : Option ℕ) → loaded Word a store.blocks ≡ o → IsOk (given_some o (λ n. given (counted store begin (count.Fixed c)) (λ m. reads store.shapes store.blocks to n (pos n) (elements_behind n to.size m))))
-        → IsNotStuck Comes (given_some o (λ n. given (counted store begin (count.Fixed c)) (λ m. reads store.shapes store.blocks to n (pos n) (elements_behind n to.size m))))
+    after : ℕ → Result ℤ Halt → Result Value Halt
+    after n x = given x (λ m. reads store.shapes store.blocks to n (pos n) (elements_behind n to.size m))
+
+    by : (o : Option ℕ) → loaded Word a store.blocks ≡ o → IsOk (given_some o (λ n. after n (counted store begin m))) → IsNotStuck Comes (given_some o (λ n. after n (counted store begin m)))
     by (Some n) there ok =
-        weaker (reads store.shapes store.blocks to n (pos n) (elements_behind n to.size c)) (reads_gives store.shapes store.blocks to n (pos n) (elements_behind n to.size c) ok)
-        (λ v is r. subst (λ m. (m < 2 ^ 32) × ((m ≡ 0) ⊎ Ranged store.shapes store.blocks to m (pos m) (elements_behind m to.size c) v)) (sym r.number) (loaded_in Word a store.blocks bytes n there, r.ranged_there))
+        subst (λ x. IsNotStuck Comes (after n x)) (sym is)
+        (weaker (reads store.shapes store.blocks to n (pos n) (elements_behind n to.size c))
+        (reads_gives store.shapes store.blocks to n (pos n) (elements_behind n to.size c) (subst (λ x. IsOk (after n x)) is ok))
+        (λ v is r. subst (λ m. (m < 2 ^ 32) × ((m ≡ 0) ⊎ Ranged store.shapes store.blocks to m (pos m) (elements_behind m to.size c) v)) (sym r.number) (loaded_in Word a store.blocks bytes n there, r.ranged_there)))
     by None there ok = absurd (cc)
+
+-- the same of a constant number of elements
+pub fixed_reads : (store : Store) → HoldBytes store.blocks → (to : Pointee) (c : ℤ) (begin a : ℕ) → IsOk (loads_pointer store to (count.Fixed c) begin a)
+    → IsNotStuck (λ v. (v.number < 2 ^ 32) × ((v.number ≡ 0) ⊎ Ranged store.shapes store.blocks to v.number (pos v.number) (elements_behind v.number to.size c) v)) (loads_pointer store to (count.Fixed c) begin a)
+fixed_reads store bytes to c begin a ok = counted_reads store bytes to (count.Fixed c) c begin a refl ok
 
 -- ---- a pointer that stands for itself
 

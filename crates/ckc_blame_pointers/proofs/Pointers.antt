@@ -57,7 +57,7 @@ use Rattle.ckc_blame_texts.proofs.Accesses.{scalar_part}
 use Rattle.ckc_blame_numbers.proofs.Types.{word_wide}
 use Rattle.ckc_blame_pointers.proofs.Loads.{loaded_in, word_loaded}
 
-not_member : (k : Option Kind) (at : ℕ) (f : Integer) (z : ℤ) → count_of_kind k ≡ Some (count.Member at f z) → ⊥
+pub not_member : (k : Option Kind) (at : ℕ) (f : Integer) (z : ℤ) → count_of_kind k ≡ Some (count.Member at f z) → ⊥
 not_member (Some kind.Raw) at f z e = absurd (cc)
 not_member (Some kind.One) at f z e = absurd (cc)
 not_member (Some kind.Arr) at f z e = absurd (cc)

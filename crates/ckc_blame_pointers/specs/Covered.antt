@@ -1,12 +1,12 @@
 -- The expressions of which it is said what they come to, and what is taken for granted of the text around them.
-use Rattle.std.specs.Prelude.{◌≡◌, ◌⊎◌, ◌+◌, ◌<◌, ◌^◌, ℕ, Bool, false, true, List, slice_get, ℤ, Option, None, Some}
+use Rattle.std.specs.Prelude.{◌≡◌, ◌⊎◌, ◌+◌, ◌<◌, ◌^◌, ℕ, Bool, false, true, List, slice_get, Option, None, Some}
 use Rattle.std.specs.List.{Contains}
 use Rattle.ckc_types.specs.declared.types.Kind.{Kind}
 use Rattle.ckc_types.specs.declared.types.Kind.TheVariants as kind
 use Rattle.ckc_types.specs.declared.types.CType.{CType, CType-F, out-CType}
 use Rattle.ckc_types.specs.declared.types.MemberShape.{MemberShape}
+use Rattle.ckc_types.specs.declared.types.MemberBounds.{MemberBounds}
 use Rattle.ckc_types.specs.declared.types.MemberBounds.TheVariants as mbounds
-use Rattle.ckc_source.specs.declared.expr.Count.TheVariants as count
 use Rattle.ckc_linear.specs.declared.forms.Base.{Base}
 use Rattle.ckc_linear.specs.declared.forms.Base.TheVariants as base
 use Rattle.ckc_linear.specs.declared.forms.Form.{Form}
@@ -30,7 +30,7 @@ use Rattle.ckc_bounds_points.specs.declared.frame.Bounds.TheVariants as bounds
 use Rattle.ckc_bounds_points.specs.declared.frame.Local.{Local}
 use Rattle.ckc_bounds_points.specs.Frames.{local_at}
 use Rattle.ckc_bounds_declared.specs.Written.{bounds_of_kind}
-use Rattle.ckc_bounds_views.specs.Fresh.{member_bounds}
+use Rattle.ckc_bounds_views.specs.Fresh.{member_bounds, named_type}
 use Rattle.ckc_bounds_views.specs.Judged.{is_counted_kind, is_declared_object}
 use Rattle.ckc_bounds_views.specs.Views.{view}
 use Rattle.ckc_source.specs.Eval.{Store}
@@ -141,6 +141,17 @@ pub record IsStaticPointer (s : Setting) (store : Store) (t : CType) (k : ℕ) :
   pub counted : count_of_static s.text t (name.Static k) ≡ count_of_kind (kind_of t)
   pub filled : AreFilled s.text store
 
+-- a static structure
+pub record IsStaticStructure (s : Setting) (t : CType) (k : ℕ) : Type 0 where
+  pub object : StaticObject
+  pub there : slice_get s.text.statics k ≡ Some object
+  pub is_run : Option Bool
+  pub placed : slice_get (objects_elaborated s.text) k ≡ Some (object_elaborated s.text.layout is_run object)
+  pub some : 0 < object.count
+  pub element : object.element ≡ t
+  pub tag : ℕ
+  pub struct : out-CType t ≡ CType-F.Struct tag
+
 -- ---- expressions
 
 -- the unary operators on integers, and `!`
@@ -176,22 +187,63 @@ pub record IsArrow (s : Setting) (e : NotedExpr) (n : Name) (t : CType) : Type 0
   pub through : (is_counted_kind (kind_of e.note.ctype) ≡ true)
       ⊎ ((kind_of e.note.ctype ≡ Some kind.One) × DeclareOnes s)
 
--- what else `->` reads: a `_Ptr` or an `_Nt_array_ptr` without bounds; the pointers that memory holds are in bounds
-pub record IsPointerArrow (s : Setting) (store : Store) (e : NotedExpr) (n : Name) (t : CType) : Type 0 where
+-- What the bounds of a member name is an integer member of the same structure.
+abbrev pub NamesInteger : Setting → ℕ → MemberBounds → Type 0
+NamesInteger s tag (mbounds.Named k c) =
+    (m : MemberShape) × (member_named s.text.layout tag (name.Member k) ≡ Some m) × (is_integer m.ctype ≡ true)
+    × (named_type s.frame.structs tag (mbounds.Named k c) ≡ Some m.ctype)
+NamesInteger s tag b = Unit {0}
+
+-- a pointer that is a member of a structure of a type, as it is judged and as it is read; a `_Ptr` has no bounds, and the
+-- pointers that memory holds are in bounds
+pub record IsPointerMember (s : Setting) (store : Store) (u t : CType) (n : Name) : Type 0 where
   pub tag : ℕ
-  pub struct : out-CType (element_of e.note.ctype) ≡ CType-F.Struct tag
+  pub struct : out-CType u ≡ CType-F.Struct tag
   pub number : ℕ
   pub named : n ≡ name.Member number
   pub member : MemberShape
   pub found : member_named s.text.layout tag n ≡ Some member
   pub type : member.ctype ≡ t
   pub pointer : is_pointer t ≡ true
-  pub elements : ℤ
-  pub counted : count_of_kind (kind_of t) ≡ Some (count.Fixed elements)
-  pub bare : member.bounds ≡ mbounds.Nothing
-  pub judged : member_bounds s.frame.structs (record { tag = tag; number = number }) ≡ mbounds.Nothing
-  pub through : (kind_of e.note.ctype ≡ Some kind.Arr) ⊎ ((kind_of e.note.ctype ≡ Some kind.One) × DeclareOnes s)
+  pub judged : member_bounds s.frame.structs (record { tag = tag; number = number }) ≡ member.bounds
+  pub single : kind_of t ≡ Some kind.One → member.bounds ≡ mbounds.Nothing
+  pub counts : NamesInteger s tag member.bounds
   pub filled : AreFilled s.text store
+
+-- through an `_Array_ptr` or a `_Ptr`
+abbrev pub IsThrough : Setting → CType → Type 0
+IsThrough s t = (kind_of t ≡ Some kind.Arr) ⊎ ((kind_of t ≡ Some kind.One) × DeclareOnes s)
+
+-- what else `->` reads: a pointer
+pub record IsPointerArrow (s : Setting) (store : Store) (e : NotedExpr) (n : Name) (t : CType) : Type 0 where
+  pub member : IsPointerMember s store (element_of e.note.ctype) t n
+  pub through : IsThrough s e.note.ctype
+
+-- the structure of which `*` and `.` give a member
+pub record IsStructureTarget (s : Setting) (e : NotedExpr) : Type 0 where
+  pub tag : ℕ
+  pub struct : out-CType (element_of e.note.ctype) ≡ CType-F.Struct tag
+  pub through : IsThrough s e.note.ctype
+
+-- the same of `[` and `.`
+pub record IsStructureElement (e : NotedExpr) : Type 0 where
+  pub tag : ℕ
+  pub struct : out-CType (element_of e.note.ctype) ≡ CType-F.Struct tag
+  pub array : kind_of e.note.ctype ≡ Some kind.Arr
+
+-- the expressions of which `.` gives a member: static objects by their names, `*p` and `p[e]`
+abbrev pub IsStructureNode : NotedLayer → Type 0
+IsStructureNode (Node-F.Name (name.Static k)) = Unit {0}
+IsStructureNode (Node-F.Un op.Deref e) = Unit {0}
+IsStructureNode (Node-F.Index e f) = Unit {0}
+IsStructureNode _ = ⊥
+
+-- what `.` reads: a member of a structure with a place, an integer or a pointer
+pub record IsDot (s : Setting) (store : Store) (e : NotedExpr) (n : Name) (t : CType) : Type 0 where
+  pub operand : IsStructureNode (out-Node Name Note e.node)
+  pub tag : ℕ
+  pub struct : out-CType e.note.ctype ≡ CType-F.Struct tag
+  pub member : IsIntegerMember s e.note.ctype t n ⊎ IsPointerMember s store e.note.ctype t n
 
 -- `*p` and `p[e]`, of which `&` gives the address
 abbrev pub IsAddressed : NotedLayer → Type 0
@@ -201,26 +253,27 @@ IsAddressed _ = ⊥
 
 -- the operands of unary operators
 abbrev pub IsCoveredUnary : Setting → TreeOp → NotedExpr → Type 0
-IsCoveredUnary s op.Deref e = IsElement e ⊎ IsSingle s e
+IsCoveredUnary s op.Deref e = IsElement e ⊎ (IsSingle s e ⊎ IsStructureTarget s e)
 IsCoveredUnary s op.Address e = IsAddressed (out-Node Name Note e.node)
 IsCoveredUnary s o e = IsArithmetic o
 
 -- The nodes of a type of which it is said what they come to: numbers, `sizeof`, `NULL`, locals in scope, static
--- integers, arrays and pointers, operators, `?:`, casts, integers that are read through pointers, what `->` reads,
--- `&*p` and `&p[e]`.
+-- integers, arrays and pointers, operators, `?:`, casts, integers that are read through pointers, what `->` and `.` read,
+-- `&*p` and `&p[e]`; and the structures of which `.` gives a member.
 abbrev pub IsCoveredNode : Setting → Store → List ℕ → CType → NotedLayer → Type 0
 IsCoveredNode s store seen t (Node-F.Number n unsigned) = Unit {0}
 IsCoveredNode s store seen t (Node-F.Size w) = Unit {0}
 IsCoveredNode s store seen t Node-F.Null = Unit {0}
 IsCoveredNode s store seen t (Node-F.Name (name.Local k)) = IsInScope s seen k
 IsCoveredNode s store seen t (Node-F.Name (name.Static k)) =
-    IsStaticInteger s t k ⊎ (IsStaticArray s t k ⊎ IsStaticPointer s store t k)
+    IsStaticInteger s t k ⊎ (IsStaticArray s t k ⊎ (IsStaticPointer s store t k ⊎ IsStaticStructure s t k))
 IsCoveredNode s store seen t (Node-F.Un o e) = IsCoveredUnary s o e
 IsCoveredNode s store seen t (Node-F.Bin o e f) = Unit {0}
 IsCoveredNode s store seen t (Node-F.Pick e f g) = Unit {0}
 IsCoveredNode s store seen t (Node-F.Cast w e) = Unit {0}
-IsCoveredNode s store seen t (Node-F.Index e f) = IsElement e
+IsCoveredNode s store seen t (Node-F.Index e f) = IsElement e ⊎ IsStructureElement e
 IsCoveredNode s store seen t (Node-F.Arrow e n spot) = IsArrow s e n t ⊎ IsPointerArrow s store e n t
+IsCoveredNode s store seen t (Node-F.Dot e n spot) = IsDot s store e n t
 IsCoveredNode s store seen t _ = ⊥
 
 -- Such an expression is no unchecked pointer, the size of what it points to is a word, and so is the number of its
@@ -233,5 +286,9 @@ pub record IsCoveredExpr (s : Setting) (store : Store) (seen : List ℕ)
   pub sized : size_behind s.text.layout e.note.ctype < 2 ^ 32
 
 -- An expression and each expression in it, however deep, is such a one.
+abbrev pub AreCovered : Setting → Store → List ℕ → NotedExpr → Type 0
+AreCovered s store seen = every-Expr Name Note AnyLimits AnyNode (IsCoveredExpr s store seen)
+
+-- So is an expression that is itself a value, an integer or a pointer. A structure alone has a place, and no value.
 abbrev pub IsCovered : Setting → Store → List ℕ → NotedExpr → Type 0
-IsCovered s store seen = every-Expr Name Note AnyLimits AnyNode (IsCoveredExpr s store seen)
+IsCovered s store seen e = AreCovered s store seen e × (is_scalar e.note.ctype ≡ true)

@@ -16,7 +16,7 @@ ghost use Rattle.ckc_blame_pointers.specs.Meant.{IsNotStuck, IsMeant};
 
 /// What becomes of a judged expression gives a value that is as it is judged to be, or stops at a named check. It is
 /// not stuck. This is said of numbers, `sizeof`, `NULL`, locals in scope, static integers and arrays, operators, `?:`,
-/// casts, static pointers and members without bounds, integers that are read through checked pointers, `&*p` and
+/// casts, static pointers without bounds, members, integers that are read through checked pointers, `&*p` and
 /// `&p[e]`; and of no unchecked pointers.
 pub fn expressions_are_not_stuck()
     ensures { (globals : Globals) (s : Setting) (entry : List ℕ) (here : Here)
