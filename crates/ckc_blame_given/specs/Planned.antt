@@ -29,7 +29,7 @@ use Rattle.ckc_build_elaborate.specs.Shapes.{is_run}
 use Rattle.ckc_blame_sound.specs.Settings.{Setting}
 use Rattle.ckc_blame_sound.specs.Values.{number_of}
 use Rattle.ckc_blame_slots.specs.Writes.{IsCellWrite}
-use Rattle.ckc_blame_contained.specs.Valuations.{Valuation, AreFacts}
+use Rattle.ckc_blame_sound.specs.Valuations.{Valuation, AreFacts}
 use Rattle.ckc_blame_contained.specs.Given.{memory_of, IsFrom}
 use Rattle.ckc_blame_contained.specs.Elements.{number_kept, AreCounted}
 

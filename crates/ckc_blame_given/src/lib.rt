@@ -3,4 +3,4 @@
 
 mod laws;
 
-pub use laws::expressions_give;
+pub use laws::{expressions_give, ranges_begin_alike, words_go_to_places};

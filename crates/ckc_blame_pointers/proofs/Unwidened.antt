@@ -9,7 +9,7 @@ use Rattle.ckc_syntax.specs.declared.tree.Name.{Name}
 use Rattle.ckc_syntax.specs.declared.tree.TreeOp.{TreeOp}
 use Rattle.ckc_syntax.specs.declared.tree.TreeOp.TheVariants as op
 use Rattle.ckc_syntax.specs.declared.tree.Limits.{Limits-F, map-Limits, roll-Limits, fold-roll-Limits}
-use Rattle.ckc_syntax.specs.declared.tree.Node.{Node-F, map-Node, roll-Node, fold-roll-Node}
+use Rattle.ckc_syntax.specs.declared.tree.Node.{Node-F, map-Node, ind-Node, roll-Node, fold-roll-Node}
 use Rattle.ckc_syntax.specs.declared.tree.Expr.{Expr-F, map-Expr, ind-Expr, roll-Expr, fold-roll-Expr}
 use Rattle.ckc_typed.specs.declared.typed.Note.{Note}
 use Rattle.ckc_typed.specs.Trees.{NotedLimits, NotedNode, NotedExpr, NotedLayer}
@@ -296,7 +296,14 @@ module _ (frame : Frame) where
   pub steady : (e : NotedExpr) → ExprHolds e
   steady = ind-Expr Name Note LimitsHold InnerHolds ExprHolds limits_by node_by expr_by
 
-  -- the fresh variables that an expression needs, whatever is widened
+  steady_node : (n : NotedNode) → InnerHolds n
+  steady_node = ind-Node Name Note LimitsHold InnerHolds ExprHolds limits_by node_by expr_by
+
+  -- the fresh variables that a node needs, whatever is widened
+  pub node_fresh_same : (n : NotedNode) (at : State) (widened : List ℕ) → (view_of_node frame n).fresh (record at { widened = widened }) ≡ (view_of_node frame n).fresh at
+  node_fresh_same n at widened = (steady_node n).holds.fresh (record at { widened = widened }) at (record { reached = refl; facts = refl })
+
+  -- and those that an expression needs
   pub fresh_same : (e : NotedExpr) (at : State) (widened : List ℕ) → (view frame e).fresh (record at { widened = widened }) ≡ (view frame e).fresh at
   fresh_same e at widened = (steady e).fresh (record at { widened = widened }) at (record { reached = refl; facts = refl })
 

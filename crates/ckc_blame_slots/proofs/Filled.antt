@@ -37,7 +37,7 @@ module _ (shapes : List Shape) (bs cs : List Block) (ls ms : List ℕ)
   same_within to n (pos low) (negsuc high) = refl
   same_within to n (negsuc low) high = refl
 
-  same_reads : (to : Pointee) (n : ℕ) (low high : ℤ) → reads shapes cs to n low high ≡ reads shapes bs to n low high
+  pub same_reads : (to : Pointee) (n : ℕ) (low high : ℤ) → reads shapes cs to n low high ≡ reads shapes bs to n low high
   same_reads to n low high = ap (λ r. if n == 0 then plain 0 else r) (same_within to n low high)
 
   same_loads : (to : Pointee) (count : Count) (begin a : ℕ) → loaded Word a cs ≡ loaded Word a bs

@@ -126,7 +126,7 @@ sound_with p bs place to count sound made =
 
 -- ---- objects of elements
 
-get_before : {X : Type 0} (xs ys : List X) (k : ℕ) (x : X) → slice_get xs k ≡ Some x → slice_get (xs ++ ys) k ≡ Some x
+pub get_before : {X : Type 0} (xs ys : List X) (k : ℕ) (x : X) → slice_get xs k ≡ Some x → slice_get (xs ++ ys) k ≡ Some x
 get_before [] ys k x e = absurd cc
 get_before (z ∷ xs) ys zero x e = e
 get_before (z ∷ xs) ys (suc k) x e = get_before xs ys k x e

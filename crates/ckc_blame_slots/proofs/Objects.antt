@@ -25,7 +25,7 @@ use Rattle.ckc_blame_slots.specs.Limited.{IsElementAt}
 
 -- ---- static objects
 
-beside_at : {A B C : Type 0} (f : Option A → B → C) (xs : List A) (ys : List B) (k : ℕ) (y : B) → slice_get ys k ≡ Some y
+pub beside_at : {A B C : Type 0} (f : Option A → B → C) (xs : List A) (ys : List B) (k : ℕ) (y : B) → slice_get ys k ≡ Some y
     → (x : Option A) × (slice_get (beside f xs ys) k ≡ Some (f x y))
 beside_at f xs [] k y e = absurd cc
 beside_at f [] (z ∷ ys) zero y e = let same : z ≡ y = cc in (None, ap (λ w. Some (f None w)) same)
@@ -33,7 +33,7 @@ beside_at {A} f (x ∷ xs) (z ∷ ys) zero y e = let same : z ≡ y = cc in (Som
 beside_at f [] (z ∷ ys) (suc k) y e = beside_at f [] ys k y e
 beside_at f (x ∷ xs) (z ∷ ys) (suc k) y e = beside_at f xs ys k y e
 
-object_at : (os : List Object) (bs : List Block) → AreObjects os bs → (k : ℕ) (o : Object) → slice_get os k ≡ Some o
+pub object_at : (os : List Object) (bs : List Block) → AreObjects os bs → (k : ℕ) (o : Object) → slice_get os k ≡ Some o
     → (b : Block) × (slice_get bs k ≡ Some b) × (b ≡ record (block_of o) { bytes = b.bytes })
 object_at [] bs h k o e = absurd cc
 object_at (c ∷ os) [] h k o e = absurd h
@@ -83,10 +83,10 @@ element_at p bs objects k b e = by (slice_get p.statics k) refl
 -- ---- members
 
 -- the members of a structure that pointers may point to, where it has this number
-abbrev made_shape : Structs → ℕ → StructShape → Shape
+abbrev pub made_shape : Structs → ℕ → StructShape → Shape
 made_shape structs tag s = record { runs = flat_map (run_of structs tag s.members) s.members }
 
-shapes_at : (structs : Structs) (first : ℕ) (shapes : List StructShape) (k : ℕ) (s : StructShape) → slice_get shapes k ≡ Some s
+pub shapes_at : (structs : Structs) (first : ℕ) (shapes : List StructShape) (k : ℕ) (s : StructShape) → slice_get shapes k ≡ Some s
     → slice_get (numbered (shape_of structs) one first shapes) k ≡ Some (made_shape structs (first + k) s)
 shapes_at structs first [] k s e = absurd cc
 shapes_at structs first (t ∷ shapes) zero s e =
@@ -97,30 +97,30 @@ shapes_at structs first (t ∷ shapes) (suc k) s e =
     let number : first + 1 + k ≡ first + suc k = omega arith in
     shapes_at structs (first + 1) shapes k s e ∙ ap (λ n. Some (made_shape structs n s)) number
 
-no_shapes : (structs : Structs) (first : ℕ) (shapes : List StructShape) (k : ℕ) → slice_get shapes k ≡ None
+pub no_shapes : (structs : Structs) (first : ℕ) (shapes : List StructShape) (k : ℕ) → slice_get shapes k ≡ None
     → slice_get (numbered (shape_of structs) one first shapes) k ≡ None
 no_shapes structs first [] k e = refl
 no_shapes structs first (t ∷ shapes) zero e = absurd cc
 no_shapes structs first (t ∷ shapes) (suc k) e = no_shapes structs (first + 1) shapes k e
 
--- the member that a run is made of, and those in front of it
-run_among : (structs : Structs) (tag : ℕ) (all ms : List MemberShape) (k : ℕ) (run : MemberRun)
+-- the member that a run is made of, which takes part in no bounds, and those in front of it
+pub run_among : (structs : Structs) (tag : ℕ) (all ms : List MemberShape) (k : ℕ) (run : MemberRun)
     → slice_get (flat_map (run_of structs tag all) ms) k ≡ Some run
     → (front : List MemberShape) × (m : MemberShape) × (back : List MemberShape) × (ms ≡ front ++ m ∷ back)
-    × (run ≡ record { offset = offset_of structs tag m.name; ctype = m.ctype })
+    × (run ≡ record { offset = offset_of structs tag m.name; ctype = m.ctype }) × (is_run all m ≡ true)
 run_among structs tag all [] k run e = absurd cc
-run_among structs tag all (m ∷ ms) k run e = by (is_run all m) k (λ j f. run_among structs tag all ms j run f) e
+run_among structs tag all (m ∷ ms) k run e = by (is_run all m) refl k (λ j f. run_among structs tag all ms j run f) e
   where
-    by : (here : Bool) (k : ℕ)
+    by : (here : Bool) → is_run all m ≡ here → (k : ℕ)
         → ((j : ℕ) → slice_get (flat_map (run_of structs tag all) ms) j ≡ Some run
         → (front : List MemberShape) × (n : MemberShape) × (back : List MemberShape) × (ms ≡ front ++ n ∷ back)
-        × (run ≡ record { offset = offset_of structs tag n.name; ctype = n.ctype }))
+        × (run ≡ record { offset = offset_of structs tag n.name; ctype = n.ctype }) × (is_run all n ≡ true))
         → slice_get ((if here then record { offset = offset_of structs tag m.name; ctype = m.ctype } ∷ [] else []) ++ flat_map (run_of structs tag all) ms) k ≡ Some run
         → (front : List MemberShape) × (n : MemberShape) × (back : List MemberShape) × (m ∷ ms ≡ front ++ n ∷ back)
-        × (run ≡ record { offset = offset_of structs tag n.name; ctype = n.ctype })
-    by true zero later e = ([], m, ms, refl, cc)
-    by true (suc k) later e = let r = later k e in (m ∷ r.0, r.1, r.2, ap (λ z. m ∷ z) r.3, r.4)
-    by false k later e = let r = later k e in (m ∷ r.0, r.1, r.2, ap (λ z. m ∷ z) r.3, r.4)
+        × (run ≡ record { offset = offset_of structs tag n.name; ctype = n.ctype }) × (is_run all n ≡ true)
+    by true is zero later e = ([], m, ms, refl, cc, is)
+    by true is (suc k) later e = let r = later k e in (m ∷ r.0, r.1, r.2, ap (λ z. m ∷ z) r.3, r.4, r.5)
+    by false is k later e = let r = later k e in (m ∷ r.0, r.1, r.2, ap (λ z. m ∷ z) r.3, r.4, r.5)
 
 pub are_members : (structs : Structs) → HaveOwnNames structs → AreMembers structs (shapes_elaborated structs)
 are_members structs own tag k run e = by (slice_get structs.shapes tag) refl
