@@ -1,0 +1,6 @@
+mod Down
+mod Spots
+mod Fine
+mod Scoped
+mod Modes
+mod Checked
