@@ -8,3 +8,4 @@ pub mod Judged
 pub mod Calls
 pub mod Slots
 pub mod Sound
+pub mod Scopes
