@@ -1,6 +1,7 @@
 -- A dynamic check is a condition, and the point after it is on the true side of that.
-use Rattle.std.proofs.Common.{◌≡◌, ℕ, ◌+◌, List, [], ◌∷◌, map, refl, sym, ap, subst, ◌∙◌, rules}
+use Rattle.std.proofs.Common.{◌≡◌, ℕ, ◌+◌, List, [], ◌∷◌, map, refl, sym, ap, subst, ◌∙◌, rules, arith}
 use Rattle.std.specs.Prelude.{Bool, true, false, not, Option, Some, Ok}
+use Rattle.std.specs.List.{Contains}
 use Rattle.ckc_base.specs.declared.places.Pos.{Pos}
 use Rattle.ckc_base.specs.Outcomes.{Outcome, bind, unless}
 use Rattle.ckc_syntax.specs.declared.tree.Name.{Name}
@@ -25,7 +26,8 @@ use Rattle.ckc_build_elaborate.specs.Steps.{Destination, spot, nowhere, destinat
 use Rattle.ckc_build_elaborate.specs.Statements.{all_assigns, act_code, part_of}
 use Rattle.ckc_blame_sound.specs.Settings.{Setting}
 use Rattle.ckc_blame_sound.specs.Points.{GoesTo}
-use Rattle.ckc_blame_sound.specs.Words.{HasWordsAct}
+use Rattle.ckc_blame_sound.specs.Words.{HasWordsAct, exprs_of_act}
+use Rattle.ckc_blame_sound.proofs.Words.{exprs_inside, exprs_are}
 use Rattle.ckc_blame_sound.specs.Bodies.{globals_of_text}
 use Rattle.ckc_blame_sound.specs.Steps.{is_simple, IsStep, IsCondition}
 use Rattle.ckc_blame_numbers.proofs.Statements.{made_of, pair_same, passes}
@@ -141,6 +143,10 @@ module _ (s : Setting) (here there : Here) (sp : Spot) (e : Expr) (step : IsStep
             mode = step.inside.mode;
             typed = check_inside x is;
             words = λ w. subst HasWordsAct is (words_in step.before (step.inside.words w));
+          };
+          scope = record {
+            names = step.scope.names x (subst (λ es. Contains es x) (sym (exprs_are step.before ∙ ap (λ y. exprs_of_act (exprs_inside y)) is)) (0, omega arith, refl));
+            known = step.scope.known;
           };
           fresh = step.fresh;
           counting = step.counting;
