@@ -52,10 +52,10 @@ use Rattle.ckc_blame_sound.specs.Points.{HoldsAt}
 use Rattle.ckc_blame_numbers.specs.Typed.{IsRow, HasRow, IsTyped, Agrees}
 use Rattle.ckc_blame_numbers.proofs.Exprs as numbers
 use Rattle.ckc_blame_numbers.proofs.Holding.{form_exact, form_exact_in, side_told}
-use Rattle.ckc_blame_numbers.proofs.Types.{no_pointer, sign_row, IsWide, number_wide, size_wide}
+use Rattle.ckc_blame_numbers.proofs.Types.{sign_row, IsWide, number_wide, size_wide}
 use Rattle.ckc_blame_sound.specs.Bodies.{AreFresh}
 use Rattle.ckc_blame_pointers.specs.Valuations.{address_by}
-use Rattle.ckc_blame_pointers.specs.Covered.{DeclareLocals, DeclareOnes, IsSoundStore, IsElement, IsSingle, IsArrow, IsPointerArrow, IsAddressed, IsStaticInteger, IsStaticArray, IsStaticPointer, IsStaticStructure, IsStructureTarget, IsStructureElement, IsStructureNode, IsCoveredNode, IsCoveredExpr, AreCovered, IsCovered}
+use Rattle.ckc_blame_pointers.specs.Covered.{DeclareLocals, DeclareOnes, IsSoundStore, IsElement, IsSingle, IsArrow, IsPointerArrow, IsAddressed, IsStaticInteger, IsStaticArray, IsStaticPointer, IsStaticBounded, IsStaticStructure, IsStructureTarget, IsPointerTarget, IsStructureElement, IsStructureNode, IsCoveredNode, IsCoveredExpr, AreCovered, IsCovered}
 use Rattle.ckc_blame_pointers.specs.Meant.{IsNotStuck}
 use Rattle.ckc_blame_pointers.proofs.Claims.{Claims, weaker, holds_on, nothing_read}
 use Rattle.ckc_blame_numbers.proofs.Known.{form_known}
@@ -73,17 +73,18 @@ use Rattle.ckc_blame_pointers.proofs.Addresses.{address_row, target_claims, inde
 use Rattle.ckc_blame_pointers.proofs.Rows.{counted_pointer}
 use Rattle.ckc_blame_pointers.proofs.Arrows.{arrow_node}
 use Rattle.ckc_blame_pointers.proofs.Held.{held_claims}
-use Rattle.ckc_blame_pointers.proofs.Through.{target_structure, element_structure}
+use Rattle.ckc_blame_pointers.proofs.Through.{target_reached, element_reached, target_structure, element_structure}
 use Rattle.ckc_blame_pointers.proofs.Reach.{IsStructurePlace}
+use Rattle.ckc_blame_pointers.proofs.Pointees.{pointee_claims}
 use Rattle.ckc_blame_pointers.proofs.Singles.{address_node, member_claims, object_claims}
 use Rattle.ckc_blame_pointers.proofs.Dots.{object_structure, dot_node, integer_held}
-use Rattle.ckc_blame_pointers.proofs.Scalars.{integer_scalar, moved_pointer, pointer_scalar, kind_scalar, through_scalar, no_structure, structure_pointer, true_if, target_scalar, index_scalar, binary_scalar, choice_scalar, cast_scalar, null_scalar}
+use Rattle.ckc_blame_pointers.proofs.Scalars.{integer_scalar, moved_pointer, pointer_scalar, kind_scalar, through_scalar, through_bare, no_structure, true_if, target_scalar, index_scalar, binary_scalar, choice_scalar, cast_scalar, null_scalar}
 use Rattle.std.proofs.lemmas.Bool.{and_parts}
 use Rattle.ckc_blame_pointers.proofs.Members.{member_behind}
 use Rattle.ckc_blame_pointers.proofs.Single.{single_claims}
 use Rattle.ckc_blame_pointers.proofs.Statics.{static_claims}
 use Rattle.ckc_blame_pointers.proofs.Arrays.{array_claims}
-use Rattle.ckc_blame_pointers.proofs.Pointers.{pointer_claims}
+use Rattle.ckc_blame_pointers.proofs.Pointers.{pointer_claims, bounded_claims}
 use Rattle.ckc_blame_pointers.proofs.Leaves.{number_claims, size_claims, null_claims, local_claims, minus_claims, plus_claims, flip_claims, not_claims, cast_claims, choice_claims}
 
 module _ (globals : Globals) (s : Setting) (agrees : Agrees globals s) (declares : DeclareLocals s) (store : Store) (entry : List ℕ) (next : ℕ) (ready : IsSoundStore s store next) where
@@ -294,7 +295,8 @@ module _ (globals : Globals) (s : Setting) (agrees : Agrees globals s) (declares
         noted_is p = noted p ∙ ap (λ b. if b then range_of_local s.frame j here.at.widened else range.Missing) p
     node_step (Node-F.Name (name.Static j)) note place row typed covered node checked scalar fresh little are fault judged noted k =
         ⊎_elim (λ c. static_claims s store entry next ready here h note.ctype j c place) (λ c. ⊎_elim (λ c. array_claims s store entry next ready here h note.ctype j c place)
-        (λ c. ⊎_elim (λ c. pointer_claims s store entry next ready here h note.ctype j c place) (λ (c : IsStaticStructure s note.ctype j). absurd (no_structure note.ctype scalar c.tag c.struct)) c) c) node
+        (λ c. ⊎_elim (λ c. pointer_claims s store entry next ready here h note.ctype j c place)
+        (λ c. ⊎_elim (λ c. bounded_claims s store entry next ready here h note.ctype j c place) (λ (c : IsStaticStructure s note.ctype j). absurd (no_structure note.ctype scalar c.tag c.struct)) c) c) c) node
     node_step (Node-F.Un op.Minus e) note place row typed covered node checked scalar fresh little are fault judged noted k =
         minus_claims s store entry here h e.0 note.ctype place ((part_of e.0).value s.text s.variables k)
         (e.1.claims typed here covered (integer_scalar e.0.note.ctype (sign_row e.0.note.ctype note.ctype row.row).0) h fresh little are (one_part (λ a. Node-F.Un op.Minus a) (λ a b e. cc) _ e.0 judged) k) row.row
@@ -346,7 +348,7 @@ module _ (globals : Globals) (s : Setting) (agrees : Agrees globals s) (declares
         cast_claims s store entry here h e.0 note.ctype place ((part_of e.0).value s.text s.variables k)
         (e.1.claims typed here covered (cast_scalar (type_written w) e.0.note.ctype (is_null e.0) (null_scalar globals s e.0 typed) row.row.0) h fresh little are (one_part (λ a. Node-F.Cast w a) (λ a b e. cc) _ e.0 judged) k) w (type_written w) (part_of e.0).ctype (is_null e.0) row.row.1 checked row.row.0
     node_step (Node-F.Un op.Deref e) note place row typed covered node checked scalar fresh little are fault judged noted k =
-        subst (λ t. Of t (part_of e.0).ctype) is (subst (λ u. Of (element_of e.0.note.ctype) u) (sym (parted_type e.0)) (⊎_elim several (⊎_elim single structure) node))
+        subst (λ t. Of t (part_of e.0).ctype) is (subst (λ u. Of (element_of e.0.note.ctype) u) (sym (parted_type e.0)) (⊎_elim several (⊎_elim single (⊎_elim structure pointer)) node))
       where
         is : element_of e.0.note.ctype ≡ note.ctype
         is = some_if (is_pointer e.0.note.ctype && not (is_void (element_of e.0.note.ctype))) (element_of e.0.note.ctype) note.ctype row.row
@@ -360,6 +362,15 @@ module _ (globals : Globals) (s : Setting) (agrees : Agrees globals s) (declares
 
         structure : IsStructureTarget s e.0 → Of (element_of e.0.note.ctype) e.0.note.ctype
         structure node = absurd (no_structure (element_of e.0.note.ctype) (ap is_scalar is ∙ scalar) node.tag node.struct)
+
+        pointer : IsPointerTarget s store e.0 → Of (element_of e.0.note.ctype) e.0.note.ctype
+        pointer node =
+            pointee_claims s store entry next ready here h e.0.note.ctype node.pointer (through_bare s e.0.note.ctype node.through) node.free node.filled (node_view s.frame (Node-F.Un op.Deref (view s.frame e.0)))
+            refl refl (λ first facts. refl) (fresh_same s.frame e.0 here.at) (λ own first fresh widened. refl) (ap kind_of (viewed_type e.0)) refl (λ b. refl)
+            (target_place s.text.layout e.0.note.ctype place ((part_of e.0).value s.text s.variables k)) refl
+            (target_reached s store entry next ready here h e.0 fresh (covered_few e.0 covered) little are ((part_of e.0).value s.text s.variables k) inside
+            (λ counted. ranged_pointer s store entry next ready here h e.0 fresh (covered_few e.0 covered) little are place (ap is_counted_kind (ap kind_of (viewed_type e.0)) ∙ counted) fault) _
+            (λ bare m low high a true_there reached. (m, low, high, true_there, reached)) node.through place)
 
         single : IsSingle s e.0 → Of (element_of e.0.note.ctype) e.0.note.ctype
         single node =
@@ -387,7 +398,7 @@ module _ (globals : Globals) (s : Setting) (agrees : Agrees globals s) (declares
         (covered_few e.0 covered.0) fresh first are fault refl refl (λ b. refl) (ap kind_of (viewed_type e.0))
         (λ x c j there a at g target. element_aims s store entry next ready here h e.0 fresh (covered_few e.0 covered.0) first are x c (exact (integer_of f.0.note.ctype) j.number) (view s.frame f.0).form
         (index_of here h f.0 typed.1 (k + (part_of e.0).literals) j there) a at (is_raw_kind (kind_of (view s.frame e.0).ctype))
-        (ap is_raw_kind (ap kind_of (viewed_type e.0)) ∙ (every_here-Expr Name Note AnyLimits AnyNode (IsCoveredExpr s store here.seen) e.0 covered.0).checked) g target)) structure node)))
+        (ap is_raw_kind (ap kind_of (viewed_type e.0)) ∙ (every_here-Expr Name Note AnyLimits AnyNode (IsCoveredExpr s store here.seen) e.0 covered.0).checked) g target)) (⊎_elim structure pointer) node)))
       where
         first : fresh + length ((view s.frame e.0).fresh here.at) < 2 ^ 32
         first = left_room fresh ((view s.frame e.0).fresh here.at) ((view s.frame f.0).fresh here.at) little
@@ -405,6 +416,22 @@ module _ (globals : Globals) (s : Setting) (agrees : Agrees globals s) (declares
 
         structure : IsStructureElement e.0 → Of (element_of e.0.note.ctype) e.0.note.ctype f.0.note.ctype
         structure node = absurd (no_structure (element_of e.0.note.ctype) (ap is_scalar is ∙ scalar) node.tag node.struct)
+
+        pointer : IsPointerTarget s store e.0 × (kind_of e.0.note.ctype ≡ Some kind.Arr) → Of (element_of e.0.note.ctype) e.0.note.ctype f.0.note.ctype
+        pointer node =
+            pointee_claims s store entry next ready here h e.0.note.ctype node.0.pointer (through_bare s e.0.note.ctype node.0.through) node.0.free node.0.filled (node_view s.frame (Node-F.Index (view s.frame e.0) (view s.frame f.0)))
+            refl refl (λ first facts. refl) kept (λ own first fresh widened. refl) (ap kind_of (viewed_type e.0)) refl (λ b. refl)
+            (element_place s.text.layout e.0.note.ctype place (integer_of f.0.note.ctype) ((part_of e.0).value s.text s.variables k) ((part_of f.0).value s.text s.variables (k + (part_of e.0).literals))) refl
+            (element_reached s store entry next ready here h e.0 fresh (covered_few e.0 covered.0) first are ((part_of e.0).value s.text s.variables k) (left_claims e f typed covered scalars fresh first are k parts.0)
+            (λ counted. ranged_pointer s store entry next ready here h e.0 fresh (covered_few e.0 covered.0) first are place (ap is_counted_kind (ap kind_of (viewed_type e.0)) ∙ counted) fault) _
+            (λ bare m low high a true_there reached. (m, low, high, true_there, reached)) node.1 place (integer_of f.0.note.ctype) ((part_of f.0).value s.text s.variables (k + (part_of e.0).literals)) (ExprClaims s store entry here f.0)
+            (right_claims e f typed covered scalars fresh first are k here.at (right_room fresh ((view s.frame e.0).fresh here.at) ((view s.frame f.0).fresh here.at) little) parts.1 h))
+          where
+            parts : ((view s.frame e.0).judged fresh here.at ≡ Ok e.0) × ((view s.frame f.0).judged (fresh_behind (view s.frame e.0) fresh here.at) here.at ≡ Ok f.0)
+            parts = two_parts (λ a b. Node-F.Index a b) (λ a b c d e. (cc, cc)) _ _ e.0 f.0 judged
+
+            kept : (widened : List ℕ) → (view s.frame e.0).fresh (record here.at { widened = widened }) ++ (view s.frame f.0).fresh (record here.at { widened = widened }) ≡ (view s.frame e.0).fresh here.at ++ (view s.frame f.0).fresh here.at
+            kept widened = ap (λ us. us ++ (view s.frame f.0).fresh (record here.at { widened = widened })) (fresh_same s.frame e.0 here.at widened) ∙ ap (λ us. (view s.frame e.0).fresh here.at ++ us) (fresh_same s.frame f.0 here.at widened)
     node_step (Node-F.Arrow e n spot) note place row typed covered node checked scalar fresh little are fault judged noted k =
         subst Of (sym (parted_type e.0)) (⊎_elim number address node)
       where
@@ -453,7 +480,7 @@ module _ (globals : Globals) (s : Setting) (agrees : Agrees globals s) (declares
         address : IsPointerArrow s store e.0 n note.ctype → Of e.0.note.ctype
         address node =
             held_claims s store entry next ready here h (element_of e.0.note.ctype) note.ctype n node.member checked made (arrow_node s store here e.0 n spot note.ctype node.member (viewed_type e.0)) (target_place s.text.layout e.0.note.ctype place v)
-            (target_structure s store entry next ready here h e.0 node.member.tag node.member.struct fresh (covered_few e.0 covered) inner are v inside ranged node.through place)
+            (target_structure s store entry next ready here h e.0 fresh (covered_few e.0 covered) inner are v inside ranged node.member.tag node.member.struct node.through place)
 
         number : IsArrow s e.0 n note.ctype → Of e.0.note.ctype
         number node =
@@ -490,16 +517,17 @@ module _ (globals : Globals) (s : Setting) (agrees : Agrees globals s) (declares
       ⊎_elim (λ (c : IsStaticInteger s note.ctype j). absurd (no_structure note.ctype (integer_scalar note.ctype c.integer) tag struct))
           (λ c. ⊎_elim (λ (c : IsStaticArray s note.ctype j). absurd (no_structure note.ctype (pointer_scalar note.ctype c.pointer) tag struct))
           (λ c. ⊎_elim (λ (c : IsStaticPointer s store note.ctype j). absurd (no_structure note.ctype (pointer_scalar note.ctype c.pointer) tag struct))
-          (λ c. object_structure s store next ready note.ctype j c place) c) c) node,
+          (λ c. ⊎_elim (λ (c : IsStaticBounded s store note.ctype j). absurd (no_structure note.ctype (pointer_scalar note.ctype c.pointer) tag struct))
+          (λ c. object_structure s store next ready note.ctype j c place) c) c) c) node,
       refl,
     )
     place_step (Node-F.Un op.Deref e) note place row typed covered node structure tag struct fresh little are judged fault k = (
       subst (λ u. IsStructurePlace store u (target_place s.text.layout (part_of e.0).ctype place v)) is
           (subst (λ t. IsStructurePlace store (element_of e.0.note.ctype) (target_place s.text.layout t place v)) (sym (parted_type e.0))
-          (⊎_elim (λ (n : IsElement e.0). none n.integer) (λ c. ⊎_elim (λ (n : IsSingle s e.0). none n.integer) (λ (n : IsStructureTarget s e.0).
-          target_structure s store entry next ready here h e.0 n.tag n.struct fresh (covered_few e.0 covered) little are v
+          (⊎_elim (λ (n : IsElement e.0). none n.integer) (λ c. ⊎_elim (λ (n : IsSingle s e.0). none n.integer) (λ c. ⊎_elim (λ (n : IsStructureTarget s e.0).
+          target_structure s store entry next ready here h e.0 fresh (covered_few e.0 covered) little are v
           (e.1.claims typed here covered (target_scalar e.0 note.ctype row.row) h fresh little are (one_part (λ a. Node-F.Un op.Deref a) (λ a b e. cc) _ e.0 judged) k)
-          (λ counted. ranged_pointer s store entry next ready here h e.0 fresh (covered_few e.0 covered) little are place (ap is_counted_kind (ap kind_of (viewed_type e.0)) ∙ counted) fault) n.through place) c) node)),
+          (λ counted. ranged_pointer s store entry next ready here h e.0 fresh (covered_few e.0 covered) little are place (ap is_counted_kind (ap kind_of (viewed_type e.0)) ∙ counted) fault) n.tag n.struct n.through place) (λ (n : IsPointerTarget s store e.0). no_pointer_there n.pointer) c) c) node)),
       not_raw e.0 covered,
     )
       where
@@ -509,18 +537,22 @@ module _ (globals : Globals) (s : Setting) (agrees : Agrees globals s) (declares
         is : element_of e.0.note.ctype ≡ note.ctype
         is = some_if (is_pointer e.0.note.ctype && not (is_void (element_of e.0.note.ctype))) (element_of e.0.note.ctype) note.ctype row.row
 
+        no_pointer_there : is_pointer (element_of e.0.note.ctype) ≡ true → IsStructurePlace store (element_of e.0.note.ctype) (target_place s.text.layout e.0.note.ctype place v)
+        no_pointer_there i = absurd (no_structure note.ctype (pointer_scalar note.ctype (ap is_pointer (sym is) ∙ i)) tag struct)
+
         none : is_integer (element_of e.0.note.ctype) ≡ true → IsStructurePlace store (element_of e.0.note.ctype) (target_place s.text.layout e.0.note.ctype place v)
         none i = absurd (no_structure note.ctype (integer_scalar note.ctype (ap is_integer (sym is) ∙ i)) tag struct)
     place_step (Node-F.Index e f) note place row typed covered node structure tag struct fresh little are judged fault k =
         let parts = two_parts (λ a b. Node-F.Index a b) (λ a b c d e. (cc, cc)) _ _ e.0 f.0 judged in (
           subst (λ u. IsStructurePlace store u (element_place s.text.layout (part_of e.0).ctype place (integer_of (part_of f.0).ctype) v w)) is
               (subst (λ t. IsStructurePlace store (element_of e.0.note.ctype) (element_place s.text.layout t place (integer_of (part_of f.0).ctype) v w)) (sym (parted_type e.0))
-              (⊎_elim (λ (n : IsElement e.0). absurd (no_structure note.ctype (integer_scalar note.ctype (ap is_integer (sym is) ∙ n.integer)) tag struct)) (λ (n : IsStructureElement e.0).
-              element_structure s store entry next ready here h e.0 n.tag n.struct fresh (covered_few e.0 covered.0) first are v
+              (⊎_elim (λ (n : IsElement e.0). absurd (no_structure note.ctype (integer_scalar note.ctype (ap is_integer (sym is) ∙ n.integer)) tag struct)) (λ c. ⊎_elim (λ (n : IsStructureElement e.0).
+              element_structure s store entry next ready here h e.0 fresh (covered_few e.0 covered.0) first are v
               (left_claims e f typed covered (index_scalar e.0.note.ctype f.0.note.ctype note.ctype row.row) fresh first are k parts.0)
-              (λ counted. ranged_pointer s store entry next ready here h e.0 fresh (covered_few e.0 covered.0) first are place (ap is_counted_kind (ap kind_of (viewed_type e.0)) ∙ counted) fault) n.array place
+              (λ counted. ranged_pointer s store entry next ready here h e.0 fresh (covered_few e.0 covered.0) first are place (ap is_counted_kind (ap kind_of (viewed_type e.0)) ∙ counted) fault) n.tag n.struct n.array place
               (integer_of (part_of f.0).ctype) w (ExprClaims s store entry here f.0)
-              (right_claims e f typed covered (index_scalar e.0.note.ctype f.0.note.ctype note.ctype row.row) fresh first are k here.at (right_room fresh ((view s.frame e.0).fresh here.at) ((view s.frame f.0).fresh here.at) little) parts.1 h)) node)),
+              (right_claims e f typed covered (index_scalar e.0.note.ctype f.0.note.ctype note.ctype row.row) fresh first are k here.at (right_room fresh ((view s.frame e.0).fresh here.at) ((view s.frame f.0).fresh here.at) little) parts.1 h))
+              (λ n. absurd (no_structure note.ctype (pointer_scalar note.ctype (ap is_pointer (sym is) ∙ n.0.pointer)) tag struct)) c) node)),
           not_raw e.0 covered.0,
         )
       where
@@ -553,9 +585,7 @@ module _ (globals : Globals) (s : Setting) (agrees : Agrees globals s) (declares
         is = some_if (is_pointer e.0.note.ctype && not (is_void (element_of e.0.note.ctype))) (element_of e.0.note.ctype) note.ctype row.row
 
         bare : is_pointer note.ctype ≡ false
-        bare = subst (λ t. is_pointer t ≡ false) is
-            (⊎_elim (λ (n : IsElement e.0). no_pointer (element_of e.0.note.ctype) n.integer) (λ c. ⊎_elim (λ (n : IsSingle s e.0). no_pointer (element_of e.0.note.ctype) n.integer)
-            (λ (n : IsStructureTarget s e.0). structure_pointer (element_of e.0.note.ctype) n.tag n.struct) c) node)
+        bare = addressed
     address_step (Node-F.Index e f) note place row typed covered node addressed fresh little are judged fault r pointer array element k =
         let parts = two_parts (λ a b. Node-F.Index a b) (λ a b c d e. (cc, cc)) _ _ e.0 f.0 judged in
         let small = covered_sized e.0 covered.0 in
@@ -593,8 +623,7 @@ module _ (globals : Globals) (s : Setting) (agrees : Agrees globals s) (declares
         scalars = index_scalar e.0.note.ctype f.0.note.ctype note.ctype row.row
 
         bare : is_pointer note.ctype ≡ false
-        bare = subst (λ t. is_pointer t ≡ false) is
-            (⊎_elim (λ (n : IsElement e.0). no_pointer (element_of e.0.note.ctype) n.integer) (λ (n : IsStructureElement e.0). structure_pointer (element_of e.0.note.ctype) n.tag n.struct) node)
+        bare = addressed
     address_step (Node-F.Name (name.Static j)) note place row typed covered node addressed fresh little are judged fault r pointer array element k =
         object_claims s store entry next ready here h note.ctype r pointer array element (node_view s.frame (Node-F.Un op.Address (expr_view (record { node = node_view s.frame (Node-F.Name (name.Static j)); pos = place; note = note }))))
         (address_node s here note place r (node_view s.frame (Node-F.Name (name.Static j))) (λ widened. refl) (λ own first fresh at. refl) (λ first facts. refl)) j addressed
@@ -604,9 +633,9 @@ module _ (globals : Globals) (s : Setting) (agrees : Agrees globals s) (declares
         (address_node s here note place r (node_view s.frame (Node-F.Arrow (view s.frame e.0) n spot)) (fresh_same s.frame e.0 here.at)
         (λ own first fresh at. ap (λ b. if b then range.Missing else range_of_one own.value) (not_raw e.0 covered)) (λ first facts. refl))
         (element_of e.0.note.ctype) n addressed.0 (target_place s.text.layout e.0.note.ctype place v)
-        (target_structure s store entry next ready here h e.0 addressed.0.tag addressed.0.struct fresh (covered_few e.0 covered) little are v
+        (target_structure s store entry next ready here h e.0 fresh (covered_few e.0 covered) little are v
         (e.1.claims typed here covered (through_scalar s e.0.note.ctype addressed.1) h fresh little are (one_part (λ a. Node-F.Arrow a n spot) (λ a b e. cc) _ e.0 judged) k)
-        (λ counted. ranged_pointer s store entry next ready here h e.0 fresh (covered_few e.0 covered) little are place (ap is_counted_kind (ap kind_of (viewed_type e.0)) ∙ counted) fault) addressed.1 place))
+        (λ counted. ranged_pointer s store entry next ready here h e.0 fresh (covered_few e.0 covered) little are place (ap is_counted_kind (ap kind_of (viewed_type e.0)) ∙ counted) fault) addressed.0.tag addressed.0.struct addressed.1 place))
       where
         v : Expr
         v = (part_of e.0).value s.text s.variables k

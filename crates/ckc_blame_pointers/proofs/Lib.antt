@@ -32,4 +32,6 @@ pub mod Held
 pub mod Scalars
 pub mod Dots
 pub mod Singles
+pub mod Reached
+pub mod Pointees
 pub mod Arrows

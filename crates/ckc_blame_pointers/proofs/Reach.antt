@@ -118,6 +118,12 @@ abbrev pub got : Store → Structs → CType → ℕ → Option Count → ℕ �
 got store structs t offset (Some n) a = loads_pointer store (pointee_of structs t) n a (place_in a offset)
 got store structs t offset None a = loads store (width_of t) (place_in a offset)
 
+-- what is read at a place
+pub place_reads : (store : Store) (structs : Structs) (t : CType) (q : Place) (o : Option Count) → evaluated store (read_at structs t o q) ≡ given (element_at store q) (got store structs t q.access.offset o)
+place_reads store structs t q (Some m) =
+    accessed_is q.access q.access.offset (evaluated store q.pointer) (evaluated store q.index) (λ a. loads_pointer store (pointee_of structs t) m a (place_in a q.access.offset))
+place_reads store structs t q None = accessed_is q.access q.access.offset (evaluated store q.pointer) (evaluated store q.index) (λ a. loads store (width_of t) (place_in a q.access.offset))
+
 module _ (store : Store) (structs : Structs) (u : CType) (q : Place) (place : IsStructurePlace store u q) (tag : ℕ) (n : Name) where
   abbrev offset_there : ℕ
   offset_there = offset_of structs tag (member_number n)
