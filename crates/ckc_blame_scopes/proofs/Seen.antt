@@ -2,6 +2,7 @@
 use Rattle.std.proofs.Common.{◌≡◌, refl, sym, subst, ℕ, length, arith}
 use Rattle.std.specs.Prelude.{◌<◌, Some, IfSome, Ok}
 use Rattle.std.specs.List.{Contains}
+use Rattle.ckc_base.specs.declared.arithmetic.Mode.{Mode}
 use Rattle.ckc_base.specs.Outcomes.{Outcome}
 use Rattle.ckc_syntax.specs.declared.tree.Name.{Name}
 use Rattle.ckc_syntax.specs.declared.tree.Name.TheVariants as name
@@ -43,7 +44,7 @@ module _ (s : Setting) (here there : Here) (step : Code → Code) (i : IsStep s 
       let new : IsNewLocal s here.seen k = i.scope.new d k (subst (λ ds. Contains ds d) (sym (declared_are i.before (Act-F.Local d) is)) (0, omega arith, refl)) named in
       (new.unnamed, λ c. (let less = new.later k c in absurd (omega (arith, less))), new.there)
 
-module _ (s : Setting) (here one other : Here) (x : Expr) (c : IsCondition s here x one other) where
+module _ (s : Setting) (mode : Mode) (here one other : Here) (x : Expr) (c : IsCondition s mode here x one other) where
   test_only : (e : NotedExpr) → c.before ≡ Some e → NamesOnly here.seen e
   test_only e is = subst (λ o. IfSome o (NamesOnly here.seen)) is c.scope.names
 

@@ -2,6 +2,7 @@
 
 ghost use Rattle.std.specs.Prelude.{◌≡◌, ℕ, ◌<◌, length, Some, Ok};
 ghost use Rattle.std.specs.List.{Contains};
+ghost use Rattle.ckc_base.specs.declared.arithmetic.Mode.{Mode};
 ghost use Rattle.ckc_syntax.specs.declared.tree.Name.{Name};
 ghost use Rattle.ckc_syntax.specs.declared.tree.Name.TheVariants as name;
 ghost use Rattle.ckc_syntax.specs.declared.tree.Act.{Act-F, out-Act};
@@ -30,19 +31,19 @@ pub fn names_are_seen()
         (i : IsStep s here step there) (e f : NotedExpr) (fresh : ℕ) (at : State) →
         Contains (exprs_in i.before) e → (view s.frame e).judged fresh at ≡ Ok f
         → NamesSeen here.seen f }
-    ensures test { (s : Setting) (here yes no : Here) (x : Expr)
-        (c : IsCondition s here x yes no) (e : NotedExpr) → c.before ≡ Some e
+    ensures test { (s : Setting) (mode : Mode) (here yes no : Here) (x : Expr)
+        (c : IsCondition s mode here x yes no) (e : NotedExpr) → c.before ≡ Some e
         → NamesSeen here.seen e }
-    ensures test_judged { (s : Setting) (here yes no : Here) (x : Expr)
-        (c : IsCondition s here x yes no) (e f : NotedExpr) (fresh : ℕ) (at : State) →
+    ensures test_judged { (s : Setting) (mode : Mode) (here yes no : Here) (x : Expr)
+        (c : IsCondition s mode here x yes no) (e f : NotedExpr) (fresh : ℕ) (at : State) →
         c.before ≡ Some e → (view s.frame e).judged fresh at ≡ Ok f → NamesSeen here.seen f }
     ensures step_locals { (p : Typed) (s : Setting) (f : Function) (here there : Here)
         (step : Code → Code) (k : ℕ) → IsFunction p s f → length s.variables < 1024
         → IsStep s here step there → Contains here.seen k
         → (l : Local) × (local_at s.frame k ≡ Some l) }
-    ensures test_locals { (p : Typed) (s : Setting) (f : Function) (here yes no : Here)
-        (x : Expr) (k : ℕ) → IsFunction p s f → length s.variables < 1024
-        → IsCondition s here x yes no → Contains here.seen k
+    ensures test_locals { (p : Typed) (s : Setting) (f : Function) (mode : Mode)
+        (here yes no : Here) (x : Expr) (k : ℕ) → IsFunction p s f → length s.variables < 1024
+        → IsCondition s mode here x yes no → Contains here.seen k
         → (l : Local) × (local_at s.frame k ≡ Some l) }
 {}
 

@@ -8,5 +8,5 @@ returns c = record {
   test = test_names;
   test_judged = test_keeps;
   step_locals = λ p s f here there step k is few i seen. local_there p s f k is few (i.scope.known k seen);
-  test_locals = λ p s f here one other x k is few c seen. local_there p s f k is few (c.scope.known k seen);
+  test_locals = λ p s f mode here one other x k is few c seen. local_there p s f k is few (c.scope.known k seen);
 }
