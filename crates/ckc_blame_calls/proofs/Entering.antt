@@ -99,7 +99,7 @@ module _ (globals : Globals) (variables : List Variable) (s : Setting) (store : 
   all_become [] (e ∷ es) fs k from typed h g = absurd h
   all_become (t ∷ ts) [] fs k from typed h g = absurd h
 
-many_arguments : (ts : List CType) (es : List NotedExpr) → typing.AreArguments ts es → length es ≡ length ts
+pub many_arguments : (ts : List CType) (es : List NotedExpr) → typing.AreArguments ts es → length es ≡ length ts
 many_arguments [] [] h = refl
 many_arguments (t ∷ ts) (e ∷ es) h = ap suc (many_arguments ts es h.1)
 many_arguments [] (e ∷ es) h = absurd h
@@ -351,7 +351,7 @@ module _ (p : Typed) (s : State) (h : Sound p s) (j : IsJudged p) (nested : AreN
       goes : has_room (active s) ≡ true → IsSoundMove p (enters (at_work s step_work) target ns (slice_get (functions_elaborated p) number))
       goes room =
           subst (λ o. IsSoundMove p (enters (at_work s step_work) target ns o)) (sym there)
-          (entered_sound p s h c.called spot target number es step_work c.callee ns f room there c.function passed_before (record { exits = stands.exits; work = stands.work; holds = stands.holds }))
+          (entered_sound p s h c.called spot target number es step_work c.callee ns f room there c.function (step.head ∙ c.head) passed_before (record { exits = stands.exits; work = stands.work; holds = stands.holds }))
 
       called_soundly : IsSoundMove p (calls (functions_elaborated p) (at_work s step_work) target number spot.at ns)
       called_soundly = by (has_room (active s)) refl
