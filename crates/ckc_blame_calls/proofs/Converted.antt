@@ -1,5 +1,5 @@
 -- What a value that is converted to a type is there.
-use Rattle.std.proofs.Common.{◌≡◌, ◌⊎◌, inl, inr, ⊎_elim, refl, sym, ap, subst, ◌∙◌, ℕ, List, rules, arith}
+use Rattle.std.proofs.Common.{◌≡◌, ◌⊎◌, ⊎_elim, refl, sym, ap, subst, ◌∙◌, ℕ, List, rules, arith}
 use Rattle.std.specs.Prelude.{◌%◌, ◌<◌, ◌^◌, Bool, true, false, ◌&&◌, ◌||◌, if◌then◌else◌, Option, None, Some, Ok, Err}
 use Rattle.std.proofs.lemmas.Bool.{and_parts}
 use Rattle.ckc_base.specs.declared.arithmetic.Mode.TheVariants.{Checked}
@@ -32,6 +32,7 @@ use Rattle.ckc_source.specs.declared.outcome.Range.TheVariants.{Without}
 use Rattle.ckc_source.specs.declared.outcome.Value.{Value}
 use Rattle.ckc_build_values.specs.Kinds.{pointee_of, size_behind}
 use Rattle.ckc_build_values.specs.Operators.{converted}
+use Rattle.ckc_blame_sound.proofs.Facts.{one_of}
 use Rattle.ckc_blame_slots.proofs.Same.{same_equal}
 use Rattle.ckc_blame_numbers.proofs.Types.{no_pointer}
 use Rattle.ckc_blame_calls.proofs.Looser.{IsLooser}
@@ -191,10 +192,6 @@ module _ (globals : Globals) (variables : List Variable) (t : CType) (e : NotedE
       let r = and_parts (is_pointer e.note.ctype) (same_type (element_of t) (element_of e.note.ctype)) q.1 in
       Pointers to (same_equal (element_of t) (element_of e.note.ctype) r.1) (allowed_keep (kind_of e.note.ctype) (kind_of t) p.1)
 
-  or_parts : (a b : Bool) → (a || b) ≡ true → (a ≡ true) ⊎ (b ≡ true)
-  or_parts true b h = inl refl
-  or_parts false b h = inr h
-
   no_allocation : is_allocation e ≡ false → takes_allocation t e ≡ false
   no_allocation h = ap (λ b. b && same_element t e.note.ctype) h
 
@@ -206,9 +203,9 @@ module _ (globals : Globals) (variables : List Variable) (t : CType) (e : NotedE
       (λ n. ⊎_elim
       (λ s. from_string p.0 s)
       (λ a. from_pointer p.0 (subst (λ b. (b || takes_pointer kind_converts t e) ≡ true) (no_allocation whole) a))
-      (or_parts (takes_string t e) (takes_allocation t e || takes_pointer kind_converts t e) n))
-      (or_parts (is_null e) (takes_string t e || (takes_allocation t e || takes_pointer kind_converts t e)) p.1))
-      (or_parts (is_integer t && is_integer e.note.ctype) (is_pointer t && (is_null e || (takes_string t e || (takes_allocation t e || takes_pointer kind_converts t e)))) h)
+      (one_of (takes_string t e) (takes_allocation t e || takes_pointer kind_converts t e) n))
+      (one_of (is_null e) (takes_string t e || (takes_allocation t e || takes_pointer kind_converts t e)) p.1))
+      (one_of (is_integer t && is_integer e.note.ctype) (is_pointer t && (is_null e || (takes_string t e || (takes_allocation t e || takes_pointer kind_converts t e)))) h)
 
 -- a pointer to the same elements
 pub element_looser : (structs : Structs) (t u : CType) → element_of t ≡ element_of u → (is_terminated_kind (kind_of t) ≡ true → is_terminated_kind (kind_of u) ≡ true)
@@ -225,10 +222,6 @@ plain true b c s l p x y z e = absurd cc
 plain false true c s l p x y z e = absurd cc
 plain false false true s l p x y z e = absurd cc
 
-either : (a b : Bool) → (a || b) ≡ true → (a ≡ true) ⊎ (b ≡ true)
-either true b h = inl refl
-either false b h = inr h
-
 pub call_looser : (structs : Structs) (t : CType) (x : NotedExpr) (n : Name) (fs : List NotedExpr) → out-Node Name Note x.node ≡ Node-F.Call n fs → converts t x ≡ true → is_pointer x.note.ctype ≡ true
     → IsLooser (pointee_of structs x.note.ctype) (pointee_of structs t)
 call_looser structs t x n fs is c pointer = ⊎_elim
@@ -242,4 +235,4 @@ call_looser structs t x n fs is c pointer = ⊎_elim
     let a = and_parts (is_pointer t) (is_pointer x.note.ctype && same_type (element_of t) (element_of x.note.ctype)) p.0 in
     let b = and_parts (is_pointer x.note.ctype) (same_type (element_of t) (element_of x.note.ctype)) a.1 in
     element_looser structs t x.note.ctype (same_equal (element_of t) (element_of x.note.ctype) b.1) (allowed_keep (kind_of x.note.ctype) (kind_of t) p.1))
-    (either (is_integer t && is_integer x.note.ctype) (is_pointer t && (is_null x || (takes_string t x || (takes_allocation t x || takes_pointer kind_converts t x)))) c)
+    (one_of (is_integer t && is_integer x.note.ctype) (is_pointer t && (is_null x || (takes_string t x || (takes_allocation t x || takes_pointer kind_converts t x)))) c)

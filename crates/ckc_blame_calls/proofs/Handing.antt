@@ -63,6 +63,11 @@ use Rattle.ckc_blame_calls.proofs.Numbering.{own_valuation, own_values, valuatio
 use Rattle.ckc_blame_calls.proofs.Results.{call_form, from_call}
 use Rattle.ckc_blame_calls.proofs.Stepping.{IsCallStep, call_step}
 
+-- the head of a function tells the type of its result
+pub result_type : (p : Typed) (t : Setting) (f : Function) → IsFunction p t f → t.head.result ≡ t.result
+unfolding setting_of
+result_type p t f i = ap (λ (x : Setting). x.head.result) i.judged ∙ ap (λ (x : Setting). x.result) (sym i.judged)
+
 -- a result that may be read is what is read
 read_gives : (shapes : List Shape) (blocks : List Block) (to : Pointee) (n : ℕ) (low high : ℤ) → IsOk (reads shapes blocks to n low high) → given (reads shapes blocks to n low high) (λ v. Ok v.number) ≡ Ok n
 read_gives shapes blocks to n low high h = by (n == 0) refl h
@@ -144,12 +149,8 @@ module _ (p : Typed) (s : State) (h : Sound p s) (j : IsJudged p) (few : HaveFew
     same_head : h.setting.head ≡ callee.called.head
     same_head = let both : ◌≡◌ {A = Option HeadBounds} (Some h.setting.head) (Some callee.called.head) = sym head_there ∙ callee.head in cc
 
-    result_type : (t : Setting) (f : Function) → IsFunction p t f → t.head.result ≡ t.result
-    unfolding setting_of
-    result_type t f i = ap (λ (x : Setting). x.head.result) i.judged ∙ ap (λ (x : Setting). x.result) (sym i.judged)
-
     type_is : h.setting.head.result ≡ step.call.note.ctype
-    type_is = ap (λ (x : HeadBounds). x.result) same_head ∙ result_type callee.called callee.callee callee.function ∙ sym callee.result ∙ sym row.3
+    type_is = ap (λ (x : HeadBounds). x.result) same_head ∙ result_type p callee.called callee.callee callee.function ∙ sym callee.result ∙ sym row.3
 
     params_count : length step.is.args ≡ length h.setting.head.params
     params_count =

@@ -4,7 +4,7 @@ use Rattle.std.specs.Prelude.{◌<◌, ◌^◌, ◌%◌, Bool, true, false, if�
 use Rattle.std.specs.List.{All}
 use Rattle.ckc_base.specs.declared.arithmetic.Mode.TheVariants.{Checked}
 use Rattle.ckc_base.specs.Steps.{Move, Halts}
-use Rattle.ckc_base.specs.Traces.{Event, Ended, Stopped}
+use Rattle.ckc_base.specs.Traces.{Event, Ended}
 use Rattle.ckc_types.specs.declared.types.CType.{CType}
 use Rattle.ckc_typed.specs.declared.typed.Typed.{Typed}
 use Rattle.ckc_typed.specs.Statements.{is_result}
@@ -22,7 +22,7 @@ use Rattle.ckc_source.specs.declared.outcome.Halt.{Halt}
 use Rattle.ckc_source.specs.declared.outcome.Halt.TheVariants as halt
 use Rattle.ckc_source.specs.declared.outcome.Value.{Value}
 use Rattle.ckc_source.specs.declared.stmt.Spot.{Spot}
-use Rattle.ckc_source.specs.Code.{Expr, Code, Function, Return}
+use Rattle.ckc_source.specs.Code.{Expr, Code, Return}
 use Rattle.ckc_source.specs.Eval.{Store, evaluated}
 use Rattle.ckc_source.specs.States.{State, Work, Rest, Caller, settled}
 use Rattle.ckc_source.specs.Steps.{and_moves, returns, source_step}
@@ -30,7 +30,7 @@ use Rattle.ckc_build_elaborate.specs.Elaborated.{elaborated}
 use Rattle.ckc_build_elaborate.specs.Steps.{returned}
 use Rattle.ckc_build_values.specs.Expressions.{expr_elaborated}
 use Rattle.ckc_build_values.specs.Operators.{converted}
-use Rattle.ckc_blame_sound.specs.Settings.{Setting, IsFunction, setting_of}
+use Rattle.ckc_blame_sound.specs.Settings.{Setting, setting_of}
 use Rattle.ckc_blame_sound.specs.Bodies.{globals_of_text}
 use Rattle.ckc_blame_sound.specs.Calls.{store_in}
 use Rattle.ckc_blame_sound.specs.Sound.{IsPlaced, Sound}
@@ -52,7 +52,8 @@ use Rattle.ckc_blame_calls.specs.Arguments.{GivesWord}
 use Rattle.ckc_blame_calls.specs.Callees.{HaveCallees, HaveFewVariables}
 use Rattle.ckc_blame_calls.specs.Results.{GivesWordIf, returned_by, ResultsAreKnown, ResultsLeadOn, ObjectsKeepResults}
 use Rattle.ckc_blame_calls.proofs.Converted.{taken, converted_is, converted_halts, Becomes, becomes}
-use Rattle.ckc_blame_calls.proofs.Handing.{IsBoundedResult, returns_soundly}
+use Rattle.ckc_blame_calls.proofs.Entering.{stopped}
+use Rattle.ckc_blame_calls.proofs.Handing.{result_type, IsBoundedResult, returns_soundly}
 use Rattle.ckc_blame_calls.proofs.Numbering.{own_valuation, own_values, valuation_with, with_values, with_own}
 use Rattle.ckc_blame_calls.proofs.Returning.{JudgedIf, IsReturnStep, return_step}
 use Rattle.ckc_blame_calls.proofs.Taken.{word_is, null_taken, wide_taken, narrow_taken, placed_taken}
@@ -61,19 +62,12 @@ use Rattle.ckc_blame_calls.proofs.Views.{allocates_is}
 ended : (p : Typed) (n : ℕ) → IsSoundMove p (Halts [] (Ended n))
 ended p n e = cc
 
-stopped : (p : Typed) (events : List Event) (why : _) (at : _) → IsSoundMove p (Halts events (Stopped why at))
-stopped p events why at e = cc
-
 taken_small : (t : CType) (w : ℕ) → w < 2 ^ 32 → taken t w < 2 ^ 32
 taken_small t w h = by (is_char t)
   where
     by : (b : Bool) → (if b then w % 256 else w) < 2 ^ 32
     by true = omega arith
     by false = h
-
-result_type : (p : Typed) (t : Setting) (f : Function) → IsFunction p t f → t.head.result ≡ t.result
-unfolding setting_of
-result_type p t f i = ap (λ (x : Setting). x.head.result) i.judged ∙ ap (λ (x : Setting). x.result) (sym i.judged)
 
 -- ---- what is known of a value that is converted to the type of the result
 

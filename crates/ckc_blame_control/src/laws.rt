@@ -179,7 +179,8 @@ pub fn states_stay_sound()
 {}
 
 /// The state in a function that was called is sound if what the function begins with is judged from a
-/// point that holds, the call is judged by its head, and the arguments stand for what its parameters have.
+/// point that holds, the call is judged by the head of the function, and the arguments stand for what
+/// its parameters have.
 pub fn calls_enter_soundly()
     ensures { (p : Typed) (s : State) (h : Sound p s) (called : Setting) (spot : Spot)
         (target : Option Kept) (number : ℕ) (es : List Expr) (next : List Work)
