@@ -1,5 +1,5 @@
 -- What a value that is converted to a type is there.
-use Rattle.std.proofs.Common.{◌≡◌, ◌⊎◌, inl, inr, ⊎_elim, refl, sym, ap, subst, ◌∙◌, ℕ, List, rules, arith}
+use Rattle.std.proofs.Common.{◌≡◌, ◌⊎◌, ⊎_elim, refl, sym, ap, subst, ◌∙◌, ℕ, List, rules, arith}
 use Rattle.std.specs.Prelude.{◌%◌, ◌<◌, ◌^◌, Bool, true, false, ◌&&◌, ◌||◌, if◌then◌else◌, Option, None, Some, Ok, Err}
 use Rattle.std.proofs.lemmas.Bool.{and_parts}
 use Rattle.ckc_base.specs.declared.arithmetic.Mode.TheVariants.{Checked}
@@ -14,7 +14,7 @@ use Rattle.ckc_syntax.specs.declared.tree.Node.{Node-F, out-Node}
 use Rattle.ckc_typed.specs.declared.environment.Globals.{Globals}
 use Rattle.ckc_typed.specs.declared.environment.Variable.{Variable}
 use Rattle.ckc_typed.specs.declared.typed.Note.{Note}
-use Rattle.ckc_typed.specs.Conversions.{is_null, is_null_form, is_string, is_string_form, is_allocation, kind_converts, kinds_allow, is_terminated_kind, takes_string, takes_allocation, takes_pointer, converts}
+use Rattle.ckc_typed.specs.Conversions.{is_null, is_null_form, is_string, is_string_form, is_allocation, is_allocation_form, kind_converts, kinds_allow, is_terminated_kind, takes_string, takes_allocation, takes_pointer, converts}
 use Rattle.ckc_typed.specs.Expressions.{number_type, string_type}
 use Rattle.ckc_typed.specs.Operands.{same_element}
 use Rattle.ckc_typed.specs.Trees.{NotedExpr, NotedLayer}
@@ -32,7 +32,9 @@ use Rattle.ckc_source.specs.declared.outcome.Range.TheVariants.{Without}
 use Rattle.ckc_source.specs.declared.outcome.Value.{Value}
 use Rattle.ckc_build_values.specs.Kinds.{pointee_of, size_behind}
 use Rattle.ckc_build_values.specs.Operators.{converted}
+use Rattle.ckc_blame_sound.proofs.Facts.{one_of}
 use Rattle.ckc_blame_slots.proofs.Same.{same_equal}
+use Rattle.ckc_blame_numbers.proofs.Types.{no_pointer}
 use Rattle.ckc_blame_calls.proofs.Looser.{IsLooser}
 use Rattle.ckc_blame_calls.proofs.Views.{viewed_layer, view_is}
 
@@ -190,10 +192,6 @@ module _ (globals : Globals) (variables : List Variable) (t : CType) (e : NotedE
       let r = and_parts (is_pointer e.note.ctype) (same_type (element_of t) (element_of e.note.ctype)) q.1 in
       Pointers to (same_equal (element_of t) (element_of e.note.ctype) r.1) (allowed_keep (kind_of e.note.ctype) (kind_of t) p.1)
 
-  or_parts : (a b : Bool) → (a || b) ≡ true → (a ≡ true) ⊎ (b ≡ true)
-  or_parts true b h = inl refl
-  or_parts false b h = inr h
-
   no_allocation : is_allocation e ≡ false → takes_allocation t e ≡ false
   no_allocation h = ap (λ b. b && same_element t e.note.ctype) h
 
@@ -205,9 +203,9 @@ module _ (globals : Globals) (variables : List Variable) (t : CType) (e : NotedE
       (λ n. ⊎_elim
       (λ s. from_string p.0 s)
       (λ a. from_pointer p.0 (subst (λ b. (b || takes_pointer kind_converts t e) ≡ true) (no_allocation whole) a))
-      (or_parts (takes_string t e) (takes_allocation t e || takes_pointer kind_converts t e) n))
-      (or_parts (is_null e) (takes_string t e || (takes_allocation t e || takes_pointer kind_converts t e)) p.1))
-      (or_parts (is_integer t && is_integer e.note.ctype) (is_pointer t && (is_null e || (takes_string t e || (takes_allocation t e || takes_pointer kind_converts t e)))) h)
+      (one_of (takes_string t e) (takes_allocation t e || takes_pointer kind_converts t e) n))
+      (one_of (is_null e) (takes_string t e || (takes_allocation t e || takes_pointer kind_converts t e)) p.1))
+      (one_of (is_integer t && is_integer e.note.ctype) (is_pointer t && (is_null e || (takes_string t e || (takes_allocation t e || takes_pointer kind_converts t e)))) h)
 
 -- a pointer to the same elements
 pub element_looser : (structs : Structs) (t u : CType) → element_of t ≡ element_of u → (is_terminated_kind (kind_of t) ≡ true → is_terminated_kind (kind_of u) ≡ true)
@@ -216,3 +214,25 @@ element_looser structs t u same ends = record { element = same; size = element_s
   where
     element_size : (structs : Structs) (t u : CType) → element_of t ≡ element_of u → size_behind structs t ≡ size_behind structs u
     element_size structs t u same = rw same refl
+
+-- a call converts to pointers to the same elements alone
+plain : (a b c s l p : Bool) → a ≡ false → b ≡ false → c ≡ false → (a || ((b && s) || ((c && l) || p))) ≡ true → p ≡ true
+plain false false false s l p x y z e = e
+plain true b c s l p x y z e = absurd cc
+plain false true c s l p x y z e = absurd cc
+plain false false true s l p x y z e = absurd cc
+
+pub call_looser : (structs : Structs) (t : CType) (x : NotedExpr) (n : Name) (fs : List NotedExpr) → out-Node Name Note x.node ≡ Node-F.Call n fs → converts t x ≡ true → is_pointer x.note.ctype ≡ true
+    → IsLooser (pointee_of structs x.note.ctype) (pointee_of structs t)
+call_looser structs t x n fs is c pointer = ⊎_elim
+    (λ i. let q = and_parts (is_integer t) (is_integer x.note.ctype) i in let none = no_pointer x.note.ctype q.1 in absurd cc)
+    (λ i.
+    let q = and_parts (is_pointer t) (is_null x || (takes_string t x || (takes_allocation t x || takes_pointer kind_converts t x))) i in
+    let r : takes_pointer kind_converts t x ≡ true =
+    plain (is_null x) (is_string x) (is_allocation x) (is_terminated_kind (kind_of t) && is_char (element_of t)) (same_element t x.note.ctype) (takes_pointer kind_converts t x)
+    (ap (λ (y : NotedLayer). is_null_form y) is) (ap (λ (y : NotedLayer). is_string_form y) is) (ap (λ (y : NotedLayer). is_allocation_form y) is) q.1 in
+    let p = and_parts (same_element t x.note.ctype) (kinds_allow kind_converts (kind_of x.note.ctype) (kind_of t)) r in
+    let a = and_parts (is_pointer t) (is_pointer x.note.ctype && same_type (element_of t) (element_of x.note.ctype)) p.0 in
+    let b = and_parts (is_pointer x.note.ctype) (same_type (element_of t) (element_of x.note.ctype)) a.1 in
+    element_looser structs t x.note.ctype (same_equal (element_of t) (element_of x.note.ctype) b.1) (allowed_keep (kind_of x.note.ctype) (kind_of t) p.1))
+    (one_of (is_integer t && is_integer x.note.ctype) (is_pointer t && (is_null x || (takes_string t x || (takes_allocation t x || takes_pointer kind_converts t x)))) c)

@@ -59,7 +59,7 @@ use Rattle.ckc_blame_sound.specs.Sound.{IsPlaced, Sound}
 use Rattle.ckc_blame_runs.specs.Moves.{IsSoundMove}
 use Rattle.ckc_blame_texts.specs.Judged.{IsJudged}
 use Rattle.ckc_blame_texts.specs.Numbered.{AreLocals}
-use Rattle.ckc_blame_texts.proofs.Frames.{declared_types}
+use Rattle.ckc_blame_texts.proofs.Frames.{types_declared, declared_types}
 use Rattle.ckc_blame_texts.proofs.Functions.{numbered}
 use Rattle.ckc_blame_nested.specs.Nested.{AreNested}
 use Rattle.ckc_blame_walk.specs.Walks.{leaving}
@@ -68,6 +68,7 @@ use Rattle.ckc_blame_contained.specs.Passed.{AreParameters}
 use Rattle.ckc_blame_contained.proofs.Agree.{facts_agree}
 use Rattle.ckc_blame_contained.proofs.Called.{parameters_bounded}
 use Rattle.ckc_blame_declared.proofs.HaveEnds.{locals_have_ends}
+use Rattle.ckc_blame_declared.proofs.Locals.{some_at, from_zero}
 use Rattle.ckc_blame_declared.proofs.Parameters.{parameters_are_locals}
 use Rattle.ckc_blame_first.specs.Entries.{params_seen, MayEnter}
 use Rattle.ckc_blame_first.proofs.Entered.{filled_at, params_many, entered_stands}
@@ -78,7 +79,7 @@ use Rattle.ckc_blame_given.specs.Gives.{Continues}
 use Rattle.ckc_blame_calls.specs.Arguments.{GiveWords, literals_before}
 use Rattle.ckc_blame_calls.specs.Callees.{IsCallee, HaveCallees, HaveFewVariables}
 use Rattle.ckc_blame_calls.proofs.Converted.{becomes}
-use Rattle.ckc_blame_calls.proofs.Evaluated.{types_of, AllBecome, AllGiven, AreNotStuck, all_given}
+use Rattle.ckc_blame_calls.proofs.Evaluated.{AllBecome, AllGiven, AreNotStuck, all_given}
 use Rattle.ckc_blame_calls.proofs.Numbering.{AreWords, numbers_after, values_are, own_valuation, own_values, valuation_with, with_values, with_own, with_continues}
 use Rattle.ckc_blame_calls.proofs.Passed.{AreTaken, AreEntered, taken_many, taken_words, taken_numbers, are_arguments, are_new}
 use Rattle.ckc_blame_calls.proofs.Stepping.{IsCallStep, call_step}
@@ -98,7 +99,7 @@ module _ (globals : Globals) (variables : List Variable) (s : Setting) (store : 
   all_become [] (e ∷ es) fs k from typed h g = absurd h
   all_become (t ∷ ts) [] fs k from typed h g = absurd h
 
-many_arguments : (ts : List CType) (es : List NotedExpr) → typing.AreArguments ts es → length es ≡ length ts
+pub many_arguments : (ts : List CType) (es : List NotedExpr) → typing.AreArguments ts es → length es ≡ length ts
 many_arguments [] [] h = refl
 many_arguments (t ∷ ts) (e ∷ es) h = ap suc (many_arguments ts es h.1)
 many_arguments [] (e ∷ es) h = absurd h
@@ -109,7 +110,7 @@ many_arguments (t ∷ ts) [] h = absurd h
 some_type : (o : Option Local) (l : Local) → o ≡ Some l → option_map (λ (x : Local). x.ctype) o ≡ Some l.ctype
 some_type o l e = ap (option_map (λ (x : Local). x.ctype)) e
 
-params_typed : (p : Typed) (head : NotedHead) (body : NotedStmt) (i : ℕ) (l : Local) → slice_get (setting_of p head body).head.params i ≡ Some l → slice_get (types_of head.params) i ≡ Some l.ctype
+params_typed : (p : Typed) (head : NotedHead) (body : NotedStmt) (i : ℕ) (l : Local) → slice_get (setting_of p head body).head.params i ≡ Some l → slice_get (types_declared head.params) i ≡ Some l.ctype
 unfolding setting_of
 params_typed p head body i l e =
     let params = declared_in (frame_of_text p) head.params in
@@ -136,15 +137,6 @@ seen_below k (d ∷ ds) h j c = ⊎_elim
         by zero l s = let same : k ≡ j = s in omega (arith, same)
         by (suc i) l s = absurd (omega arith)
 
-from_zero : (i : ℕ) → 0 + i ≡ i
-from_zero i = omega arith
-
--- there is a parameter at each number below theirs
-param_at : (ls : List Local) (k : ℕ) → k < length ls → (l : Local) × (slice_get ls k ≡ Some l)
-param_at [] k h = absurd (omega arith)
-param_at (l ∷ ls) zero h = (l, refl)
-param_at (l ∷ ls) (suc k) h = param_at ls k (omega arith)
-
 params_few : (p : Typed) (s : Setting) (f : Function) → IsFunction p s f → length s.variables < 1024 → length s.head.params < 1024
 unfolding setting_of
 params_few p s f i few =
@@ -156,7 +148,7 @@ params_few p s f i few =
 
 -- ---- the step
 
-stopped : (p : Typed) (events : List Event) (why : _) (at : _) → IsSoundMove p (Halts events (Stopped why at))
+pub stopped : (p : Typed) (events : List Event) (why : _) (at : _) → IsSoundMove p (Halts events (Stopped why at))
 stopped p events why at e = cc
 
 module _ (p : Typed) (s : State) (h : Sound p s) (j : IsJudged p) (nested : AreNested j.typed.tree.items) (few : HaveFewVariables p) (spot : Spot) (target : Option Kept) (number : ℕ) (es : List Expr)
@@ -200,7 +192,7 @@ module _ (p : Typed) (s : State) (h : Sound p s) (j : IsJudged p) (nested : AreN
     params = c.called.head.params
 
     abbrev types : List CType
-    types = types_of c.function.head.params
+    types = types_declared c.function.head.params
 
     called_text : c.called.text ≡ p
     unfolding setting_of
@@ -310,7 +302,7 @@ module _ (p : Typed) (s : State) (h : Sound p s) (j : IsJudged p) (nested : AreN
       word_at : (k : ℕ) (l : Local) → k < length ns → local_at c.called.frame k ≡ Some l → IsWordOf l.ctype (slice_index ns k)
       word_at k l within there =
           let below : k < length params = let a = many.1 in let b = params_count in omega (arith, within, a, b) in
-          let q = param_at params k below in
+          let q = some_at params k below in
           let same : ◌≡◌ {A = Option Local} (Some q.0) (Some l) = sym (params_are.there k q.0 q.1) ∙ there in
           let is : q.0 ≡ l = cc in
           taken_words h.setting store g.after f.here.at types step.is.args first ns g.values.zero taken_now k l.ctype (typed_at k l (q.1 ∙ ap Some is))
@@ -350,7 +342,7 @@ module _ (p : Typed) (s : State) (h : Sound p s) (j : IsJudged p) (nested : AreN
       goes : has_room (active s) ≡ true → IsSoundMove p (enters (at_work s step_work) target ns (slice_get (functions_elaborated p) number))
       goes room =
           subst (λ o. IsSoundMove p (enters (at_work s step_work) target ns o)) (sym there)
-          (entered_sound p s h c.called spot target number es step_work c.callee ns f room there c.function passed_before (record { exits = stands.exits; work = stands.work; holds = stands.holds }))
+          (entered_sound p s h c.called spot target number es step_work c.callee ns f room there c.function (step.head ∙ c.head) passed_before (record { exits = stands.exits; work = stands.work; holds = stands.holds }))
 
       called_soundly : IsSoundMove p (calls (functions_elaborated p) (at_work s step_work) target number spot.at ns)
       called_soundly = by (has_room (active s)) refl

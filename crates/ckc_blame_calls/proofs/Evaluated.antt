@@ -1,5 +1,5 @@
 -- The arguments of a call are evaluated, one after another.
-use Rattle.std.proofs.Common.{◌≡◌, refl, sym, subst, ℕ, ◌+◌, List, [], ◌∷◌, map}
+use Rattle.std.proofs.Common.{◌≡◌, refl, sym, subst, ℕ, ◌+◌, List, [], ◌∷◌}
 use Rattle.std.specs.Prelude.{Result, Ok, Err}
 use Rattle.ckc_types.specs.declared.types.CType.{CType}
 use Rattle.ckc_typed.specs.Trees.{NotedDecl, NotedExpr}
@@ -16,16 +16,13 @@ use Rattle.ckc_build_values.specs.Operators.{converted}
 use Rattle.ckc_build_elaborate.specs.Steps.{arguments}
 use Rattle.ckc_blame_sound.specs.Settings.{Setting}
 use Rattle.ckc_blame_sound.specs.Valuations.{Valuation, IsValuationOf}
+use Rattle.ckc_blame_texts.proofs.Frames.{types_declared}
 use Rattle.ckc_blame_pointers.specs.Meant.{IsNotStuck}
 use Rattle.ckc_blame_given.specs.Gives.{Continues, GivesOn}
 use Rattle.ckc_blame_calls.specs.Arguments.{GivesWord, GiveWords, numbers_behind}
 use Rattle.ckc_blame_calls.proofs.Converted.{taken, converted_is, converted_halts, Becomes}
 use Rattle.ckc_blame_calls.proofs.Numbering.{AreWords, numbers_after, behind_words, behind_later, after_later, continues_on}
 use Rattle.ckc_blame_calls.proofs.Passed.{AreTaken}
-
--- the types of declarations
-abbrev pub types_of : List NotedDecl → List CType
-types_of ds = map (λ (d : NotedDecl). type_written d.ctype) ds
 
 -- each argument becomes a value of the type of its parameter
 abbrev pub AllBecome : List CType → List NotedExpr → Type 0
@@ -51,10 +48,10 @@ module _ (s : Setting) (store : Store) (at : State) where
   module _ (d : NotedDecl) (ds : List NotedDecl) (e : NotedExpr) (es : List NotedExpr) (from : Numbered) (before : Valuation) (words : AreWords from) (become : Becomes (type_written d.ctype) e) (x : Expr) (xs : List Expr)
       (one : GivesWord s store at e x from) where
     abbrev Given : List ℕ → Type 0
-    Given = AllGiven s store at (types_of (d ∷ ds)) (e ∷ es) from before
+    Given = AllGiven s store at (types_declared (d ∷ ds)) (e ∷ es) from before
 
     abbrev Rest : Valuation → List ℕ → Type 0
-    Rest after = AllGiven s store at (types_of ds) es (numbers_behind s at e from) after
+    Rest after = AllGiven s store at (types_declared ds) es (numbers_behind s at e from) after
 
     added : (w : ℕ) (g : GivesOn s store before at e from w) (n : ℕ) → n ≡ taken (type_written d.ctype) w → (ns : List ℕ) → Rest g.after ns → Given (n ∷ ns)
     added w g n is ns r =
@@ -98,8 +95,8 @@ module _ (s : Setting) (store : Store) (at : State) where
         by (Err (halt.Stopped why pos)) is g = subst (λ o. AreNotStuck Given (goes o)) (sym (converted_halts store (type_written d.ctype) x (halt.Stopped why pos) is)) tt
         by (Err halt.Stuck) is g = absurd g
 
-  pub all_given : (ds : List NotedDecl) (es fs : List NotedExpr) (k : ℕ) (from : Numbered) (before : Valuation) → AreWords from → IsValuationOf s store.locals before → AllBecome (types_of ds) es
-      → GiveWords s store at k es fs from → AreNotStuck (AllGiven s store at (types_of ds) es from before) (all_evaluated store (arguments s.text s.variables k ds fs))
+  pub all_given : (ds : List NotedDecl) (es fs : List NotedExpr) (k : ℕ) (from : Numbered) (before : Valuation) → AreWords from → IsValuationOf s store.locals before → AllBecome (types_declared ds) es
+      → GiveWords s store at k es fs from → AreNotStuck (AllGiven s store at (types_declared ds) es from before) (all_evaluated store (arguments s.text s.variables k ds fs))
   unfolding GiveWords
   all_given [] [] [] k from before words values become h = record { after = before; values = values; continues = record { address = λ n l. refl; number = λ x l. refl }; given = λ later v c. tt }
   all_given (d ∷ ds) (e ∷ es) (f ∷ fs) k from before words values become h =

@@ -8,3 +8,8 @@ pub mod Evaluated
 pub mod Calls
 pub mod Stepping
 pub mod Entering
+pub mod Returning
+pub mod Results
+pub mod Handing
+pub mod Known
+pub mod Returned

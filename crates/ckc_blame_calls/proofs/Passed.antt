@@ -25,7 +25,7 @@ use Rattle.ckc_blame_given.specs.Gives.{Gives}
 use Rattle.ckc_blame_calls.specs.Arguments.{numbers_behind}
 use Rattle.ckc_blame_calls.proofs.Converted.{taken, taken_word, Becomes}
 use Rattle.ckc_blame_calls.proofs.Numbering.{AreWords, behind_words, numbers_joined}
-use Rattle.ckc_blame_calls.proofs.Taken.{word_is, null_taken, wide_taken, narrow_taken, address_taken, number_taken}
+use Rattle.ckc_blame_calls.proofs.Taken.{word_is, null_taken, wide_taken, narrow_taken, placed_taken, number_taken}
 
 -- An argument gives the word w, and a parameter of type t gets the word n for it.
 pub record IsTaken (s : Setting) (store : Store) (v : Valuation) (at : State) (t : CType) (e : NotedExpr) (from : Numbered) (n : ℕ) : Type 0 where
@@ -102,7 +102,7 @@ module _ (s : Setting) (store : Store) (v : Valuation) (at : State) where
       one_argument (Some l) t e from n facts all h same =
           subst (λ m. IsArgumentIf s.text.layout v facts (Some l) ((view s.frame e).place from.value facts) ((view s.frame e).form facts) m) (sym (h.is ∙ ap (λ u. taken u h.word) (same l refl)))
           (record {
-            address = λ f pointer is. address_taken s store at v zero_is e from h.word l.ctype becomes h.gives facts f all pointer is;
+            address = λ f pointer is. placed_taken s store at v zero_is e from h.word l.ctype becomes h.gives facts f all is;
             number = λ f is. number_taken s store at v zero_is e from h.word l.ctype becomes h.gives facts f all is;
           })
         where

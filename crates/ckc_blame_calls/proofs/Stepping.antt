@@ -1,6 +1,6 @@
 -- The statement of a step that calls a function.
 use Rattle.std.proofs.Common.{◌≡◌, ◌⊎◌, ⊎_elim, refl, sym, ap, subst, ◌∙◌, ℕ, ◌+◌, List, [], ◌∷◌, map, rules, arith}
-use Rattle.std.specs.Prelude.{◌≤◌, ◌^◌, ◌-◌, ◌||◌, Bool, true, false, not, Option, Ok}
+use Rattle.std.specs.Prelude.{◌≤◌, ◌^◌, ◌-◌, ◌||◌, slice_get, Bool, true, false, not, Option, Some, Ok}
 use Rattle.ckc_base.specs.declared.places.Pos.{Pos}
 use Rattle.ckc_base.specs.Outcomes.{bind, unless}
 use Rattle.ckc_syntax.specs.declared.tree.Name.{Name}
@@ -15,9 +15,9 @@ use Rattle.ckc_typed.specs.declared.typed.Note.{Note}
 use Rattle.ckc_typed.specs.declared.typed.Typed.{Typed}
 use Rattle.ckc_typed.specs.Expressions.{is_object_form}
 use Rattle.ckc_typed.specs.Statements.{is_call_form, is_variable_form, is_text_call}
-use Rattle.ckc_typed.specs.Trees.{NotedDecl, NotedExpr, NotedInit, NotedLayer, NotedStmt}
-use Rattle.ckc_typed.specs.Types.{type_written}
-use Rattle.ckc_typed_welltyped.specs.Declarations.{WellTypedInit}
+use Rattle.ckc_typed.specs.Trees.{NotedAct, NotedDecl, NotedExpr, NotedInit, NotedLayer, NotedStmt}
+use Rattle.ckc_typed.specs.Types.{is_pointer, type_written}
+use Rattle.ckc_typed_welltyped.specs.Declarations.{StartsLocal, WellTypedInit}
 use Rattle.ckc_typed_welltyped.specs.Expressions.{WellTypedExpr}
 use Rattle.ckc_typed_welltyped.specs.Statements as rows
 use Rattle.ckc_typed_welltyped.specs.Statements.{act_rows, mode_in_form, WellTypedStmt}
@@ -32,18 +32,22 @@ use Rattle.ckc_source.specs.declared.stmt.Kept.{Kept}
 use Rattle.ckc_source.specs.Code.{Expr, Code, End, Call}
 use Rattle.ckc_source.specs.Code as code
 use Rattle.ckc_build_values.specs.Expressions.{expr_elaborated, literals_of}
+use Rattle.ckc_build_values.specs.Kinds.{pointee_of}
 use Rattle.ckc_build_elaborate.specs.Literals.{literals_of_bounds}
 use Rattle.ckc_build_elaborate.specs.Names.{number_of, params_of}
 use Rattle.ckc_build_elaborate.specs.Steps.{Destination, spot, nowhere, destination_of, destination_for, arguments, called, assigned, assigned_form, declared, returned}
 use Rattle.ckc_build_elaborate.specs.Statements.{all_assigns, act_code, part_of}
 use Rattle.ckc_blame_sound.specs.Settings.{Setting}
-use Rattle.ckc_blame_sound.specs.Bodies.{globals_of_text}
-use Rattle.ckc_blame_sound.specs.Calls.{arguments_of_node, arguments_of_expr, arguments_of_init, arguments_of_act, arguments_of}
+use Rattle.ckc_blame_sound.specs.Bodies.{globals_of_text, IsInBody}
+use Rattle.ckc_blame_sound.specs.Calls.{arguments_of_node, arguments_of_expr, arguments_of_init, arguments_of_act, arguments_of, head_by_name, head_of_node, head_of_expr, head_of_init, head_of_act, head_of}
 use Rattle.ckc_blame_sound.specs.Steps.{is_simple, IsStep}
 use Rattle.ckc_blame_numbers.proofs.Statements.{made_of, pair_same, passes}
 use Rattle.ckc_blame_numbers.proofs.Stepping.{ActLayer, viewed, judged_is, parted, code_is, out_call, out_return, out_check, out_bundle, first_step}
 use Rattle.ckc_blame_control.proofs.Typed.{by_parts}
 use Rattle.ckc_blame_calls.specs.Arguments.{literals_before_act, literals_before}
+use Rattle.ckc_blame_calls.specs.Results.{value_of_init, value_of_act, value_of, type_of_act, type_of}
+use Rattle.ckc_blame_calls.proofs.Converted.{call_looser}
+use Rattle.ckc_blame_calls.proofs.Looser.{IsLooser}
 use Rattle.ckc_blame_calls.proofs.Calls.{IsCall, call_judged, value_is_judged}
 use Rattle.ckc_blame_calls.proofs.Views.{viewed_layer, view_is}
 
@@ -74,11 +78,18 @@ module _ (p : Typed) (locals : List Variable) (sp spot' : Spot) (to : Destinatio
       by (Node-F.Call n fs) is h = called_as made n fs made.pos is h
       by d is h = absurd cc
 
-out_assign : (e f : NotedExpr) → out-Act Name Note (act.Assign e f) ≡ Act-F.Assign e f
+pub out_assign : (e f : NotedExpr) → out-Act Name Note (act.Assign e f) ≡ Act-F.Assign e f
 out_assign e f = search (rules, the_lemmas)
 
-out_local : (d : NotedDecl) → out-Act Name Note (act.Local d) ≡ Act-F.Local d
+pub out_local : (d : NotedDecl) → out-Act Name Note (act.Local d) ≡ Act-F.Local d
 out_local d = search (rules, the_lemmas)
+
+-- the mode of a statement after it is judged
+pub mode_of : (s : Setting) (before : NotedStmt) (inside : IsInBody s before) (after : NotedStmt) (a : NotedAct) (x : ActLayer) → out-Act Name Note before.body ≡ x → stated before.pos before.note a ≡ after
+    → mode_in_form inside.mode x ≡ inside.mode → after.note.mode ≡ inside.mode
+mode_of s before inside after a x is made m =
+    ap (λ (st : NotedStmt). st.note.mode) (sym made) ∙ ap (λ (n : Note). n.mode) (by_parts s before inside).noted
+    ∙ ap (λ y. mode_in_form inside.mode y) is ∙ m
 
 -- what calls a function of the text goes to a name
 abbrev is_name : NotedLayer → Bool
@@ -113,6 +124,9 @@ module _ (s : Setting) (here there : Here) (sp : Spot) (target : Option Kept) (n
     pub is : IsCall s.frame here.at here.next call function afters
     pub typed : WellTypedExpr (globals_of_text s.text) s.variables step.inside.mode call
     pub before : arguments_of step.before ≡ is.args
+    pub head : head_of s.frame step.before ≡ slice_get s.frame.heads function
+    pub value : value_of step.before ≡ Some call
+    pub looser : is_pointer call.note.ctype ≡ true → IsLooser (pointee_of s.text.layout call.note.ctype) (pointee_of s.text.layout (type_of step.before))
     pub after : arguments_of step.after ≡ afters
     pub number_is : number ≡ number_of (name.Function function) s.text.tree.items
     pub arguments_are : es ≡ arguments s.text s.variables (literals_before step.after step.literals) (params_of (name.Function function) s.text.tree.items) afters
@@ -140,15 +154,23 @@ module _ (s : Setting) (here there : Here) (sp : Spot) (target : Option Kept) (n
       subst (λ (y : ActLayer). act_rows (globals_of_text s.text) s.variables s.result (WellTypedStmt (globals_of_text s.text) s.variables s.result) y step.inside.mode step.inside.looped) is
       (by_parts s step.before step.inside).row
 
-  -- the mode of the statement
   mode_as : (a : _) (x : ActLayer) → out-Act Name Note step.before.body ≡ x → stated step.before.pos step.before.note a ≡ step.after → mode_in_form step.inside.mode x ≡ step.inside.mode
       → step.after.note.mode ≡ step.inside.mode
-  mode_as a x is made m =
-      ap (λ (st : NotedStmt). st.note.mode) (sym made) ∙ ap (λ (n : Note). n.mode) (by_parts s step.before step.inside).noted
-      ∙ ap (λ y. mode_in_form step.inside.mode y) is ∙ m
+  mode_as a x is made m = mode_of s step.before step.inside step.after a x is made m
 
   arguments_in : (st : NotedStmt) (x : ActLayer) → out-Act Name Note st.body ≡ x → arguments_of st ≡ arguments_of_act x
   arguments_in st x is = ap arguments_of_act is
+
+  head_in : (st : NotedStmt) (x : ActLayer) → out-Act Name Note st.body ≡ x → head_of s.frame st ≡ head_of_act s.frame x
+  head_in st x is = ap (head_of_act s.frame) is
+
+  looser_by : (x : ActLayer) (e : NotedExpr) → out-Act Name Note step.before.body ≡ x
+      → (is_pointer e.note.ctype ≡ true → IsLooser (pointee_of s.text.layout e.note.ctype) (pointee_of s.text.layout (type_of_act x)))
+      → is_pointer e.note.ctype ≡ true → IsLooser (pointee_of s.text.layout e.note.ctype) (pointee_of s.text.layout (type_of step.before))
+  looser_by x e is h p = subst (λ y. IsLooser (pointee_of s.text.layout e.note.ctype) (pointee_of s.text.layout (type_of_act y))) (sym is) (h p)
+
+  head_by : (e : NotedExpr) (n : Name) (fs : List NotedExpr) → out-Node Name Note e.node ≡ Node-F.Call n fs → head_of_expr s.frame e ≡ head_by_name s.frame n
+  head_by e n fs is = ap (head_of_node s.frame) is
 
   arguments_by : (e : NotedExpr) (n : Name) (fs : List NotedExpr) → out-Node Name Note e.node ≡ Node-F.Call n fs → arguments_of_expr e ≡ fs
   arguments_by e n fs is = ap arguments_of_node is
@@ -172,6 +194,9 @@ module _ (s : Setting) (here there : Here) (sp : Spot) (target : Option Kept) (n
         is = c;
         typed = row_as (Act-F.Call x) is;
         before = arguments_in step.before (Act-F.Call x) is ∙ arguments_by x (name.Function made.function) c.args c.node;
+        head = head_in step.before (Act-F.Call x) is ∙ head_by x (name.Function made.function) c.args c.node;
+        value = ap value_of_act is;
+        looser = looser_by (Act-F.Call x) x is (λ p. record { element = refl; size = refl; terminated = λ e. e });
         after = arguments_in step.after (Act-F.Call m.0.0) out ∙ arguments_by m.0.0 (name.Function made.function) made.afters made.node;
         number_is = made.number_is;
         arguments_are = made.arguments_are ∙ ap (λ (y : ActLayer). arguments s.text s.variables (literals_before_act y step.literals) (params_of (name.Function made.function) s.text.tree.items) made.afters) (sym out);
@@ -210,6 +235,9 @@ module _ (s : Setting) (here there : Here) (sp : Spot) (target : Option Kept) (n
           is = c;
           typed = row.right;
           before = arguments_in step.before (Act-F.Assign q x) is ∙ arguments_by x (name.Function made.function) c.args c.node;
+          head = head_in step.before (Act-F.Assign q x) is ∙ head_by x (name.Function made.function) c.args c.node;
+          value = ap value_of_act is;
+          looser = looser_by (Act-F.Assign q x) x is (λ p. call_looser s.text.layout q.note.ctype x (name.Function made.function) c.args c.node row.converted p);
           after = arguments_in step.after (Act-F.Assign a.0.0 b.0.0) out ∙ arguments_by b.0.0 (name.Function made.function) made.afters made.node;
           number_is = made.number_is;
           arguments_are = made.arguments_are ∙ ap (λ (y : ActLayer). arguments s.text s.variables (literals_before_act y step.literals) (params_of (name.Function made.function) s.text.tree.items) made.afters) (sym out);
@@ -250,6 +278,10 @@ module _ (s : Setting) (here there : Here) (sp : Spot) (target : Option Kept) (n
               is = c;
               typed = subst (WellTypedInit (globals_of_text s.text) s.variables step.inside.mode) same row.parts.init;
               before = arguments_in step.before (Act-F.Local d) is ∙ ap arguments_of_init same ∙ arguments_by x (name.Function made.function) c.args c.node;
+              head = head_in step.before (Act-F.Local d) is ∙ ap (head_of_init s.frame) same ∙ head_by x (name.Function made.function) c.args c.node;
+              value = ap value_of_act is ∙ ap value_of_init same;
+              looser = looser_by (Act-F.Local d) x is (λ p.
+                  call_looser s.text.layout (type_written d.ctype) x (name.Function made.function) c.args c.node (subst (StartsLocal (type_written d.ctype)) same row.starts) p);
               after = arguments_in step.after (Act-F.Local e) out ∙ arguments_by w.0.0 (name.Function made.function) made.afters made.node;
               number_is = made.number_is;
               arguments_are = made.arguments_are ∙ ap (λ (y : ActLayer). arguments s.text s.variables (literals_before_act y step.literals) (params_of (name.Function made.function) s.text.tree.items) made.afters) (sym out);

@@ -29,7 +29,7 @@ use Rattle.ckc_blame_contained.specs.Given.{memory_of}
 use Rattle.ckc_blame_given.specs.Gives.{Gives}
 use Rattle.ckc_blame_calls.proofs.Converted.{taken, taken_zero, taken_pointer, Becomes, element_looser}
 use Rattle.ckc_blame_calls.proofs.Looser.{read_looser}
-use Rattle.ckc_blame_calls.proofs.Views.{known_range}
+use Rattle.ckc_blame_calls.proofs.Views.{known_range, placed_pointer}
 
 -- no form is a number of a pointer type
 no_form : (t : CType) (facts : Known) (o : Option Form) (f : Form) → is_pointer t ≡ true → in_type facts t o ≡ Some f → ⊥
@@ -87,15 +87,14 @@ module _ (s : Setting) (store : Store) (at : State) (v : Valuation) (zero_is : v
   pub narrow_taken : IsReadWithin (memory_of s store t) v (taken t w) ((view s.frame e).range from.value from.fresh (narrow at))
   narrow_taken = read_taken ((view s.frame e).range from.value from.fresh (narrow at)) (λ low high is. known_range s.frame e from.value from.fresh (narrow at) low high is) g.narrow
 
-  pub address_taken : (facts : Known) (f : Form) → AreFacts v facts → is_pointer t ≡ true → (view s.frame e).place from.value facts ≡ Some f
-      → form_address v (size_behind s.text.layout t) f ≡ pos (taken t w)
-  address_taken facts f all pointer is = by how
+  pub placed_taken : (facts : Known) (f : Form) → AreFacts v facts → (view s.frame e).place from.value facts ≡ Some f → form_address v (size_behind s.text.layout t) f ≡ pos (taken t w)
+  placed_taken facts f all is = by how
     where
       there : form_address v (size_behind s.text.layout e.note.ctype) f ≡ pos w
       there = g.place facts f all is
 
       by : Becomes t e → form_address v (size_behind s.text.layout t) f ≡ pos (taken t w)
-      by (Becomes.Integers to from) = let n = no_pointer t to in absurd cc
+      by (Becomes.Integers to integer) = both integer (placed_pointer s.frame e from.value facts f is)
       by (Becomes.Null to null bare) = let n = bare s.frame from.value facts in absurd cc
       by (Becomes.Pointers to element terminated) =
           ap (λ size. form_address v size f) (element_looser s.text.layout t e.note.ctype element terminated).size ∙ there ∙ ap pos (sym (taken_pointer t w to))

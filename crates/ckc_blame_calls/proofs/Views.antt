@@ -7,7 +7,7 @@ use Rattle.ckc_syntax.specs.declared.tree.Node.{Node, Node-F, map-Node, out-Node
 use Rattle.ckc_syntax.specs.declared.tree.Expr.{fold-roll-Expr}
 use Rattle.ckc_typed.specs.declared.typed.Note.{Note}
 use Rattle.ckc_typed.specs.declared.typed.Range.TheVariants as range
-use Rattle.ckc_typed.specs.Conversions.{is_null_form, is_null}
+use Rattle.ckc_typed.specs.Conversions.{is_allocation, is_allocation_form, is_null_form, is_null}
 use Rattle.ckc_typed.specs.Trees.{NotedLimits, NotedNode, NotedExpr, NotedLayer}
 use Rattle.ckc_typed.specs.Types.{is_pointer}
 use Rattle.ckc_linear.specs.declared.forms.Form.{Form}
@@ -18,7 +18,7 @@ use Rattle.ckc_bounds_views.specs.Integers.{null_node}
 use Rattle.ckc_bounds_views.specs.Parts.{LimitsView, View, NodeView, NodeOfViews}
 use Rattle.ckc_bounds_views.specs.Places.{own_place}
 use Rattle.ckc_bounds_views.specs.Ranges.{own_numbers}
-use Rattle.ckc_bounds_views.specs.Views.{limits_view, node_view, expr_view, view_of_limits, view_of_node, view}
+use Rattle.ckc_bounds_views.specs.Views.{allocates_node, limits_view, node_view, expr_view, view_of_limits, view_of_node, view}
 
 pub node_back : (n : NotedNode) → roll-Node Name Note (out-Node Name Note n) ≡ n
 node_back n = search (rules, node_lemmas)
@@ -65,3 +65,10 @@ module _ (frame : Frame) where
       by : (p : Bool) (o : Option Form) → (if p then o else None) ≡ Some f → p ≡ true
       by true o h = refl
       by false o h = absurd cc
+
+  allocation_is : (n : NotedLayer) → allocates_node (viewed_layer n) ≡ is_allocation_form n
+  allocation_is (Node-F.Calloc w e u) = refl
+  allocation_is n = refl
+
+  pub allocates_is : (e : NotedExpr) → (view frame e).allocates ≡ is_allocation e
+  allocates_is e = ap (λ (v : View). v.allocates) (view_is e) ∙ allocation_is (out-Node Name Note e.node)

@@ -3,4 +3,4 @@
 
 mod laws;
 
-pub use laws::calls_keep_sound;
+pub use laws::{calls_keep_sound, ends_keep_sound, results_are_known, returns_keep_sound};

@@ -28,7 +28,7 @@ ghost use Rattle.ckc_blame_sound.specs.Points.{HoldsAt};
 ghost use Rattle.ckc_blame_sound.specs.Words.{HaveWords};
 ghost use Rattle.ckc_blame_sound.specs.Bodies.{AreFresh};
 ghost use Rattle.ckc_blame_sound.specs.Steps.{IsStep, IsCondition};
-ghost use Rattle.ckc_blame_sound.specs.Calls.{store_in, arguments_of, ArePassed, Stands, Waits, AreWaiting};
+ghost use Rattle.ckc_blame_sound.specs.Calls.{store_in, arguments_of, head_of, ArePassed, Stands, Waits, AreWaiting};
 ghost use Rattle.ckc_blame_sound.specs.Slots.{AreFilled};
 ghost use Rattle.ckc_blame_sound.specs.Sound.{Sound};
 ghost use Rattle.ckc_blame_runs.specs.Moves.{IsSoundMove, StaysSound};
@@ -178,7 +178,8 @@ pub fn states_stay_sound()
 {}
 
 /// The state in a function that was called is sound if what the function begins with is judged from a
-/// point that holds, and the arguments stand for what its parameters have.
+/// point that holds, the call is judged by the head of the function, and the arguments stand for what
+/// its parameters have.
 pub fn calls_enter_soundly()
     ensures { (p : Typed) (s : State) (h : Sound p s) (called : Setting) (spot : Spot)
         (target : Option Kept) (number : ℕ) (es : List Expr) (next : List Work)
@@ -186,6 +187,7 @@ pub fn calls_enter_soundly()
         (f : Faces h.setting (store_in p s.blocks s.frame) s.frame.entry
         (Call spot target number es) next) → has_room (active s) ≡ true
         → slice_get (functions_elaborated p) number ≡ Some callee → IsFunction p called callee
+        → head_of h.setting.frame f.judged.before ≡ Some called.head
         → ((n : ℕ) → ArePassed h.setting called f.here s.frame.locals values
         (map (view h.setting.frame) (arguments_of f.judged.before)) n)
         → IsReady called (store_in p s.blocks (entered callee values)) values
