@@ -28,6 +28,7 @@ use Rattle.ckc_build_elaborate.specs.Statements.{all_assigns, act_code, part_of}
 use Rattle.ckc_blame_sound.specs.Settings.{Setting}
 use Rattle.ckc_blame_sound.specs.Points.{GoesTo}
 use Rattle.ckc_blame_sound.specs.Words.{HasWordsAct, exprs_in, exprs_of_act}
+use Rattle.ckc_blame_sound.proofs.Words.{exprs_inside, exprs_are}
 use Rattle.ckc_blame_sound.specs.Bodies.{globals_of_text}
 use Rattle.ckc_blame_sound.specs.Steps.{is_simple, IsStep, IsCondition}
 use Rattle.ckc_blame_sound.proofs.Words.{exprs_inside, exprs_are}
@@ -144,6 +145,10 @@ module _ (s : Setting) (here there : Here) (sp : Spot) (e : Expr) (step : IsStep
             typed = subst (λ m. rows.IsCondition (globals_of_text s.text) s.variables m x) (mode_of x is (ap (λ (st : NotedStmt). st.note) last.0) code) (check_inside x is);
             words = λ w. subst HasWordsAct is (words_in step.before (step.inside.words w));
             safe = λ w. step.inside.safe w x (first_there x is);
+          };
+          scope = record {
+            names = step.scope.names x (subst (λ es. Contains es x) (sym (exprs_are step.before ∙ ap (λ y. exprs_of_act (exprs_inside y)) is)) (0, omega arith, refl));
+            known = step.scope.known;
           };
           fresh = step.fresh;
           counting = step.counting;

@@ -64,8 +64,9 @@ module _ (s : Setting) (store : Store) (entry : List ℕ) where
         pub after : c.after ≡ Some expr
         pub behind : c.behind ≡ next
         pub same : view s.frame expr ≡ view s.frame f
+        pub judged : (view s.frame f).judged here.next here.at ≡ Ok expr
 
-      judges : Judges
+      pub judges : Judges
       unfolding value_judged
       judges =
           let judged : maybe_judged s.frame (Some f) here ≡ Ok (c.after, c.behind) = subst (λ (o : Option NotedExpr). maybe_judged s.frame o here ≡ Ok (c.after, c.behind)) is c.judged in
@@ -80,6 +81,7 @@ module _ (s : Setting) (store : Store) (entry : List ℕ) where
             after = sym (ap (λ (x : NotedExpr). Some x) made.0 ∙ last.0);
             behind = sym (made.1 ∙ last.1);
             same = same_view s.frame f n.0 here.next here.at view_is s.frame;
+            judged = view_is;
           }
 
       side_holds : (side : Bool) → Holds (record here { at = (view s.frame f).side side here.at }) → Holds (there side)

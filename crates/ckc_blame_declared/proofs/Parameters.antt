@@ -58,7 +58,7 @@ made_there frame b ls (x ∷ ds) (suc i) k d is e =
     made_there frame b (ls ++ m ∷ []) ds i k d (omega (arith, is, longer)) e
 
 -- the local that is made of a declaration
-all_at : (frame : Frame) (b : Bool) (ds : List NotedDecl) (k : ℕ) (d : NotedDecl) → slice_get ds k ≡ Some d → slice_get (with_all frame b [] ds) k ≡ Some (local_made frame b k d)
+pub all_at : (frame : Frame) (b : Bool) (ds : List NotedDecl) (k : ℕ) (d : NotedDecl) → slice_get ds k ≡ Some d → slice_get (with_all frame b [] ds) k ≡ Some (local_made frame b k d)
 all_at frame b ds k d e = made_there frame b [] ds k k d (sym (from_zero k)) e
 
 declaration_at : (frame : Frame) (b : Bool) (ds : List NotedDecl) (k : ℕ) (l : Local) → slice_get (with_all frame b [] ds) k ≡ Some l

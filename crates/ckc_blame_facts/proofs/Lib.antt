@@ -8,3 +8,6 @@ pub mod StaticKinds
 pub mod Small
 pub mod Tallies
 pub mod Values
+pub mod StaticTargets
+pub mod Pointees
+pub mod Few

@@ -1,5 +1,5 @@
 -- The bounds and the range of a static pointer that is named.
-use Rattle.std.proofs.Common.{◌≡◌, ◌∙◌, sym, ap, subst, refl, rules, ℕ, Bool}
+use Rattle.std.proofs.Common.{◌≡◌, ◌∙◌, sym, ap, subst, rules, ℕ}
 use Rattle.std.specs.Prelude.{ℤ, if◌then◌else◌, Option, Some, None, is_some, slice_get, unwrap_or}
 use Rattle.ckc_types.specs.declared.types.CType.{CType}
 use Rattle.ckc_types.specs.declared.types.Kind.{Kind}
@@ -12,7 +12,6 @@ use Rattle.ckc_syntax.specs.declared.tree.Node.{Node-F, out-Node, roll-Node, fol
 use Rattle.ckc_syntax.specs.declared.tree.Expr.{Expr-F, fold-roll-Expr}
 use Rattle.ckc_typed.specs.declared.environment.Amount.{Amount}
 use Rattle.ckc_typed.specs.declared.typed.Note.{Note}
-use Rattle.ckc_typed.specs.declared.typed.StaticObject.{StaticObject}
 use Rattle.ckc_typed.specs.Amounts.{amount_of_limits}
 use Rattle.ckc_typed.specs.Environment.{used}
 use Rattle.ckc_typed.specs.Trees.{NotedLimits, NotedNode, NotedExpr, NotedLayer}
@@ -21,7 +20,6 @@ use Rattle.ckc_bounds_points.specs.declared.frame.Bounds.{Bounds}
 use Rattle.ckc_bounds_points.specs.declared.frame.Frame.{Frame}
 use Rattle.ckc_bounds_declared.specs.Written.{bounds_by_type}
 use Rattle.ckc_bounds_stores.specs.Targets.{written_in, bounds_by, memory_bounds}
-use Rattle.ckc_bounds_views.specs.declared.variables.Member.{Member}
 use Rattle.ckc_bounds_views.specs.Parts.{LimitsView, NodeView, View}
 use Rattle.ckc_typed.specs.declared.typed.Range.{Range}
 use Rattle.ckc_bounds_ranges.specs.Rows.{range_of_array}

@@ -54,14 +54,14 @@ use Rattle.ckc_blame_facts.specs.Statics.{IsStatic, bounds_counted, range_counte
 use Rattle.ckc_blame_facts.proofs.Statics.{decls, AreStatics, IsAgain, limits_found, limits_of, objects_are, runs_are, blocks_are, placed_at, beside_at, object_is, decl_there, have_elements, element_at, items_again, again_at, found_at, index_of, name_at, statics_numbered}
 use Rattle.ckc_blame_facts.proofs.StaticBounds.{Alike, alike}
 
-from_zero : (k : ℕ) → 0 + k ≡ k
+pub from_zero : (k : ℕ) → 0 + k ≡ k
 from_zero k = omega arith
 
 module _ (p : Typed) (j : IsJudged p) where
   items_named : map bare_item p.tree.items ≡ j.named.tree.items
   items_named = ap (λ (t : Tree). t.items) (tree_named p j)
 
-  are_statics : AreStatics 0 (decls p.tree.items)
+  pub are_statics : AreStatics 0 (decls p.tree.items)
   are_statics =
       statics_numbered p.tree.items 0
       (subst (λ (is : List Item). All HasStatic is) (sym items_named) (items_static (names_of j.spelled) j.spelled.items no_names j.spelled.items j.named.tree.items (text_is j.spelled j.named j.has_names).items))
@@ -80,7 +80,7 @@ module _ (p : Typed) (j : IsJudged p) where
       ((items_again (frame_of_text j.typed) Q).made p.tree.items (is_bounded j.typed p j.has_bounds).items) at
 
   -- an object that is declared
-  record HasObject (k : ℕ) (e : NotedDecl) : Type 0 where
+  pub record HasObject (k : ℕ) (e : NotedDecl) : Type 0 where
     pub object : StaticObject
     pub there : slice_get p.statics k ≡ Some object
     pub element : object.element ≡ type_written e.ctype
@@ -99,7 +99,7 @@ module _ (p : Typed) (j : IsJudged p) where
       ∙ more_at (map (object_of j.typed.layout) (decls Q)) (map object_of_string (flat_map strings_of_item Q)) k (object_of j.typed.layout d)
       (slice_get-map (object_of j.typed.layout) (decls Q) k ∙ ap (option_map (object_of j.typed.layout)) at)
 
-  has_object : (k : ℕ) (e : NotedDecl) → slice_get (decls p.tree.items) k ≡ Some e → HasObject k e
+  pub has_object : (k : ℕ) (e : NotedDecl) → slice_get (decls p.tree.items) k ≡ Some e → HasObject k e
   has_object k e at =
       let b = before k e at in
       let o = statics_at k (object_of j.typed.layout b.0) (block_at k b.0 b.1) in
@@ -133,7 +133,7 @@ module _ (p : Typed) (j : IsJudged p) where
   objects_at : (k : ℕ) (e : NotedDecl) → slice_get (decls p.tree.items) k ≡ Some e → slice_get (objects_of first_frame p.tree.items) k ≡ Some (object_bounds first_frame e)
   objects_at k e at = ap (λ os. slice_get os k) (objects_are first_frame p.tree.items) ∙ slice_get-map (object_bounds first_frame) (decls p.tree.items) k ∙ ap (option_map (object_bounds first_frame)) at
 
-  runs_at : (k : ℕ) (e : NotedDecl) → slice_get (decls p.tree.items) k ≡ Some e → slice_get (flat_map run_in p.tree.items) k ≡ Some (is_none e.bounds)
+  pub runs_at : (k : ℕ) (e : NotedDecl) → slice_get (decls p.tree.items) k ≡ Some e → slice_get (flat_map run_in p.tree.items) k ≡ Some (is_none e.bounds)
   runs_at k e at =
       ap (λ bs. slice_get bs k) (runs_are p.tree.items) ∙ slice_get-map (λ (d : NotedDecl). is_none d.bounds) (decls p.tree.items) k ∙ ap (option_map (λ (d : NotedDecl). is_none d.bounds)) at
 

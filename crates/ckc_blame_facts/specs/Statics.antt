@@ -41,8 +41,8 @@ abbrev pub bounds_of_static : Setting → CType → ℕ → Bounds
 bounds_of_static s t k = unwrap_or (written_there (slice_get s.frame.objects k)) (bounds_by_type (base.Value 0) t)
 
 -- The name of file scope with the number k has a type. It is declared, and this is its object as it is judged and as it
--- runs; it has the type that is declared, or is an array of it. The bounds that the judgement knows of it are those that
--- a program counts, and only a pointer that is no array has written bounds.
+-- runs; it has the type that is declared, or is an array of it. The bounds that the judgement knows of it are those
+-- that a program counts, and only a pointer that is no array has written bounds.
 pub record IsStatic (s : Setting) (t : CType) (k : ℕ) : Type 0 where
   pub decl : NotedDecl
   pub declared : Contains s.text.tree.items (item.Static decl)

@@ -3,4 +3,4 @@
 
 mod laws;
 
-pub use laws::{callees_have_heads, functions_are_small, statics_are_told};
+pub use laws::{callees_have_heads, functions_are_small, pointees_are_integers, statics_are_told};

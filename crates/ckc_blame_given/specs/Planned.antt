@@ -53,8 +53,8 @@ pub record IsElementTarget (s : Setting) (p : Placed) (number : ℕ) (b : Block)
   pub counts : (n : Count) → count_of_static s.text b.element (name.Static number) ≡ Some n
       → AreCounted (memory_bounds s.frame p.target) n
 
--- A target that a pointer reaches may also be a member of which no bounds are written and that no bounds name; its bounds
--- are then those of its type.
+-- A target that a pointer reaches may also be a member of which no bounds are written and that no bounds name; its
+-- bounds are then those of its type.
 pub record IsRunTarget (s : Setting) (p : Placed) (b : Block) (begin : ℕ) (to : Place) : Type 0 where
   pub tag : ℕ
   pub form : out-CType b.element ≡ CType-F.Struct tag
@@ -64,7 +64,8 @@ pub record IsRunTarget (s : Setting) (p : Placed) (b : Block) (begin : ℕ) (to 
   pub same : p.target.note.ctype ≡ shape.ctype
   pub zero_alone : Option Pos
   pub goes : to ≡ place.Memory (begin + offset_of s.text.layout tag shape.name) (width_of shape.ctype) zero_alone
-  pub counts : (n : Count) → count_of_kind (kind_of shape.ctype) ≡ Some n → AreCounted (memory_bounds s.frame p.target) n
+  pub counts : (n : Count) → count_of_kind (kind_of shape.ctype) ≡ Some n
+      → AreCounted (memory_bounds s.frame p.target) n
 
 -- which of these it is
 abbrev pub IsPartTarget : Setting → Placed → ℕ → Block → ℕ → Place → Option Member → Type 0

@@ -57,7 +57,7 @@ use Rattle.ckc_blame_pointers.proofs.Widening.{any_at, within_tests}
 
 -- ---- a type is the same as itself
 
-abbrev IsSame : CType → Type 0
+abbrev pub IsSame : CType → Type 0
 IsSame t = same_type t t ≡ true
 
 abbrev Kept : Type 0
@@ -89,7 +89,7 @@ step (CType-F.Pointer k t) = ap (λ b. b && same_type t.0 t.0) (same_kinds k) �
 out_roll : (x : CType-F CType) → out-CType (roll-CType x) ≡ x
 out_roll x = search (rules, the_lemmas)
 
-type_same : (t : CType) → IsSame t
+pub type_same : (t : CType) → IsSame t
 type_same = ind-CType IsSame (λ x y is.
     ap (λ f. f (roll-CType x)) (fold-roll-CType (CType → Bool) same_parts x) ∙ ap (same_form (test x)) (out_roll x) ∙ ap (λ z. same_form (test z) z) (sym is) ∙ step y)
 

@@ -37,10 +37,10 @@ use Rattle.ckc_blame_pointers.proofs.Unwidened.{fresh_same}
 
 -- A static structure is the first element of its block.
 pub object_structure : (s : Setting) (store : Store) (next : ℕ) → IsSoundStore s store next → (t : CType) (k : ℕ) → IsStaticStructure s t k → (at : Pos) → IsStructurePlace store t (object_place s.text t at k)
-object_structure s store next ready t k c at = record { begins = refl; there = whole }
+object_structure s store next ready t k c at = record { begins = refl; there = (whole, ap (λ (x : Block). x.is_run) block.2) }
   where
-    block : (b : Block) × (slice_get store.blocks k ≡ Some b) × (b ≡ record (block_of (object_elaborated s.text.layout c.is_run c.object)) { bytes = b.bytes })
-    block = object_at (objects_elaborated s.text) store.blocks ready.sound.memory.objects k (object_elaborated s.text.layout c.is_run c.object) c.placed
+    block : (b : Block) × (slice_get store.blocks k ≡ Some b) × (b ≡ record (block_of (object_elaborated s.text.layout (Some true) c.object)) { bytes = b.bytes })
+    block = object_at (objects_elaborated s.text) store.blocks ready.sound.memory.objects k (object_elaborated s.text.layout (Some true) c.object) c.free
 
     first_element : (a size : ℕ) → a ≡ a + 0 * size
     first_element a size = omega arith

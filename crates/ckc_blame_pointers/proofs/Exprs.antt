@@ -29,9 +29,9 @@ use Rattle.ckc_bounds_points.specs.Flow.{State}
 use Rattle.ckc_bounds_ranges.specs.Rows.{range_of_local}
 use Rattle.ckc_bounds_views.specs.Parts.{LimitsView, NodeView, View, NodeOfViews, fresh_behind}
 use Rattle.ckc_bounds_views.specs.Conditions.{right_point, widening, widening_side}
-use Rattle.ckc_bounds_views.specs.Judged.{is_counted_kind, access_fault, fault_of_node, node_judged}
+use Rattle.ckc_bounds_views.specs.Judged.{is_counted_kind, access_fault, fault_of_node, operand_fault_of_node, node_judged}
 use Rattle.ckc_bounds_views.specs.Fresh.{own_fresh}
-use Rattle.ckc_bounds_views.specs.Ranges.{pointer_range}
+use Rattle.ckc_bounds_views.specs.Ranges.{range_of_one, pointer_range}
 use Rattle.ckc_bounds_views.specs.Views.{limits_view, node_view, expr_view, view_of_limits, view_of_node, view}
 use Rattle.ckc_bounds_statements.specs.Paths.{Here, side_of}
 use Rattle.ckc_source.specs.declared.outcome.Value.{Value}
@@ -43,7 +43,7 @@ use Rattle.ckc_source.specs.Words.{exact, elements_behind}
 use Rattle.ckc_typed.specs.Layouts.{member_number}
 use Rattle.ckc_build_values.specs.Kinds.{integer_of, width_of, size_behind, count_of_kind, tag_of}
 use Rattle.ckc_build_values.specs.Members.{offset_of, count_of_member}
-use Rattle.ckc_build_values.specs.Places.{element_place, target_place, member_place, read_at}
+use Rattle.ckc_build_values.specs.Places.{element_place, target_place, member_place, read_at, address_at}
 use Rattle.ckc_build_values.specs.Expressions.{node_address, node_place, Part, NodePart, LimitsPart, local_in, limits_parts, node_parts, expr_parts, node_value, part_of, part_of_node, part_of_limits}
 use Rattle.ckc_build_values.specs.Operators.{of_operands}
 use Rattle.ckc_blame_sound.specs.Settings.{Setting}
@@ -52,10 +52,10 @@ use Rattle.ckc_blame_sound.specs.Points.{HoldsAt}
 use Rattle.ckc_blame_numbers.specs.Typed.{IsRow, HasRow, IsTyped, Agrees}
 use Rattle.ckc_blame_numbers.proofs.Exprs as numbers
 use Rattle.ckc_blame_numbers.proofs.Holding.{form_exact, form_exact_in, side_told}
-use Rattle.ckc_blame_numbers.proofs.Types.{no_pointer, sign_row, IsWide, number_wide, size_wide}
+use Rattle.ckc_blame_numbers.proofs.Types.{sign_row, IsWide, number_wide, size_wide}
 use Rattle.ckc_blame_sound.specs.Bodies.{AreFresh}
 use Rattle.ckc_blame_pointers.specs.Valuations.{address_by}
-use Rattle.ckc_blame_pointers.specs.Covered.{DeclareLocals, DeclareOnes, IsSoundStore, IsElement, IsSingle, IsArrow, IsPointerArrow, IsAddressed, IsStaticInteger, IsStaticArray, IsStaticPointer, IsStaticStructure, IsStructureTarget, IsStructureElement, IsStructureNode, IsCoveredNode, IsCoveredExpr, AreCovered, IsCovered}
+use Rattle.ckc_blame_pointers.specs.Covered.{DeclareLocals, DeclareOnes, IsSoundStore, IsElement, IsSingle, IsArrow, IsPointerArrow, IsAddressed, IsStaticInteger, IsStaticArray, IsStaticPointer, IsStaticBounded, IsStaticStructure, IsStructureTarget, IsPointerTarget, IsStructureElement, IsStructureNode, IsCoveredNode, IsCoveredExpr, AreCovered, IsCovered}
 use Rattle.ckc_blame_pointers.specs.Meant.{IsNotStuck}
 use Rattle.ckc_blame_pointers.proofs.Claims.{Claims, weaker, holds_on, nothing_read}
 use Rattle.ckc_blame_numbers.proofs.Known.{form_known}
@@ -64,7 +64,7 @@ use Rattle.ckc_blame_pointers.proofs.Nodes.{node_fresh, NodeClaims}
 use Rattle.ckc_blame_pointers.proofs.Binary.{ExprClaims, other_claims, unequal_claims, and_claims, or_claims}
 use Rattle.ckc_blame_pointers.proofs.Sums.{IsIndex, fresh_on, sum_claims, difference_claims}
 use Rattle.ckc_blame_pointers.proofs.Later.{next_more, next_both, left_room, right_room, parts_room}
-use Rattle.ckc_blame_pointers.proofs.Unwidened.{right_fresh_is}
+use Rattle.ckc_blame_pointers.proofs.Unwidened.{fresh_same, right_fresh_is}
 use Rattle.ckc_blame_pointers.proofs.Elements.{at_pointer, IsRanged, ranged_pointer, WidensThere, target_aims, element_aims, element_claims, wide_terminated, narrow_there}
 use Rattle.ckc_blame_pointers.proofs.Claims.{IsOfLocal}
 use Rattle.ckc_blame_pointers.proofs.Loads.{integer_part, no_count}
@@ -73,16 +73,18 @@ use Rattle.ckc_blame_pointers.proofs.Addresses.{address_row, target_claims, inde
 use Rattle.ckc_blame_pointers.proofs.Rows.{counted_pointer}
 use Rattle.ckc_blame_pointers.proofs.Arrows.{arrow_node}
 use Rattle.ckc_blame_pointers.proofs.Held.{held_claims}
-use Rattle.ckc_blame_pointers.proofs.Through.{target_structure, element_structure}
+use Rattle.ckc_blame_pointers.proofs.Through.{target_reached, element_reached, target_structure, element_structure}
 use Rattle.ckc_blame_pointers.proofs.Reach.{IsStructurePlace}
+use Rattle.ckc_blame_pointers.proofs.Pointees.{pointee_claims}
+use Rattle.ckc_blame_pointers.proofs.Singles.{address_node, member_claims, object_claims}
 use Rattle.ckc_blame_pointers.proofs.Dots.{object_structure, dot_node, integer_held}
-use Rattle.ckc_blame_pointers.proofs.Scalars.{integer_scalar, moved_pointer, pointer_scalar, kind_scalar, through_scalar, no_structure, structure_pointer, true_if, target_scalar, index_scalar, binary_scalar, choice_scalar, cast_scalar, null_scalar}
+use Rattle.ckc_blame_pointers.proofs.Scalars.{integer_scalar, moved_pointer, pointer_scalar, kind_scalar, through_scalar, through_bare, no_structure, true_if, target_scalar, index_scalar, binary_scalar, choice_scalar, cast_scalar, null_scalar}
 use Rattle.std.proofs.lemmas.Bool.{and_parts}
 use Rattle.ckc_blame_pointers.proofs.Members.{member_behind}
 use Rattle.ckc_blame_pointers.proofs.Single.{single_claims}
 use Rattle.ckc_blame_pointers.proofs.Statics.{static_claims}
 use Rattle.ckc_blame_pointers.proofs.Arrays.{array_claims}
-use Rattle.ckc_blame_pointers.proofs.Pointers.{pointer_claims}
+use Rattle.ckc_blame_pointers.proofs.Pointers.{pointer_claims, bounded_claims}
 use Rattle.ckc_blame_pointers.proofs.Leaves.{number_claims, size_claims, null_claims, local_claims, minus_claims, plus_claims, flip_claims, not_claims, cast_claims, choice_claims}
 
 module _ (globals : Globals) (s : Setting) (agrees : Agrees globals s) (declares : DeclareLocals s) (store : Store) (entry : List ℕ) (next : ℕ) (ready : IsSoundStore s store next) where
@@ -98,8 +100,8 @@ module _ (globals : Globals) (s : Setting) (agrees : Agrees globals s) (declares
         → (k : ℕ) → IsNotStuck (NodeClaims s store entry here h note.ctype (view_of_node s.frame n)) (evaluated store ((part_of_node n).value note place s.text s.variables k))
     -- the address of such a place
     pub address : (note : Note) (place : Pos) → IsRow globals s (out-Node Name Note n) note → EveryNode (HasRow globals s) n
-        → (here : Here) → EveryNode (IsCoveredExpr s store here.seen) n → IsCoveredNode s store here.seen note.ctype (out-Node Name Note n) → IsAddressed (out-Node Name Note n)
-        → (h : HoldsAt s store entry here) (fresh : ℕ) → fresh + length ((view_of_node s.frame n).fresh here.at) < 2 ^ 32 → AreFresh s.frame fresh → (view_of_node s.frame n).judged note.ctype fresh here.at ≡ Ok n
+        → (here : Here) → EveryNode (IsCoveredExpr s store here.seen) n → IsCoveredNode s store here.seen note.ctype (out-Node Name Note n) → IsAddressed s note.ctype (out-Node Name Note n)
+        → (h : HoldsAt s store entry here) (fresh : ℕ) → fresh + length ((view_of_node s.frame n).fresh here.at) < 2 ^ 32 → AreFresh s.frame fresh → (view_of_node s.frame n).judged note.ctype fresh here.at ≡ Ok n → (view_of_node s.frame n).operand_fault place fresh here.at ≡ None
         → (r : CType) → is_pointer r ≡ true → kind_of r ≡ Some kind.Arr → element_of r ≡ note.ctype
         → (k : ℕ) → IsNotStuck (NodeClaims s store entry here h r (node_view s.frame (Node-F.Un op.Address (expr_view (record { node = view_of_node s.frame n; pos = place; note = note })))))
         (evaluated store ((part_of_node n).address note place s.text s.variables k))
@@ -107,16 +109,16 @@ module _ (globals : Globals) (s : Setting) (agrees : Agrees globals s) (declares
     pub place : (note : Note) (place : Pos) → IsRow globals s (out-Node Name Note n) note → EveryNode (HasRow globals s) n
         → (here : Here) → EveryNode (IsCoveredExpr s store here.seen) n → IsCoveredNode s store here.seen note.ctype (out-Node Name Note n) → IsStructureNode (out-Node Name Note n) → (tag : ℕ) → out-CType note.ctype ≡ CType-F.Struct tag
         → (h : HoldsAt s store entry here) (fresh : ℕ) → fresh + length ((view_of_node s.frame n).fresh here.at) < 2 ^ 32 → AreFresh s.frame fresh → (view_of_node s.frame n).judged note.ctype fresh here.at ≡ Ok n
-        → (view_of_node s.frame n).fault place fresh here.at ≡ None → (k : ℕ) → IsStructurePlace store note.ctype ((part_of_node n).place note place s.text s.variables k)
+        → (view_of_node s.frame n).fault place fresh here.at ≡ None → (k : ℕ) → IsStructurePlace store note.ctype ((part_of_node n).place note place s.text s.variables k) × (is_raw_kind (view_of_node s.frame n).behind ≡ false)
 
   record ExprHolds (e : NotedExpr) : Type 0 where
     pub claims : IsTyped globals s e → (here : Here) → AreCovered s store here.seen e → is_scalar e.note.ctype ≡ true → HoldsAt s store entry here → (fresh : ℕ) → fresh + length ((view s.frame e).fresh here.at) < 2 ^ 32 → AreFresh s.frame fresh → (view s.frame e).judged fresh here.at ≡ Ok e
         → (k : ℕ) → IsNotStuck (ExprClaims s store entry here e) (evaluated store ((part_of e).value s.text s.variables k))
-    pub address : IsTyped globals s e → (here : Here) → AreCovered s store here.seen e → IsAddressed (out-Node Name Note e.node) → (h : HoldsAt s store entry here) (fresh : ℕ) → fresh + length ((view s.frame e).fresh here.at) < 2 ^ 32 → AreFresh s.frame fresh
+    pub address : IsTyped globals s e → (here : Here) → AreCovered s store here.seen e → IsAddressed s e.note.ctype (out-Node Name Note e.node) → (h : HoldsAt s store entry here) (fresh : ℕ) → fresh + length ((view s.frame e).fresh here.at) < 2 ^ 32 → AreFresh s.frame fresh
         → (view s.frame e).operand fresh here.at ≡ Ok e → (r : CType) → is_pointer r ≡ true → kind_of r ≡ Some kind.Arr → element_of r ≡ e.note.ctype
         → (k : ℕ) → IsNotStuck (NodeClaims s store entry here h r (node_view s.frame (Node-F.Un op.Address (view s.frame e)))) (evaluated store ((part_of e).address s.text s.variables k))
     pub place : IsTyped globals s e → (here : Here) → AreCovered s store here.seen e → IsStructureNode (out-Node Name Note e.node) → (tag : ℕ) → out-CType e.note.ctype ≡ CType-F.Struct tag → (h : HoldsAt s store entry here) (fresh : ℕ)
-        → fresh + length ((view s.frame e).fresh here.at) < 2 ^ 32 → AreFresh s.frame fresh → (view s.frame e).judged fresh here.at ≡ Ok e → (k : ℕ) → IsStructurePlace store e.note.ctype ((part_of e).place s.text s.variables k)
+        → fresh + length ((view s.frame e).fresh here.at) < 2 ^ 32 → AreFresh s.frame fresh → (view s.frame e).judged fresh here.at ≡ Ok e → (k : ℕ) → IsStructurePlace store e.note.ctype ((part_of e).place s.text s.variables k) × (is_raw_kind (view s.frame e).behind ≡ false)
 
   abbrev KeptLimits : Type 0
   KeptLimits = (l : NotedLimits) × AnyLimitsHold l
@@ -293,7 +295,8 @@ module _ (globals : Globals) (s : Setting) (agrees : Agrees globals s) (declares
         noted_is p = noted p ∙ ap (λ b. if b then range_of_local s.frame j here.at.widened else range.Missing) p
     node_step (Node-F.Name (name.Static j)) note place row typed covered node checked scalar fresh little are fault judged noted k =
         ⊎_elim (λ c. static_claims s store entry next ready here h note.ctype j c place) (λ c. ⊎_elim (λ c. array_claims s store entry next ready here h note.ctype j c place)
-        (λ c. ⊎_elim (λ c. pointer_claims s store entry next ready here h note.ctype j c place) (λ (c : IsStaticStructure s note.ctype j). absurd (no_structure note.ctype scalar c.tag c.struct)) c) c) node
+        (λ c. ⊎_elim (λ c. pointer_claims s store entry next ready here h note.ctype j c place)
+        (λ c. ⊎_elim (λ c. bounded_claims s store entry next ready here h note.ctype j c place) (λ (c : IsStaticStructure s note.ctype j). absurd (no_structure note.ctype scalar c.tag c.struct)) c) c) c) node
     node_step (Node-F.Un op.Minus e) note place row typed covered node checked scalar fresh little are fault judged noted k =
         minus_claims s store entry here h e.0 note.ctype place ((part_of e.0).value s.text s.variables k)
         (e.1.claims typed here covered (integer_scalar e.0.note.ctype (sign_row e.0.note.ctype note.ctype row.row).0) h fresh little are (one_part (λ a. Node-F.Un op.Minus a) (λ a b e. cc) _ e.0 judged) k) row.row
@@ -345,7 +348,7 @@ module _ (globals : Globals) (s : Setting) (agrees : Agrees globals s) (declares
         cast_claims s store entry here h e.0 note.ctype place ((part_of e.0).value s.text s.variables k)
         (e.1.claims typed here covered (cast_scalar (type_written w) e.0.note.ctype (is_null e.0) (null_scalar globals s e.0 typed) row.row.0) h fresh little are (one_part (λ a. Node-F.Cast w a) (λ a b e. cc) _ e.0 judged) k) w (type_written w) (part_of e.0).ctype (is_null e.0) row.row.1 checked row.row.0
     node_step (Node-F.Un op.Deref e) note place row typed covered node checked scalar fresh little are fault judged noted k =
-        subst (λ t. Of t (part_of e.0).ctype) is (subst (λ u. Of (element_of e.0.note.ctype) u) (sym (parted_type e.0)) (⊎_elim several (⊎_elim single structure) node))
+        subst (λ t. Of t (part_of e.0).ctype) is (subst (λ u. Of (element_of e.0.note.ctype) u) (sym (parted_type e.0)) (⊎_elim several (⊎_elim single (⊎_elim structure pointer)) node))
       where
         is : element_of e.0.note.ctype ≡ note.ctype
         is = some_if (is_pointer e.0.note.ctype && not (is_void (element_of e.0.note.ctype))) (element_of e.0.note.ctype) note.ctype row.row
@@ -359,6 +362,15 @@ module _ (globals : Globals) (s : Setting) (agrees : Agrees globals s) (declares
 
         structure : IsStructureTarget s e.0 → Of (element_of e.0.note.ctype) e.0.note.ctype
         structure node = absurd (no_structure (element_of e.0.note.ctype) (ap is_scalar is ∙ scalar) node.tag node.struct)
+
+        pointer : IsPointerTarget s store e.0 → Of (element_of e.0.note.ctype) e.0.note.ctype
+        pointer node =
+            pointee_claims s store entry next ready here h e.0.note.ctype node.pointer (through_bare s e.0.note.ctype node.through) node.free node.filled (node_view s.frame (Node-F.Un op.Deref (view s.frame e.0)))
+            refl refl (λ first facts. refl) (fresh_same s.frame e.0 here.at) (λ own first fresh widened. refl) (ap kind_of (viewed_type e.0)) refl (λ b. refl)
+            (target_place s.text.layout e.0.note.ctype place ((part_of e.0).value s.text s.variables k)) refl
+            (target_reached s store entry next ready here h e.0 fresh (covered_few e.0 covered) little are ((part_of e.0).value s.text s.variables k) inside
+            (λ counted. ranged_pointer s store entry next ready here h e.0 fresh (covered_few e.0 covered) little are place (ap is_counted_kind (ap kind_of (viewed_type e.0)) ∙ counted) fault) _
+            (λ bare m low high a true_there reached. (m, low, high, true_there, reached)) node.through place)
 
         single : IsSingle s e.0 → Of (element_of e.0.note.ctype) e.0.note.ctype
         single node =
@@ -386,7 +398,7 @@ module _ (globals : Globals) (s : Setting) (agrees : Agrees globals s) (declares
         (covered_few e.0 covered.0) fresh first are fault refl refl (λ b. refl) (ap kind_of (viewed_type e.0))
         (λ x c j there a at g target. element_aims s store entry next ready here h e.0 fresh (covered_few e.0 covered.0) first are x c (exact (integer_of f.0.note.ctype) j.number) (view s.frame f.0).form
         (index_of here h f.0 typed.1 (k + (part_of e.0).literals) j there) a at (is_raw_kind (kind_of (view s.frame e.0).ctype))
-        (ap is_raw_kind (ap kind_of (viewed_type e.0)) ∙ (every_here-Expr Name Note AnyLimits AnyNode (IsCoveredExpr s store here.seen) e.0 covered.0).checked) g target)) structure node)))
+        (ap is_raw_kind (ap kind_of (viewed_type e.0)) ∙ (every_here-Expr Name Note AnyLimits AnyNode (IsCoveredExpr s store here.seen) e.0 covered.0).checked) g target)) (⊎_elim structure pointer) node)))
       where
         first : fresh + length ((view s.frame e.0).fresh here.at) < 2 ^ 32
         first = left_room fresh ((view s.frame e.0).fresh here.at) ((view s.frame f.0).fresh here.at) little
@@ -404,6 +416,22 @@ module _ (globals : Globals) (s : Setting) (agrees : Agrees globals s) (declares
 
         structure : IsStructureElement e.0 → Of (element_of e.0.note.ctype) e.0.note.ctype f.0.note.ctype
         structure node = absurd (no_structure (element_of e.0.note.ctype) (ap is_scalar is ∙ scalar) node.tag node.struct)
+
+        pointer : IsPointerTarget s store e.0 × (kind_of e.0.note.ctype ≡ Some kind.Arr) → Of (element_of e.0.note.ctype) e.0.note.ctype f.0.note.ctype
+        pointer node =
+            pointee_claims s store entry next ready here h e.0.note.ctype node.0.pointer (through_bare s e.0.note.ctype node.0.through) node.0.free node.0.filled (node_view s.frame (Node-F.Index (view s.frame e.0) (view s.frame f.0)))
+            refl refl (λ first facts. refl) kept (λ own first fresh widened. refl) (ap kind_of (viewed_type e.0)) refl (λ b. refl)
+            (element_place s.text.layout e.0.note.ctype place (integer_of f.0.note.ctype) ((part_of e.0).value s.text s.variables k) ((part_of f.0).value s.text s.variables (k + (part_of e.0).literals))) refl
+            (element_reached s store entry next ready here h e.0 fresh (covered_few e.0 covered.0) first are ((part_of e.0).value s.text s.variables k) (left_claims e f typed covered scalars fresh first are k parts.0)
+            (λ counted. ranged_pointer s store entry next ready here h e.0 fresh (covered_few e.0 covered.0) first are place (ap is_counted_kind (ap kind_of (viewed_type e.0)) ∙ counted) fault) _
+            (λ bare m low high a true_there reached. (m, low, high, true_there, reached)) node.1 place (integer_of f.0.note.ctype) ((part_of f.0).value s.text s.variables (k + (part_of e.0).literals)) (ExprClaims s store entry here f.0)
+            (right_claims e f typed covered scalars fresh first are k here.at (right_room fresh ((view s.frame e.0).fresh here.at) ((view s.frame f.0).fresh here.at) little) parts.1 h))
+          where
+            parts : ((view s.frame e.0).judged fresh here.at ≡ Ok e.0) × ((view s.frame f.0).judged (fresh_behind (view s.frame e.0) fresh here.at) here.at ≡ Ok f.0)
+            parts = two_parts (λ a b. Node-F.Index a b) (λ a b c d e. (cc, cc)) _ _ e.0 f.0 judged
+
+            kept : (widened : List ℕ) → (view s.frame e.0).fresh (record here.at { widened = widened }) ++ (view s.frame f.0).fresh (record here.at { widened = widened }) ≡ (view s.frame e.0).fresh here.at ++ (view s.frame f.0).fresh here.at
+            kept widened = ap (λ us. us ++ (view s.frame f.0).fresh (record here.at { widened = widened })) (fresh_same s.frame e.0 here.at widened) ∙ ap (λ us. (view s.frame e.0).fresh here.at ++ us) (fresh_same s.frame f.0 here.at widened)
     node_step (Node-F.Arrow e n spot) note place row typed covered node checked scalar fresh little are fault judged noted k =
         subst Of (sym (parted_type e.0)) (⊎_elim number address node)
       where
@@ -452,7 +480,7 @@ module _ (globals : Globals) (s : Setting) (agrees : Agrees globals s) (declares
         address : IsPointerArrow s store e.0 n note.ctype → Of e.0.note.ctype
         address node =
             held_claims s store entry next ready here h (element_of e.0.note.ctype) note.ctype n node.member checked made (arrow_node s store here e.0 n spot note.ctype node.member (viewed_type e.0)) (target_place s.text.layout e.0.note.ctype place v)
-            (target_structure s store entry next ready here h e.0 node.member.tag node.member.struct fresh (covered_few e.0 covered) inner are v inside ranged node.through place)
+            (target_structure s store entry next ready here h e.0 fresh (covered_few e.0 covered) inner are v inside ranged node.member.tag node.member.struct node.through place)
 
         number : IsArrow s e.0 n note.ctype → Of e.0.note.ctype
         number node =
@@ -472,28 +500,36 @@ module _ (globals : Globals) (s : Setting) (agrees : Agrees globals s) (declares
 
         there : IsStructurePlace store e.0.note.ctype ((part_of e.0).place s.text s.variables k)
         there =
-            e.1.place typed here covered node.operand node.tag node.struct h fresh (parts_room fresh ((view s.frame e.0).fresh here.at) (own_fresh note.ctype made here.at.facts) little) are
-            (one_part (λ a. Node-F.Dot a n spot) (λ a b e. cc) _ e.0 judged) k
+            (e.1.place typed here covered node.operand node.tag node.struct h fresh (parts_room fresh ((view s.frame e.0).fresh here.at) (own_fresh note.ctype made here.at.facts) little) are
+            (one_part (λ a. Node-F.Dot a n spot) (λ a b e. cc) _ e.0 judged) k).0
     node_step y note place row typed covered node checked scalar fresh little are fault judged noted k = absurd node
+
+    not_raw : (e : NotedExpr) → AreCovered s store here.seen e → is_raw_kind (kind_of (view s.frame e).ctype) ≡ false
+    not_raw e c = ap is_raw_kind (ap kind_of (viewed_type e)) ∙ (every_here-Expr Name Note AnyLimits AnyNode (IsCoveredExpr s store here.seen) e c).checked
 
     -- ---- the place of a structure
 
     place_step : (y : Node-F Name Note KeptLimits KeptNode KeptExpr) (note : Note) (place : Pos) → IsRow globals s (inner_node y) note → PartsEvery (HasRow globals s) (inner_node y)
         → PartsEvery (IsCoveredExpr s store here.seen) (inner_node y) → IsCoveredNode s store here.seen note.ctype (inner_node y) → IsStructureNode (inner_node y) → (tag : ℕ) → out-CType note.ctype ≡ CType-F.Struct tag
         → (fresh : ℕ) → fresh + length ((node_view s.frame (viewed_node (inner_node y))).fresh here.at) < 2 ^ 32 → AreFresh s.frame fresh → node_judged s.frame (viewed_node (inner_node y)) note.ctype fresh here.at ≡ Ok (node_of (inner_node y))
-        → fault_of_node s.frame (viewed_node (inner_node y)) place fresh here.at ≡ None → (k : ℕ) → IsStructurePlace store note.ctype (node_place (part_node (inner_node y)) note place s.text s.variables k)
-    place_step (Node-F.Name (name.Static j)) note place row typed covered node structure tag struct fresh little are judged fault k =
-        ⊎_elim (λ (c : IsStaticInteger s note.ctype j). absurd (no_structure note.ctype (integer_scalar note.ctype c.integer) tag struct))
-        (λ c. ⊎_elim (λ (c : IsStaticArray s note.ctype j). absurd (no_structure note.ctype (pointer_scalar note.ctype c.pointer) tag struct))
-        (λ c. ⊎_elim (λ (c : IsStaticPointer s store note.ctype j). absurd (no_structure note.ctype (pointer_scalar note.ctype c.pointer) tag struct))
-        (λ c. object_structure s store next ready note.ctype j c place) c) c) node
-    place_step (Node-F.Un op.Deref e) note place row typed covered node structure tag struct fresh little are judged fault k =
-        subst (λ u. IsStructurePlace store u (target_place s.text.layout (part_of e.0).ctype place v)) is
-        (subst (λ t. IsStructurePlace store (element_of e.0.note.ctype) (target_place s.text.layout t place v)) (sym (parted_type e.0))
-        (⊎_elim (λ (n : IsElement e.0). none n.integer) (λ c. ⊎_elim (λ (n : IsSingle s e.0). none n.integer) (λ (n : IsStructureTarget s e.0).
-        target_structure s store entry next ready here h e.0 n.tag n.struct fresh (covered_few e.0 covered) little are v
-        (e.1.claims typed here covered (target_scalar e.0 note.ctype row.row) h fresh little are (one_part (λ a. Node-F.Un op.Deref a) (λ a b e. cc) _ e.0 judged) k)
-        (λ counted. ranged_pointer s store entry next ready here h e.0 fresh (covered_few e.0 covered) little are place (ap is_counted_kind (ap kind_of (viewed_type e.0)) ∙ counted) fault) n.through place) c) node))
+        → fault_of_node s.frame (viewed_node (inner_node y)) place fresh here.at ≡ None → (k : ℕ) → IsStructurePlace store note.ctype (node_place (part_node (inner_node y)) note place s.text s.variables k) × (is_raw_kind (node_view s.frame (viewed_node (inner_node y))).behind ≡ false)
+    place_step (Node-F.Name (name.Static j)) note place row typed covered node structure tag struct fresh little are judged fault k = (
+      ⊎_elim (λ (c : IsStaticInteger s note.ctype j). absurd (no_structure note.ctype (integer_scalar note.ctype c.integer) tag struct))
+          (λ c. ⊎_elim (λ (c : IsStaticArray s note.ctype j). absurd (no_structure note.ctype (pointer_scalar note.ctype c.pointer) tag struct))
+          (λ c. ⊎_elim (λ (c : IsStaticPointer s store note.ctype j). absurd (no_structure note.ctype (pointer_scalar note.ctype c.pointer) tag struct))
+          (λ c. ⊎_elim (λ (c : IsStaticBounded s store note.ctype j). absurd (no_structure note.ctype (pointer_scalar note.ctype c.pointer) tag struct))
+          (λ c. object_structure s store next ready note.ctype j c place) c) c) c) node,
+      refl,
+    )
+    place_step (Node-F.Un op.Deref e) note place row typed covered node structure tag struct fresh little are judged fault k = (
+      subst (λ u. IsStructurePlace store u (target_place s.text.layout (part_of e.0).ctype place v)) is
+          (subst (λ t. IsStructurePlace store (element_of e.0.note.ctype) (target_place s.text.layout t place v)) (sym (parted_type e.0))
+          (⊎_elim (λ (n : IsElement e.0). none n.integer) (λ c. ⊎_elim (λ (n : IsSingle s e.0). none n.integer) (λ c. ⊎_elim (λ (n : IsStructureTarget s e.0).
+          target_structure s store entry next ready here h e.0 fresh (covered_few e.0 covered) little are v
+          (e.1.claims typed here covered (target_scalar e.0 note.ctype row.row) h fresh little are (one_part (λ a. Node-F.Un op.Deref a) (λ a b e. cc) _ e.0 judged) k)
+          (λ counted. ranged_pointer s store entry next ready here h e.0 fresh (covered_few e.0 covered) little are place (ap is_counted_kind (ap kind_of (viewed_type e.0)) ∙ counted) fault) n.tag n.struct n.through place) (λ (n : IsPointerTarget s store e.0). no_pointer_there n.pointer) c) c) node)),
+      not_raw e.0 covered,
+    )
       where
         v : Expr
         v = (part_of e.0).value s.text s.variables k
@@ -501,18 +537,24 @@ module _ (globals : Globals) (s : Setting) (agrees : Agrees globals s) (declares
         is : element_of e.0.note.ctype ≡ note.ctype
         is = some_if (is_pointer e.0.note.ctype && not (is_void (element_of e.0.note.ctype))) (element_of e.0.note.ctype) note.ctype row.row
 
+        no_pointer_there : is_pointer (element_of e.0.note.ctype) ≡ true → IsStructurePlace store (element_of e.0.note.ctype) (target_place s.text.layout e.0.note.ctype place v)
+        no_pointer_there i = absurd (no_structure note.ctype (pointer_scalar note.ctype (ap is_pointer (sym is) ∙ i)) tag struct)
+
         none : is_integer (element_of e.0.note.ctype) ≡ true → IsStructurePlace store (element_of e.0.note.ctype) (target_place s.text.layout e.0.note.ctype place v)
         none i = absurd (no_structure note.ctype (integer_scalar note.ctype (ap is_integer (sym is) ∙ i)) tag struct)
     place_step (Node-F.Index e f) note place row typed covered node structure tag struct fresh little are judged fault k =
-        let parts = two_parts (λ a b. Node-F.Index a b) (λ a b c d e. (cc, cc)) _ _ e.0 f.0 judged in
-        subst (λ u. IsStructurePlace store u (element_place s.text.layout (part_of e.0).ctype place (integer_of (part_of f.0).ctype) v w)) is
-        (subst (λ t. IsStructurePlace store (element_of e.0.note.ctype) (element_place s.text.layout t place (integer_of (part_of f.0).ctype) v w)) (sym (parted_type e.0))
-        (⊎_elim (λ (n : IsElement e.0). absurd (no_structure note.ctype (integer_scalar note.ctype (ap is_integer (sym is) ∙ n.integer)) tag struct)) (λ (n : IsStructureElement e.0).
-        element_structure s store entry next ready here h e.0 n.tag n.struct fresh (covered_few e.0 covered.0) first are v
-        (left_claims e f typed covered (index_scalar e.0.note.ctype f.0.note.ctype note.ctype row.row) fresh first are k parts.0)
-        (λ counted. ranged_pointer s store entry next ready here h e.0 fresh (covered_few e.0 covered.0) first are place (ap is_counted_kind (ap kind_of (viewed_type e.0)) ∙ counted) fault) n.array place
-        (integer_of (part_of f.0).ctype) w (ExprClaims s store entry here f.0)
-        (right_claims e f typed covered (index_scalar e.0.note.ctype f.0.note.ctype note.ctype row.row) fresh first are k here.at (right_room fresh ((view s.frame e.0).fresh here.at) ((view s.frame f.0).fresh here.at) little) parts.1 h)) node))
+        let parts = two_parts (λ a b. Node-F.Index a b) (λ a b c d e. (cc, cc)) _ _ e.0 f.0 judged in (
+          subst (λ u. IsStructurePlace store u (element_place s.text.layout (part_of e.0).ctype place (integer_of (part_of f.0).ctype) v w)) is
+              (subst (λ t. IsStructurePlace store (element_of e.0.note.ctype) (element_place s.text.layout t place (integer_of (part_of f.0).ctype) v w)) (sym (parted_type e.0))
+              (⊎_elim (λ (n : IsElement e.0). absurd (no_structure note.ctype (integer_scalar note.ctype (ap is_integer (sym is) ∙ n.integer)) tag struct)) (λ c. ⊎_elim (λ (n : IsStructureElement e.0).
+              element_structure s store entry next ready here h e.0 fresh (covered_few e.0 covered.0) first are v
+              (left_claims e f typed covered (index_scalar e.0.note.ctype f.0.note.ctype note.ctype row.row) fresh first are k parts.0)
+              (λ counted. ranged_pointer s store entry next ready here h e.0 fresh (covered_few e.0 covered.0) first are place (ap is_counted_kind (ap kind_of (viewed_type e.0)) ∙ counted) fault) n.tag n.struct n.array place
+              (integer_of (part_of f.0).ctype) w (ExprClaims s store entry here f.0)
+              (right_claims e f typed covered (index_scalar e.0.note.ctype f.0.note.ctype note.ctype row.row) fresh first are k here.at (right_room fresh ((view s.frame e.0).fresh here.at) ((view s.frame f.0).fresh here.at) little) parts.1 h))
+              (λ n. absurd (no_structure note.ctype (pointer_scalar note.ctype (ap is_pointer (sym is) ∙ n.0.pointer)) tag struct)) c) node)),
+          not_raw e.0 covered.0,
+        )
       where
         first : fresh + length ((view s.frame e.0).fresh here.at) < 2 ^ 32
         first = left_room fresh ((view s.frame e.0).fresh here.at) ((view s.frame f.0).fresh here.at) little
@@ -530,12 +572,12 @@ module _ (globals : Globals) (s : Setting) (agrees : Agrees globals s) (declares
     -- ---- the address of a place
 
     address_step : (y : Node-F Name Note KeptLimits KeptNode KeptExpr) (note : Note) (place : Pos) → IsRow globals s (inner_node y) note → PartsEvery (HasRow globals s) (inner_node y)
-        → PartsEvery (IsCoveredExpr s store here.seen) (inner_node y) → IsCoveredNode s store here.seen note.ctype (inner_node y) → IsAddressed (inner_node y)
+        → PartsEvery (IsCoveredExpr s store here.seen) (inner_node y) → IsCoveredNode s store here.seen note.ctype (inner_node y) → IsAddressed s note.ctype (inner_node y)
         → (fresh : ℕ) → fresh + length ((node_view s.frame (viewed_node (inner_node y))).fresh here.at) < 2 ^ 32 → AreFresh s.frame fresh → node_judged s.frame (viewed_node (inner_node y)) note.ctype fresh here.at ≡ Ok (node_of (inner_node y))
-        → (r : CType) → is_pointer r ≡ true → kind_of r ≡ Some kind.Arr → element_of r ≡ note.ctype
+        → operand_fault_of_node s.frame (viewed_node (inner_node y)) place fresh here.at ≡ None → (r : CType) → is_pointer r ≡ true → kind_of r ≡ Some kind.Arr → element_of r ≡ note.ctype
         → (k : ℕ) → IsNotStuck (NodeClaims s store entry here h r (node_view s.frame (Node-F.Un op.Address (expr_view (record { node = node_view s.frame (viewed_node (inner_node y)); pos = place; note = note })))))
         (evaluated store (node_address (part_node (inner_node y)) note place s.text s.variables k))
-    address_step (Node-F.Un op.Deref e) note place row typed covered node addressed fresh little are judged r pointer array element k =
+    address_step (Node-F.Un op.Deref e) note place row typed covered node addressed fresh little are judged fault r pointer array element k =
         weaker (evaluated store ((part_of e.0).value s.text s.variables k)) (e.1.claims typed here covered (target_scalar e.0 note.ctype row.row) h fresh little are (one_part (λ a. Node-F.Un op.Deref a) (λ a b e. cc) _ e.0 judged) k)
         (λ x there c. target_claims s store entry here h e.0 note place bare r pointer array (element ∙ sym is) x c)
       where
@@ -543,10 +585,8 @@ module _ (globals : Globals) (s : Setting) (agrees : Agrees globals s) (declares
         is = some_if (is_pointer e.0.note.ctype && not (is_void (element_of e.0.note.ctype))) (element_of e.0.note.ctype) note.ctype row.row
 
         bare : is_pointer note.ctype ≡ false
-        bare = subst (λ t. is_pointer t ≡ false) is
-            (⊎_elim (λ (n : IsElement e.0). no_pointer (element_of e.0.note.ctype) n.integer) (λ c. ⊎_elim (λ (n : IsSingle s e.0). no_pointer (element_of e.0.note.ctype) n.integer)
-            (λ (n : IsStructureTarget s e.0). structure_pointer (element_of e.0.note.ctype) n.tag n.struct) c) node)
-    address_step (Node-F.Index e f) note place row typed covered node addressed fresh little are judged r pointer array element k =
+        bare = addressed
+    address_step (Node-F.Index e f) note place row typed covered node addressed fresh little are judged fault r pointer array element k =
         let parts = two_parts (λ a b. Node-F.Index a b) (λ a b c d e. (cc, cc)) _ _ e.0 f.0 judged in
         let small = covered_sized e.0 covered.0 in
         subst (λ t. Of t (part_of f.0).ctype) (sym (parted_type e.0)) (subst (λ u. Of e.0.note.ctype u) (sym (parted_type f.0))
@@ -583,9 +623,38 @@ module _ (globals : Globals) (s : Setting) (agrees : Agrees globals s) (declares
         scalars = index_scalar e.0.note.ctype f.0.note.ctype note.ctype row.row
 
         bare : is_pointer note.ctype ≡ false
-        bare = subst (λ t. is_pointer t ≡ false) is
-            (⊎_elim (λ (n : IsElement e.0). no_pointer (element_of e.0.note.ctype) n.integer) (λ (n : IsStructureElement e.0). structure_pointer (element_of e.0.note.ctype) n.tag n.struct) node)
-    address_step y note place row typed covered node addressed fresh little are judged r pointer array element k = absurd addressed
+        bare = addressed
+    address_step (Node-F.Name (name.Static j)) note place row typed covered node addressed fresh little are judged fault r pointer array element k =
+        object_claims s store entry next ready here h note.ctype r pointer array element (node_view s.frame (Node-F.Un op.Address (expr_view (record { node = node_view s.frame (Node-F.Name (name.Static j)); pos = place; note = note }))))
+        (address_node s here note place r (node_view s.frame (Node-F.Name (name.Static j))) (λ widened. refl) (λ own first fresh at. refl) (λ first facts. refl)) j addressed
+    address_step (Node-F.Arrow e n spot) note place row typed covered node addressed fresh little are judged fault r pointer array element k =
+        subst (λ t. IsNotStuck (NodeClaims s store entry here h r made) (evaluated store (address_at s.text.layout note.ctype (member_place s.text.layout (tag_of (element_of t)) n (target_place s.text.layout t place v))))) (sym (parted_type e.0))
+        (member_claims s store entry next ready here h note.ctype r pointer array element made
+        (address_node s here note place r (node_view s.frame (Node-F.Arrow (view s.frame e.0) n spot)) (fresh_same s.frame e.0 here.at)
+        (λ own first fresh at. ap (λ b. if b then range.Missing else range_of_one own.value) (not_raw e.0 covered)) (λ first facts. refl))
+        (element_of e.0.note.ctype) n addressed.0 (target_place s.text.layout e.0.note.ctype place v)
+        (target_structure s store entry next ready here h e.0 fresh (covered_few e.0 covered) little are v
+        (e.1.claims typed here covered (through_scalar s e.0.note.ctype addressed.1) h fresh little are (one_part (λ a. Node-F.Arrow a n spot) (λ a b e. cc) _ e.0 judged) k)
+        (λ counted. ranged_pointer s store entry next ready here h e.0 fresh (covered_few e.0 covered) little are place (ap is_counted_kind (ap kind_of (viewed_type e.0)) ∙ counted) fault) addressed.0.tag addressed.0.struct addressed.1 place))
+      where
+        v : Expr
+        v = (part_of e.0).value s.text s.variables k
+
+        made : NodeView
+        made = node_view s.frame (Node-F.Un op.Address (expr_view (record { node = node_view s.frame (Node-F.Arrow (view s.frame e.0) n spot); pos = place; note = note })))
+    address_step (Node-F.Dot e n spot) note place row typed covered node addressed fresh little are judged fault r pointer array element k =
+        subst (λ t. IsNotStuck (NodeClaims s store entry here h r made) (evaluated store (address_at s.text.layout note.ctype (member_place s.text.layout (tag_of t) n ((part_of e.0).place s.text s.variables k))))) (sym (parted_type e.0))
+        (member_claims s store entry next ready here h note.ctype r pointer array element made
+        (address_node s here note place r (node_view s.frame (Node-F.Dot (view s.frame e.0) n spot)) (fresh_same s.frame e.0 here.at)
+        (λ own first fresh at. ap (λ b. if b then range.Missing else range_of_one own.value) there.1) (λ first facts. refl))
+        e.0.note.ctype n addressed ((part_of e.0).place s.text s.variables k) there.0)
+      where
+        made : NodeView
+        made = node_view s.frame (Node-F.Un op.Address (expr_view (record { node = node_view s.frame (Node-F.Dot (view s.frame e.0) n spot); pos = place; note = note })))
+
+        there : IsStructurePlace store e.0.note.ctype ((part_of e.0).place s.text s.variables k) × (is_raw_kind (view s.frame e.0).behind ≡ false)
+        there = e.1.place typed here covered node.operand node.tag node.struct h fresh little are (one_part (λ a. Node-F.Dot a n spot) (λ a b e. cc) _ e.0 judged) k
+    address_step y note place row typed covered node addressed fresh little are judged fault r pointer array element k = absurd addressed
 
   -- ---- the induction
 
@@ -607,7 +676,7 @@ module _ (globals : Globals) (s : Setting) (agrees : Agrees globals s) (declares
         (subst (λ (n : NodeView). n.fault place fresh here.at ≡ None) n_is fault)
         (subst (λ (n : NodeView). n.judged note.ctype fresh here.at ≡ Ok (node_of (inner_node y))) n_is (judged ∙ ap Ok (node_rolled (inner_node y))))
         (λ p. subst (λ (n : NodeView). note.range ≡ pointer_range note.ctype n 0 fresh here.at) n_is (noted p)) k));
-    address = λ note place row typed here covered node addressed h fresh little are judged r pointer array element k.
+    address = λ note place row typed here covered node addressed h fresh little are judged fault r pointer array element k.
         let out : out-Node Name Note (roll-Node Name Note (inner_node y)) ≡ inner_node y = node_out (inner_node y) in
         let n_is : view_of_node s.frame (roll-Node Name Note (inner_node y)) ≡ node_view s.frame (viewed_node (inner_node y)) =
         fold-roll-Node Name Note LimitsView NodeView View limits_view (node_view s.frame) expr_view (inner_node y) in
@@ -620,21 +689,24 @@ module _ (globals : Globals) (s : Setting) (agrees : Agrees globals s) (declares
         (address_step here h y note place (subst (λ z. IsRow globals s z note) out row)
         (subst (PartsEvery (HasRow globals s)) out (parts_every (HasRow globals s) (roll-Node Name Note (inner_node y)) typed))
         (subst (PartsEvery (IsCoveredExpr s store here.seen)) out (parts_every (IsCoveredExpr s store here.seen) (roll-Node Name Note (inner_node y)) covered))
-        (subst (IsCoveredNode s store here.seen note.ctype) out node) (subst IsAddressed out addressed) fresh (subst (λ (n : NodeView). fresh + length (n.fresh here.at) < 2 ^ 32) n_is little) are
-        (subst (λ (n : NodeView). n.judged note.ctype fresh here.at ≡ Ok (node_of (inner_node y))) n_is (judged ∙ ap Ok (node_rolled (inner_node y)))) r pointer array element k));
+        (subst (IsCoveredNode s store here.seen note.ctype) out node) (subst (IsAddressed s note.ctype) out addressed) fresh (subst (λ (n : NodeView). fresh + length (n.fresh here.at) < 2 ^ 32) n_is little) are
+        (subst (λ (n : NodeView). n.judged note.ctype fresh here.at ≡ Ok (node_of (inner_node y))) n_is (judged ∙ ap Ok (node_rolled (inner_node y))))
+        (subst (λ (n : NodeView). n.operand_fault place fresh here.at ≡ None) n_is fault) r pointer array element k));
     place = λ note place row typed here covered node structure tag struct h fresh little are judged fault k.
         let out : out-Node Name Note (roll-Node Name Note (inner_node y)) ≡ inner_node y = node_out (inner_node y) in
         let n_is : view_of_node s.frame (roll-Node Name Note (inner_node y)) ≡ node_view s.frame (viewed_node (inner_node y)) =
         fold-roll-Node Name Note LimitsView NodeView View limits_view (node_view s.frame) expr_view (inner_node y) in
         let q_is : part_of_node (roll-Node Name Note (inner_node y)) ≡ node_parts (part_node (inner_node y)) =
         fold-roll-Node Name Note LimitsPart NodePart Part limits_parts node_parts expr_parts (inner_node y) in
-        subst (λ (q : NodePart). IsStructurePlace store note.ctype (q.place note place s.text s.variables k)) (sym q_is)
+        let P : NodeView → NodePart → Type 0 = λ n q. IsStructurePlace store note.ctype (q.place note place s.text s.variables k) × (is_raw_kind n.behind ≡ false) in
+        subst (λ n. P n (part_of_node (roll-Node Name Note (inner_node y)))) (sym n_is)
+        (subst (λ q. P (node_view s.frame (viewed_node (inner_node y))) q) (sym q_is)
         (place_step here h y note place (subst (λ z. IsRow globals s z note) out row)
         (subst (PartsEvery (HasRow globals s)) out (parts_every (HasRow globals s) (roll-Node Name Note (inner_node y)) typed))
         (subst (PartsEvery (IsCoveredExpr s store here.seen)) out (parts_every (IsCoveredExpr s store here.seen) (roll-Node Name Note (inner_node y)) covered))
         (subst (IsCoveredNode s store here.seen note.ctype) out node) (subst IsStructureNode out structure) tag struct fresh (subst (λ (n : NodeView). fresh + length (n.fresh here.at) < 2 ^ 32) n_is little) are
         (subst (λ (n : NodeView). n.judged note.ctype fresh here.at ≡ Ok (node_of (inner_node y))) n_is (judged ∙ ap Ok (node_rolled (inner_node y))))
-        (subst (λ (n : NodeView). n.fault place fresh here.at ≡ None) n_is fault) k);
+        (subst (λ (n : NodeView). n.fault place fresh here.at ≡ None) n_is fault) k));
   })
 
   limits_by : (x : Limits-F Name Note NotedLimits NotedNode NotedExpr) (y : Limits-F Name Note KeptLimits KeptNode KeptExpr) → inner_limits y ≡ x → AnyLimitsHold (roll-Limits Name Note x)
@@ -658,12 +730,12 @@ module _ (globals : Globals) (s : Setting) (agrees : Agrees globals s) (declares
         let v_is : view s.frame e ≡ expr_view (viewed_expr (inner_expr y)) = fold-roll-Expr Name Note LimitsView NodeView View limits_view (node_view s.frame) expr_view (inner_expr y) in
         let q_is : part_of e ≡ expr_parts (part_expr (inner_expr y)) = fold-roll-Expr Name Note LimitsPart NodePart Part limits_parts node_parts expr_parts (inner_expr y) in
         let P : View → Part → Type 0 = λ v q. IsNotStuck (NodeClaims s store entry here h r (node_view s.frame (Node-F.Un op.Address v))) (evaluated store (q.address s.text s.variables k)) in
-        let seen : (view_of_node s.frame y.node.0).judged y.note.ctype fresh here.at ≡ Ok y.node.0 =
+        let seen : ((view_of_node s.frame y.node.0).judged y.note.ctype fresh here.at ≡ Ok y.node.0) × ((view_of_node s.frame y.node.0).operand_fault y.pos fresh here.at ≡ None) =
         operand_is (view_of_node s.frame y.node.0) y.pos y.note y.node.0 fresh here.at (subst (λ (v : View). v.operand fresh here.at ≡ Ok e) v_is judged) in
         let row : IsRow globals s (out-Node Name Note y.node.0) y.note = every_here-Expr Name Note AnyLimits AnyNode (HasRow globals s) e typed in
         let cover : IsCoveredExpr s store here.seen (record { node = y.node.0; pos = y.pos; note = y.note }) = every_here-Expr Name Note AnyLimits AnyNode (IsCoveredExpr s store here.seen) e covered in
         subst (λ v. P v (part_of e)) (sym v_is) (subst (λ q. P (expr_view (viewed_expr (inner_expr y))) q) (sym q_is)
-        (y.node.1.address y.note y.pos row (node_every (HasRow globals s) e typed) here (node_every (IsCoveredExpr s store here.seen) e covered) cover.node addressed h fresh (parts_room fresh ((view_of_node s.frame y.node.0).fresh here.at) (own_fresh y.note.ctype (view_of_node s.frame y.node.0) here.at.facts) (subst (λ (v : View). fresh + length (v.fresh here.at) < 2 ^ 32) v_is little)) are seen r pointer array element k));
+        (y.node.1.address y.note y.pos row (node_every (HasRow globals s) e typed) here (node_every (IsCoveredExpr s store here.seen) e covered) cover.node addressed h fresh (parts_room fresh ((view_of_node s.frame y.node.0).fresh here.at) (own_fresh y.note.ctype (view_of_node s.frame y.node.0) here.at.facts) (subst (λ (v : View). fresh + length (v.fresh here.at) < 2 ^ 32) v_is little)) are seen.0 seen.1 r pointer array element k));
     place = λ typed here covered structure tag struct h fresh little are judged k.
         let e : NotedExpr = roll-Expr Name Note (inner_expr y) in
         let v_is : view s.frame e ≡ expr_view (viewed_expr (inner_expr y)) = fold-roll-Expr Name Note LimitsView NodeView View limits_view (node_view s.frame) expr_view (inner_expr y) in
@@ -672,8 +744,9 @@ module _ (globals : Globals) (s : Setting) (agrees : Agrees globals s) (declares
         judged_is (view_of_node s.frame y.node.0) y.pos y.note y.node.0 fresh here.at (subst (λ (v : View). v.judged fresh here.at ≡ Ok e) v_is judged) in
         let row : IsRow globals s (out-Node Name Note y.node.0) y.note = every_here-Expr Name Note AnyLimits AnyNode (HasRow globals s) e typed in
         let cover : IsCoveredExpr s store here.seen (record { node = y.node.0; pos = y.pos; note = y.note }) = every_here-Expr Name Note AnyLimits AnyNode (IsCoveredExpr s store here.seen) e covered in
-        subst (λ (q : Part). IsStructurePlace store y.note.ctype (q.place s.text s.variables k)) (sym q_is)
-        (y.node.1.place y.note y.pos row (node_every (HasRow globals s) e typed) here (node_every (IsCoveredExpr s store here.seen) e covered) cover.node structure tag struct h fresh (parts_room fresh ((view_of_node s.frame y.node.0).fresh here.at) (own_fresh y.note.ctype (view_of_node s.frame y.node.0) here.at.facts) (subst (λ (v : View). fresh + length (v.fresh here.at) < 2 ^ 32) v_is little)) are seen.node seen.fault k);
+        let P : View → Part → Type 0 = λ v q. IsStructurePlace store y.note.ctype (q.place s.text s.variables k) × (is_raw_kind v.behind ≡ false) in
+        subst (λ v. P v (part_of e)) (sym v_is) (subst (λ q. P (expr_view (viewed_expr (inner_expr y))) q) (sym q_is)
+        (y.node.1.place y.note y.pos row (node_every (HasRow globals s) e typed) here (node_every (IsCoveredExpr s store here.seen) e covered) cover.node structure tag struct h fresh (parts_room fresh ((view_of_node s.frame y.node.0).fresh here.at) (own_fresh y.note.ctype (view_of_node s.frame y.node.0) here.at.facts) (subst (λ (v : View). fresh + length (v.fresh here.at) < 2 ^ 32) v_is little)) are seen.node seen.fault k));
   })
 
   expr_holds : (e : NotedExpr) → ExprHolds e

@@ -16,6 +16,7 @@ use Rattle.ckc_types.specs.declared.types.MemberShape.{MemberShape}
 use Rattle.ckc_types.specs.Layout.{members_of}
 use Rattle.ckc_syntax.specs.declared.tree.Name.{Name}
 use Rattle.ckc_syntax.specs.declared.tree.Name.TheVariants as name
+use Rattle.ckc_typed.specs.declared.typed.Range.{Range}
 use Rattle.ckc_typed.specs.declared.typed.Range.TheVariants as range
 use Rattle.ckc_typed.specs.Environment.{is_member_named}
 use Rattle.ckc_typed.specs.Layouts.{member_number}
@@ -113,17 +114,21 @@ integer_loaded t n i h = by (out-CType t) i h
 
 -- ---- a member as a node
 
--- What is said of a node that is a member m: its range is that of the member.
-pub record IsMemberNode (s : Setting) (here : Here) (t : CType) (m : Member) (n : NodeView) : Type 0 where
+-- What is said of a node that stands for itself, of its range by its own numbers, and of the type of the fresh variable that it needs.
+pub record IsOwnNode (here : Here) (t : CType) (r : Own → Range) (o : Option CType) (n : NodeView) : Type 0 where
   pub alone : n.stands_alone ≡ true
   pub known : n.null ≡ false
   pub nowhere : (first : ℕ) (facts : Known) → n.place t first facts ≡ None
   pub kept : (widened : List ℕ) → n.fresh (record here.at { widened = widened }) ≡ n.fresh here.at
-  pub ranged : (own : Own) (first fresh : ℕ) (widened : List ℕ) → n.range t own first fresh (record here.at { widened = widened }) ≡ range_of_member s.frame.structs t (Some m) own
-  pub needs : own_fresh t n here.at.facts ≡ member_fresh s.frame.structs t (Some m)
+  pub ranged : (own : Own) (first fresh : ℕ) (widened : List ℕ) → n.range t own first fresh (record here.at { widened = widened }) ≡ r own
+  pub needs : own_fresh t n here.at.facts ≡ o
   pub behind : n.behind ≡ None
   pub some : n.is_zero ≡ false
   pub quiet : (b : Bool) → n.side b here.at ≡ here.at
+
+-- the same of a node that is a member m
+abbrev pub IsMemberNode : Setting → Here → CType → Member → NodeView → Type 0
+IsMemberNode s here t m = IsOwnNode here t (range_of_member s.frame.structs t (Some m)) (member_fresh s.frame.structs t (Some m))
 
 module _ (s : Setting) (store : Store) (entry : List ℕ) (next : ℕ) (ready : IsSoundStore s store next) (here : Here) (h : HoldsAt s store entry here) (u t : CType) (n : Name) (c : IsPointerMember s store u t n)
     (checked : is_raw_kind (kind_of t) ≡ false) (made : NodeView) (node : IsMemberNode s here t (record { tag = c.tag; number = c.number }) made) where

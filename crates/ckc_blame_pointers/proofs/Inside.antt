@@ -142,5 +142,5 @@ judged_is n pos note m fresh at e =
 
 -- the same of its node, if it is the operand of `&`
 pub operand_is : (n : NodeView) (pos : Pos) (note : Note) (m : NotedNode) (fresh : ℕ) (at : State) → operand_judged n pos note fresh at ≡ Ok (record { node = m; pos = pos; note = note })
-    → n.judged note.ctype fresh at ≡ Ok m
-operand_is n pos note m fresh at e = (judged_is (record n { fault = n.operand_fault }) pos note m fresh at e).node
+    → (n.judged note.ctype fresh at ≡ Ok m) × (n.operand_fault pos fresh at ≡ None)
+operand_is n pos note m fresh at e = let j = judged_is (record n { fault = n.operand_fault }) pos note m fresh at e in (j.node, j.fault)

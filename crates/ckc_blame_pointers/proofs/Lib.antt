@@ -31,4 +31,7 @@ pub mod Through
 pub mod Held
 pub mod Scalars
 pub mod Dots
+pub mod Singles
+pub mod Reached
+pub mod Pointees
 pub mod Arrows

@@ -27,7 +27,7 @@ use Rattle.ckc_blame_slots.proofs.Reached.{place_is}
 use Rattle.ckc_blame_slots.proofs.Stores.{load_goes}
 use Rattle.ckc_blame_pointers.specs.Meant.{IsNotStuck}
 use Rattle.ckc_blame_pointers.proofs.Loads.{loaded_in, word_loaded}
-use Rattle.ckc_blame_pointers.proofs.Structures.{IsWholeElement}
+use Rattle.ckc_blame_pointers.proofs.Structures.{IsWholeElement, IsStructureAt}
 
 -- ---- addresses
 
@@ -111,12 +111,18 @@ accessed_is access offset (Err h) y go = refl
 -- A structure of a type is an element of a block, and a place is at its begin, unless that stops.
 pub record IsStructurePlace (store : Store) (u : CType) (q : Place) : Type 0 where
   pub begins : q.access.offset ≡ 0
-  pub there : ComesTo (IsWholeElement store.blocks u) (element_at store q)
+  pub there : ComesTo (IsStructureAt store.blocks u) (element_at store q)
 
 -- what is read so many bytes after the begin of an element
 abbrev pub got : Store → Structs → CType → ℕ → Option Count → ℕ → Result Value Halt
 got store structs t offset (Some n) a = loads_pointer store (pointee_of structs t) n a (place_in a offset)
 got store structs t offset None a = loads store (width_of t) (place_in a offset)
+
+-- what is read at a place
+pub place_reads : (store : Store) (structs : Structs) (t : CType) (q : Place) (o : Option Count) → evaluated store (read_at structs t o q) ≡ given (element_at store q) (got store structs t q.access.offset o)
+place_reads store structs t q (Some m) =
+    accessed_is q.access q.access.offset (evaluated store q.pointer) (evaluated store q.index) (λ a. loads_pointer store (pointee_of structs t) m a (place_in a q.access.offset))
+place_reads store structs t q None = accessed_is q.access q.access.offset (evaluated store q.pointer) (evaluated store q.index) (λ a. loads store (width_of t) (place_in a q.access.offset))
 
 module _ (store : Store) (structs : Structs) (u : CType) (q : Place) (place : IsStructurePlace store u q) (tag : ℕ) (n : Name) where
   abbrev offset_there : ℕ
@@ -131,7 +137,7 @@ module _ (store : Store) (structs : Structs) (u : CType) (q : Place) (place : Is
   -- A member that is read is read in an element.
   pub member_reads : (Q : Value → Type 0) (t : CType) (o : Option Count) → ((a : ℕ) → IsWholeElement store.blocks u a → IsNotStuck Q (got store structs t offset_there o a))
       → IsNotStuck Q (evaluated store (read_at structs t o (member_place structs tag n q)))
-  member_reads Q t o next = subst (IsNotStuck Q) (sym (is o)) (comes_on (IsWholeElement store.blocks u) Q (element_at store q) (got store structs t offset_there o) place.there next)
+  member_reads Q t o next = subst (IsNotStuck Q) (sym (is o)) (comes_on (IsStructureAt store.blocks u) Q (element_at store q) (got store structs t offset_there o) place.there (λ a w. next a w.0))
     where
       is : (o : Option Count) → evaluated store (read_at structs t o (member_place structs tag n q)) ≡ given (element_at store q) (got store structs t offset_there o)
       is (Some m) =
@@ -142,9 +148,9 @@ module _ (store : Store) (structs : Structs) (u : CType) (q : Place) (place : Is
           ∙ ap (λ d. given (element_at store q) (λ a. loads store (width_of t) (place_in a d))) moved
 
   -- And the address of one is in an element.
-  pub member_address : (Q : Value → Type 0) (t : CType) → ((a : ℕ) → IsWholeElement store.blocks u a → IsNotStuck Q (spanned (place_in a offset_there) (size_of structs t)))
+  pub member_address : (Q : Value → Type 0) (t : CType) → ((a : ℕ) → IsStructureAt store.blocks u a → IsNotStuck Q (spanned (place_in a offset_there) (size_of structs t)))
       → IsNotStuck Q (evaluated store (address_at structs t (member_place structs tag n q)))
-  member_address Q t next = subst (IsNotStuck Q) (sym is) (comes_on (IsWholeElement store.blocks u) Q (element_at store q) (λ a. spanned (place_in a offset_there) (size_of structs t)) place.there next)
+  member_address Q t next = subst (IsNotStuck Q) (sym is) (comes_on (IsStructureAt store.blocks u) Q (element_at store q) (λ a. spanned (place_in a offset_there) (size_of structs t)) place.there next)
     where
       is : evaluated store (address_at structs t (member_place structs tag n q)) ≡ given (element_at store q) (λ a. spanned (place_in a offset_there) (size_of structs t))
       is =

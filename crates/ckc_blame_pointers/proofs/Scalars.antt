@@ -14,7 +14,7 @@ use Rattle.ckc_syntax.specs.declared.tree.Node.{Node-F, out-Node}
 use Rattle.ckc_syntax.specs.declared.tree.Expr.{every_here-Expr}
 use Rattle.ckc_typed.specs.declared.environment.Globals.{Globals}
 use Rattle.ckc_typed.specs.declared.typed.Note.{Note}
-use Rattle.ckc_typed.specs.Conversions.{is_null, is_null_form}
+use Rattle.ckc_typed.specs.Conversions.{is_terminated_kind, is_null, is_null_form}
 use Rattle.ckc_typed.specs.Operands.{is_moved_kind, is_moved, same_element, is_raw_kind, common, promoted, target_type, index_type, arithmetic_type, distance_type, choice_type, binary_type, is_cast}
 use Rattle.ckc_typed.specs.Trees.{NotedExpr, NotedLayer}
 use Rattle.ckc_typed.specs.Types.{is_integer, is_integer_form, is_pointer, is_pointer_form, is_void, is_scalar, kind_of, is_object_type, kind_in, element_of}
@@ -65,11 +65,10 @@ kind_scalar t k e = pointer_scalar t (by (out-CType t) e)
 pub through_scalar : (s : Setting) (t : CType) → IsThrough s t → is_scalar t ≡ true
 through_scalar s t h = ⊎_elim (λ e. kind_scalar t kind.Arr e) (λ e. kind_scalar t kind.One e.0) h
 
--- a structure is no pointer
-pub structure_pointer : (t : CType) (tag : ℕ) → out-CType t ≡ CType-F.Struct tag → is_pointer t ≡ false
-structure_pointer t tag e = ap is_pointer_form e
+pub through_bare : (s : Setting) (t : CType) → IsThrough s t → is_terminated_kind (kind_of t) ≡ false
+through_bare s t h = ⊎_elim (λ e. ap is_terminated_kind e) (λ e. ap is_terminated_kind e.0) h
 
--- nor an integer
+-- a structure is none
 pub no_structure : (t : CType) → is_scalar t ≡ true → (tag : ℕ) → out-CType t ≡ CType-F.Struct tag → ⊥
 no_structure t scalar tag e = let other : is_scalar t ≡ false = ap (λ f. is_integer_form f || is_pointer_form f) e in absurd (cc)
 

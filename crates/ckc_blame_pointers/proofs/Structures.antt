@@ -32,6 +32,10 @@ pub record IsWholeElement (blocks : List Block) (u : CType) (a : ℕ) : Type 0 w
   pub address : a ≡ block.base + index * block.size
   pub element : block.element ≡ u
 
+-- one that checked pointers with known limits may point to
+abbrev pub IsStructureAt : List Block → CType → ℕ → Type 0
+IsStructureAt blocks u a = (w : IsWholeElement blocks u a) × (w.block.is_run ≡ true)
+
 module _ (p : Typed) (blocks : List Block) (to : Pointee) (sized : to.size ≡ size_of p.layout to.element) (tag : ℕ) (form : out-CType to.element ≡ CType-F.Struct tag) (bare : to.terminated ≡ false)
     (n low high a : ℕ) (r : IsReached to n low high a) where
   no_integer : is_integer to.element ≡ true → ⊥
@@ -43,8 +47,8 @@ module _ (p : Typed) (blocks : List Block) (to : Pointee) (sized : to.size ≡ s
   inside : a < high
   inside = ⊎_elim (λ h. h) (λ h. let ends = h.1 in let open_end = bare in absurd (cc)) r.before
 
-  at_element : (k : ℕ) (b : Block) → slice_get blocks k ≡ Some b → IsPlaced p b → to.element ≡ b.element → to.size ≡ b.size → Within b.base (end_of b) to.size n low high → IsWholeElement blocks to.element a
-  at_element k b there placed same size w =
+  at_element : (k : ℕ) (b : Block) → slice_get blocks k ≡ Some b → IsPlaced p b → to.element ≡ b.element → to.size ≡ b.size → Within b.base (end_of b) to.size n low high → b.is_run ≡ true → IsStructureAt blocks to.element a
+  at_element k b there placed same size w run =
       let above = w.begins in
       let from = r.behind in
       let top = w.ends in
@@ -52,28 +56,30 @@ module _ (p : Typed) (blocks : List Block) (to : Pointee) (sized : to.size ≡ s
       let whole = placed.whole in
       let i = elements_between to.size b.base a (omega arith) (r.away ∙ w.even) in
       let at : a ≡ b.base + i.0 * b.size = i.1 ∙ ap (λ s. b.base + i.0 * s) size in
-      let turned = mul_comm b.size b.count in
-      record {
-        number = k;
-        block = b;
-        there = there;
-        index = i.0;
-        below = fewer b.size i.0 b.count (omega arith);
-        address = at;
-        element = sym same;
-      }
+      let turned = mul_comm b.size b.count in (
+        record {
+          number = k;
+          block = b;
+          there = there;
+          index = i.0;
+          below = fewer b.size i.0 b.count (omega arith);
+          address = at;
+          element = sym same;
+        },
+        run,
+      )
 
-  in_block : (k : ℕ) (b : Block) → slice_get blocks k ≡ Some b → IsPlaced p b → is_in_block to n low high b ≡ true → IsWholeElement blocks to.element a
-  in_block k b there placed e =
+  in_block : (k : ℕ) (b : Block) → slice_get blocks k ≡ Some b → IsPlaced p b → b.is_run ≡ true → is_in_block to n low high b ≡ true → IsStructureAt blocks to.element a
+  in_block k b there placed run e =
       let q = and_parts (same_type to.element b.element) (if b.terminated then is_within b.base (end_of b - b.size) to.size n low high else not to.terminated && is_within b.base (end_of b) to.size n low high) e in
       by (same_equal to.element b.element q.0) b.terminated refl q.1
     where
       by : to.element ≡ b.element → (c : Bool) → b.terminated ≡ c → (if c then is_within b.base (end_of b - b.size) to.size n low high else not to.terminated && is_within b.base (end_of b) to.size n low high) ≡ true
-          → IsWholeElement blocks to.element a
+          → IsStructureAt blocks to.element a
       by same true t e = absurd (no_integer (subst (λ u. is_integer u ≡ true) (sym same) (placed.terminated t).integers))
       by same false t e =
           at_element k b there placed same (sized ∙ ap (size_of p.layout) same ∙ sym placed.size)
-          (within b.base (end_of b) to.size n low high (and_parts (not to.terminated) (is_within b.base (end_of b) to.size n low high) e).1)
+          (within b.base (end_of b) to.size n low high (and_parts (not to.terminated) (is_within b.base (end_of b) to.size n low high) e).1) run
 
   not_in_member : (shapes : List Shape) → AreMembers p.layout shapes → (b : Block) → IsPlaced p b → list_any (is_in_member to n low high b) (member_runs shapes b) ≡ true → ⊥
   not_in_member shapes are b placed e = by (out-CType b.element) refl e
@@ -95,12 +101,15 @@ module _ (p : Typed) (blocks : List Block) (to : Pointee) (sized : to.size ≡ s
       by CType-F.Void g e = absurd cc
       by (CType-F.Pointer q u) g e = absurd cc
 
-  pub whole_element : (shapes : List Shape) → AreMembers p.layout shapes → All (IsPlaced p) blocks → is_true shapes blocks to n low high ≡ true → IsWholeElement blocks to.element a
-  whole_element shapes are placed e =
+  pub structure_at : (shapes : List Shape) → AreMembers p.layout shapes → All (IsPlaced p) blocks → is_true shapes blocks to n low high ≡ true → IsStructureAt blocks to.element a
+  structure_at shapes are placed e =
       let q = some_of (is_in shapes to n low high) blocks e in
       let b = q.1 in
       let at = All-contains (IsPlaced p) blocks b placed (contains_at blocks q.0 b q.2) in
       let runs = list_any (is_in_member to n low high b) (member_runs shapes b) in
       let s = and_parts b.is_run (is_in_block to n low high b || (not to.terminated && runs)) q.3 in
-      ⊎_elim (λ h. in_block q.0 b q.2 at h) (λ h. absurd (not_in_member shapes are b at (and_parts (not to.terminated) runs h).1))
+      ⊎_elim (λ h. in_block q.0 b q.2 at s.0 h) (λ h. absurd (not_in_member shapes are b at (and_parts (not to.terminated) runs h).1))
       (either (is_in_block to n low high b) (not to.terminated && runs) s.1)
+
+  pub whole_element : (shapes : List Shape) → AreMembers p.layout shapes → All (IsPlaced p) blocks → is_true shapes blocks to n low high ≡ true → IsWholeElement blocks to.element a
+  whole_element shapes are placed e = (structure_at shapes are placed e).0

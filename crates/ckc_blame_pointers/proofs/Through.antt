@@ -1,4 +1,4 @@
--- A structure that is reached through a pointer is an element of a block.
+-- What is reached through a pointer that is judged: the elements that its true range reaches.
 use Rattle.std.proofs.Common.{◌≡◌, ◌⊎◌, inl, inr, ⊎_elim, refl, sym, ap, subst, ◌∙◌, ℕ, ◌+◌, true, false, List}
 use Rattle.std.specs.Prelude.{◌<◌, ◌^◌, length, Some}
 use Rattle.ckc_base.specs.declared.places.Pos.{Pos}
@@ -33,29 +33,25 @@ use Rattle.ckc_blame_pointers.proofs.Binary.{ExprClaims}
 use Rattle.ckc_blame_pointers.proofs.Elements.{IsRanged}
 use Rattle.ckc_blame_pointers.proofs.Loads.{IsTested, element_goes, exact_goes, exact_is, reached_by, tested_pointer}
 use Rattle.ckc_blame_pointers.proofs.Numbers.{nothing_behind, same_number}
-use Rattle.ckc_blame_pointers.proofs.Reach.{ComesTo, comes_by, comes_both, IsStructurePlace}
-use Rattle.ckc_blame_pointers.proofs.Structures.{IsWholeElement, whole_element}
+use Rattle.ckc_blame_pointers.proofs.Reach.{ComesTo, comes_by, comes_both, element_at, IsStructurePlace}
+use Rattle.ckc_blame_pointers.proofs.Structures.{IsStructureAt, structure_at}
 use Rattle.ckc_blame_pointers.proofs.Truths.{first_reached}
 
-module _ (s : Setting) (store : Store) (entry : List ℕ) (next : ℕ) (ready : IsSoundStore s store next) (here : Here) (h : HoldsAt s store entry here) (e : NotedExpr) (tag : ℕ)
-    (struct : out-CType (element_of e.note.ctype) ≡ CType-F.Struct tag) (fresh : ℕ) (few : (view s.frame e).values + 1 < 2 ^ 32) (little : fresh + length ((view s.frame e).fresh here.at) < 2 ^ 32) (are : AreFresh s.frame fresh) (v : Expr)
+module _ (s : Setting) (store : Store) (entry : List ℕ) (next : ℕ) (ready : IsSoundStore s store next) (here : Here) (h : HoldsAt s store entry here) (e : NotedExpr) (fresh : ℕ) (few : (view s.frame e).values + 1 < 2 ^ 32) (little : fresh + length ((view s.frame e).fresh here.at) < 2 ^ 32) (are : AreFresh s.frame fresh) (v : Expr)
     (left : IsNotStuck (ExprClaims s store entry here e) (evaluated store v))
     (ranged : is_counted_kind (kind_of e.note.ctype) ≡ true → (x : Value) → ExprClaims s store entry here e x → IsRanged s store entry next ready here h e fresh few little are x) where
-  abbrev Whole : ℕ → Type 0
-  Whole = IsWholeElement store.blocks (element_of e.note.ctype)
-
-  at_range : is_terminated_kind (kind_of e.note.ctype) ≡ false → (m low high a : ℕ) → is_true store.shapes store.blocks (pointee_of s.text.layout e.note.ctype) m low high ≡ true
-      → IsReached (pointee_of s.text.layout e.note.ctype) m low high a → Whole a
-  at_range bare m low high a true_there r =
-      whole_element s.text store.blocks (pointee_of s.text.layout e.note.ctype) refl tag struct bare m low high a r (shapes_elaborated s.text.layout) (are_members s.text.layout ready.names) ready.sound.memory.placed
-      (subst (λ sh. is_true sh store.blocks (pointee_of s.text.layout e.note.ctype) m low high ≡ true) ready.shapes true_there)
+  -- what holds of each element that a true range reaches
+  abbrev pub HoldsReached : (ℕ → Type 0) → Type 0
+  HoldsReached P =
+      is_terminated_kind (kind_of e.note.ctype) ≡ false → (m low high a : ℕ) → is_true store.shapes store.blocks (pointee_of s.text.layout e.note.ctype) m low high ≡ true
+      → IsReached (pointee_of s.text.layout e.note.ctype) m low high a → P a
 
   abbrev access_by : Pos → Integer → Access
   access_by place index = record { through = through_kind (kind_of e.note.ctype); at = place; size = size_behind s.text.layout e.note.ctype; index = index; offset = 0 }
 
-  through_array : kind_of e.note.ctype ≡ Some kind.Arr → (place : Pos) (index : Integer) (x : Value) (i : ℕ) → ExprClaims s store entry here e x → ComesTo Whole (element (access_by place index) x i)
+  through_array : (Whole : ℕ → Type 0) → HoldsReached Whole → kind_of e.note.ctype ≡ Some kind.Arr → (place : Pos) (index : Integer) (x : Value) (i : ℕ) → ExprClaims s store entry here e x → ComesTo Whole (element (access_by place index) x i)
   unfolding IsRanged
-  through_array array place index x i d = comes_by Whole (element (access_by place index) x i) (by (ranged counted x d))
+  through_array Whole at_range array place index x i d = comes_by Whole (element (access_by place index) x i) (by (ranged counted x d))
     where
       counted : is_counted_kind (kind_of e.note.ctype) ≡ true
       counted = ap is_counted_kind array
@@ -69,8 +65,8 @@ module _ (s : Setting) (store : Store) (entry : List ℕ) (next : ℕ) (ready : 
           element_goes (access_by place index) x i (λ y. Whole y.number) plain (pointee_of s.text.layout e.note.ctype) tested (inr (g.from, g.to, g.range))
           (λ a some at. at_range (ap is_terminated_kind array) x.number g.from g.to a g.true_there (reached_by (access_by place index) x i (pointee_of s.text.layout e.note.ctype) g.from g.to a tested refl g.range at))
 
-  through_one : kind_of e.note.ctype ≡ Some kind.One → DeclareOnes s → (place : Pos) (x : Value) → ExprClaims s store entry here e x → ComesTo Whole (element (access_by place Int) x 0)
-  through_one one ones place x d =
+  through_one : (Whole : ℕ → Type 0) → HoldsReached Whole → kind_of e.note.ctype ≡ Some kind.One → DeclareOnes s → (place : Pos) (x : Value) → ExprClaims s store entry here e x → ComesTo Whole (element (access_by place Int) x 0)
+  through_one Whole at_range one ones place x d =
       comes_by Whole (element (access_by place Int) x 0)
       (subst (λ q. IsNotStuck (λ y. Whole y.number) (given q plain)) (sym (ap (λ k. element_through (through_kind k) (access_by place Int) x 0) one))
       (exact_goes (access_by place Int) x 0 (λ y. Whole y.number) plain
@@ -85,20 +81,31 @@ module _ (s : Setting) (store : Store) (entry : List ℕ) (next : ℕ) (ready : 
           (first_reached store.shapes store.blocks (pointee_of s.text.layout e.note.ctype) x.number points))
 
   -- `*p`, and the structure of `p->m`
-  pub target_structure : IsThrough s e.note.ctype → (place : Pos)
-      → IsStructurePlace store (element_of e.note.ctype) (target_place s.text.layout e.note.ctype place v)
-  target_structure how place = record {
-    begins = refl;
-    there = comes_both (ExprClaims s store entry here e) (λ k. k.number ≡ 0) Whole (evaluated store v) (plain 0) (λ x k. element (access_by place Int) x k.number) left refl
-        (λ x k d zero. subst (λ i. ComesTo Whole (element (access_by place Int) x i)) (sym zero)
-        (⊎_elim (λ array. through_array array place Int x 0 d) (λ one. through_one one.0 one.1 place x d) how));
-  }
+  pub target_reached : (P : ℕ → Type 0) → HoldsReached P → IsThrough s e.note.ctype → (place : Pos) → ComesTo P (element_at store (target_place s.text.layout e.note.ctype place v))
+  target_reached P at_range how place =
+      comes_both (ExprClaims s store entry here e) (λ k. k.number ≡ 0) P (evaluated store v) (plain 0) (λ x k. element (access_by place Int) x k.number) left refl
+      (λ x k d zero. subst (λ i. ComesTo P (element (access_by place Int) x i)) (sym zero)
+      (⊎_elim (λ array. through_array P at_range array place Int x 0 d) (λ one. through_one P at_range one.0 one.1 place x d) how))
 
   -- `p[e]`
-  pub element_structure : kind_of e.note.ctype ≡ Some kind.Arr → (place : Pos) (index : Integer) (w : Expr) (R : Value → Type 0) → IsNotStuck R (evaluated store w)
-      → IsStructurePlace store (element_of e.note.ctype) (element_place s.text.layout e.note.ctype place index v w)
-  element_structure array place index w R right = record {
-    begins = refl;
-    there = comes_both (ExprClaims s store entry here e) R Whole (evaluated store v) (evaluated store w) (λ x k. element (access_by place index) x k.number) left right
-        (λ x k d c. through_array array place index x k.number d);
-  }
+  pub element_reached : (P : ℕ → Type 0) → HoldsReached P → kind_of e.note.ctype ≡ Some kind.Arr → (place : Pos) (index : Integer) (w : Expr) (R : Value → Type 0) → IsNotStuck R (evaluated store w)
+      → ComesTo P (element_at store (element_place s.text.layout e.note.ctype place index v w))
+  element_reached P at_range array place index w R right =
+      comes_both (ExprClaims s store entry here e) R P (evaluated store v) (evaluated store w) (λ x k. element (access_by place index) x k.number) left right
+      (λ x k d c. through_array P at_range array place index x k.number d)
+
+  -- ---- structures
+
+  module _ (tag : ℕ) (struct : out-CType (element_of e.note.ctype) ≡ CType-F.Struct tag) where
+    whole : HoldsReached (IsStructureAt store.blocks (element_of e.note.ctype))
+    whole bare m low high a true_there r =
+        structure_at s.text store.blocks (pointee_of s.text.layout e.note.ctype) refl tag struct bare m low high a r (shapes_elaborated s.text.layout) (are_members s.text.layout ready.names) ready.sound.memory.placed
+        (subst (λ sh. is_true sh store.blocks (pointee_of s.text.layout e.note.ctype) m low high ≡ true) ready.shapes true_there)
+
+    pub target_structure : IsThrough s e.note.ctype → (place : Pos) → IsStructurePlace store (element_of e.note.ctype) (target_place s.text.layout e.note.ctype place v)
+    target_structure how place = record { begins = refl; there = target_reached (IsStructureAt store.blocks (element_of e.note.ctype)) whole how place }
+
+    pub element_structure : kind_of e.note.ctype ≡ Some kind.Arr → (place : Pos) (index : Integer) (w : Expr) (R : Value → Type 0) → IsNotStuck R (evaluated store w)
+        → IsStructurePlace store (element_of e.note.ctype) (element_place s.text.layout e.note.ctype place index v w)
+    element_structure array place index w R right =
+        record { begins = refl; there = element_reached (IsStructureAt store.blocks (element_of e.note.ctype)) whole array place index w R right }

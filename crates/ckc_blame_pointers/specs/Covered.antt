@@ -1,10 +1,11 @@
 -- The expressions of which it is said what they come to, and what is taken for granted of the text around them.
-use Rattle.std.specs.Prelude.{◌≡◌, ◌⊎◌, ◌+◌, ◌<◌, ◌^◌, ℕ, Bool, false, true, List, slice_get, Option, None, Some}
+use Rattle.std.specs.Prelude.{◌≡◌, ◌⊎◌, ◌+◌, ◌<◌, ◌^◌, ℕ, Bool, false, true, List, slice_get, ℤ, Option, None, Some}
 use Rattle.std.specs.List.{Contains}
 use Rattle.ckc_types.specs.declared.types.Kind.{Kind}
 use Rattle.ckc_types.specs.declared.types.Kind.TheVariants as kind
 use Rattle.ckc_types.specs.declared.types.CType.{CType, CType-F, out-CType}
 use Rattle.ckc_types.specs.declared.types.MemberShape.{MemberShape}
+use Rattle.ckc_types.specs.Layout.{members_of}
 use Rattle.ckc_types.specs.declared.types.MemberBounds.{MemberBounds}
 use Rattle.ckc_types.specs.declared.types.MemberBounds.TheVariants as mbounds
 use Rattle.ckc_linear.specs.declared.forms.Base.{Base}
@@ -17,8 +18,11 @@ use Rattle.ckc_syntax.specs.declared.tree.TreeOp.TheVariants as op
 use Rattle.ckc_syntax.specs.declared.tree.Node.{Node-F, out-Node}
 use Rattle.ckc_syntax.specs.declared.tree.Expr.{Expr-F, every-Expr}
 use Rattle.ckc_typed.specs.declared.typed.Note.{Note}
+use Rattle.ckc_typed.specs.declared.typed.Range.TheVariants.{Missing}
 use Rattle.ckc_typed.specs.declared.typed.StaticObject.{StaticObject}
 use Rattle.ckc_typed.specs.declared.environment.Variable.{Variable}
+use Rattle.ckc_typed.specs.declared.typed.Typed.{Typed}
+use Rattle.ckc_source.specs.declared.program.Object.{Object}
 use Rattle.ckc_typed.specs.Conversions.{is_terminated_kind}
 use Rattle.ckc_typed.specs.Environment.{variable_named}
 use Rattle.ckc_typed.specs.Operands.{is_raw_kind, dot_type}
@@ -31,14 +35,18 @@ use Rattle.ckc_bounds_points.specs.declared.frame.Local.{Local}
 use Rattle.ckc_bounds_points.specs.Frames.{local_at}
 use Rattle.ckc_bounds_declared.specs.Written.{bounds_of_kind}
 use Rattle.ckc_bounds_views.specs.Fresh.{member_bounds, named_type}
+use Rattle.ckc_bounds_points.specs.Forms.{constant_form}
+use Rattle.ckc_bounds_ranges.specs.Rows.{range_from}
 use Rattle.ckc_bounds_views.specs.Judged.{is_counted_kind, is_declared_object}
+use Rattle.ckc_bounds_views.specs.Ranges.{range_of_object}
 use Rattle.ckc_bounds_views.specs.Views.{view}
+use Rattle.ckc_source.specs.declared.expr.Count.TheVariants as count
 use Rattle.ckc_source.specs.Eval.{Store}
 use Rattle.ckc_build_values.specs.Kinds.{size_behind, count_of_kind, tag_of}
 use Rattle.ckc_build_values.specs.Members.{member_named, count_of_member}
-use Rattle.ckc_build_values.specs.Names.{count_of_static}
+use Rattle.ckc_build_values.specs.Names.{count_of_static, limits_declared}
 use Rattle.ckc_build_elaborate.specs.Objects.{object_elaborated, objects_elaborated}
-use Rattle.ckc_build_elaborate.specs.Shapes.{shapes_elaborated}
+use Rattle.ckc_build_elaborate.specs.Shapes.{is_run, shapes_elaborated}
 use Rattle.ckc_blame_sound.specs.Settings.{Setting}
 use Rattle.ckc_blame_sound.specs.Slots.{AreFilled}
 use Rattle.ckc_blame_slots.specs.Cells.{AreSound, HaveOwnNames}
@@ -141,12 +149,36 @@ pub record IsStaticPointer (s : Setting) (store : Store) (t : CType) (k : ℕ) :
   pub counted : count_of_static s.text t (name.Static k) ≡ count_of_kind (kind_of t)
   pub filled : AreFilled s.text store
 
--- a static structure
+-- How many elements a static pointer has is a constant by its range as it is judged and as it is read, or not known.
+abbrev pub IsCountedAs : Setting → CType → ℕ → Type 0
+IsCountedAs s t k =
+    ((z : ℤ) × (count_of_static s.text t (name.Static k) ≡ Some (count.Fixed z))
+    × ((own : ℕ) → range_of_object (slice_get s.frame.objects k) t own ≡ range_from (base.Value own) (constant_form z)))
+    ⊎ ((count_of_static s.text t (name.Static k) ≡ None)
+    × ((own : ℕ) → range_of_object (slice_get s.frame.objects k) t own ≡ Missing))
+
+-- a static object that is one pointer of a type and is declared with bounds, which a `_Ptr` is not; the pointers that
+-- memory holds are in bounds
+pub record IsStaticBounded (s : Setting) (store : Store) (t : CType) (k : ℕ) : Type 0 where
+  pub object : StaticObject
+  pub there : slice_get s.text.statics k ≡ Some object
+  pub judged : slice_get s.frame.statics k ≡ Some object
+  pub is_run : Option Bool
+  pub placed : slice_get (objects_elaborated s.text) k ≡ Some (object_elaborated s.text.layout is_run object)
+  pub single : object.array ≡ None
+  pub plain : object.terminated ≡ false
+  pub some : 0 < object.count
+  pub element : object.element ≡ t
+  pub pointer : is_pointer t ≡ true
+  pub several : kind_of t ≡ Some kind.One → ⊥
+  pub counts : IsCountedAs s t k
+  pub filled : AreFilled s.text store
+
+-- a static structure, which has no bounds
 pub record IsStaticStructure (s : Setting) (t : CType) (k : ℕ) : Type 0 where
   pub object : StaticObject
   pub there : slice_get s.text.statics k ≡ Some object
-  pub is_run : Option Bool
-  pub placed : slice_get (objects_elaborated s.text) k ≡ Some (object_elaborated s.text.layout is_run object)
+  pub free : slice_get (objects_elaborated s.text) k ≡ Some (object_elaborated s.text.layout (Some true) object)
   pub some : 0 < object.count
   pub element : object.element ≡ t
   pub tag : ℕ
@@ -231,6 +263,19 @@ pub record IsStructureElement (e : NotedExpr) : Type 0 where
   pub struct : out-CType (element_of e.note.ctype) ≡ CType-F.Struct tag
   pub array : kind_of e.note.ctype ≡ Some kind.Arr
 
+-- Pointers with known limits point into no static object that is declared with bounds.
+abbrev pub KeepRunsFree : Typed → Type 0
+KeepRunsFree p =
+    (k : ℕ) → (limits_declared p (name.Static k) ≡ None)
+    ⊎ ((o : Object) × (slice_get (objects_elaborated p) k ≡ Some o) × (o.is_run ≡ false))
+
+-- what else `*` and `[` read: a pointer, through an `_Array_ptr` or a `_Ptr`; the pointers that memory holds are in bounds
+pub record IsPointerTarget (s : Setting) (store : Store) (e : NotedExpr) : Type 0 where
+  pub pointer : is_pointer (element_of e.note.ctype) ≡ true
+  pub through : IsThrough s e.note.ctype
+  pub free : KeepRunsFree s.text
+  pub filled : AreFilled s.text store
+
 -- the expressions of which `.` gives a member: static objects by their names, `*p` and `p[e]`
 abbrev pub IsStructureNode : NotedLayer → Type 0
 IsStructureNode (Node-F.Name (name.Static k)) = Unit {0}
@@ -245,33 +290,59 @@ pub record IsDot (s : Setting) (store : Store) (e : NotedExpr) (n : Name) (t : C
   pub struct : out-CType e.note.ctype ≡ CType-F.Struct tag
   pub member : IsIntegerMember s e.note.ctype t n ⊎ IsPointerMember s store e.note.ctype t n
 
--- `*p` and `p[e]`, of which `&` gives the address
-abbrev pub IsAddressed : NotedLayer → Type 0
-IsAddressed (Node-F.Un op.Deref e) = Unit {0}
-IsAddressed (Node-F.Index e f) = Unit {0}
-IsAddressed _ = ⊥
+-- a static object that is no array and is declared without bounds
+pub record IsFreeObject (s : Setting) (t : CType) (k : ℕ) : Type 0 where
+  pub object : StaticObject
+  pub there : slice_get s.text.statics k ≡ Some object
+  pub free : slice_get (objects_elaborated s.text) k ≡ Some (object_elaborated s.text.layout (Some true) object)
+  pub plain : object.terminated ≡ false
+  pub some : 0 < object.count
+  pub element : object.element ≡ t
+
+-- a member of a structure of a type, an integer or a pointer, that takes part in no bounds; of others there is no address
+pub record IsFreeMember (s : Setting) (u t : CType) (n : Name) : Type 0 where
+  pub tag : ℕ
+  pub struct : out-CType u ≡ CType-F.Struct tag
+  pub number : ℕ
+  pub named : n ≡ name.Member number
+  pub member : MemberShape
+  pub found : member_named s.text.layout tag n ≡ Some member
+  pub type : member.ctype ≡ t
+  pub scalar : is_scalar t ≡ true
+  pub free : is_run (members_of s.text.layout tag) member ≡ true
+
+-- what `&` gives the address of: static objects, members, and `*p` and `p[e]` that are no pointers
+abbrev pub IsAddressed : Setting → CType → NotedLayer → Type 0
+IsAddressed s t (Node-F.Name (name.Static k)) = IsFreeObject s t k
+IsAddressed s t (Node-F.Un op.Deref e) = is_pointer t ≡ false
+IsAddressed s t (Node-F.Index e f) = is_pointer t ≡ false
+IsAddressed s t (Node-F.Arrow e n spot) = IsFreeMember s (element_of e.note.ctype) t n × IsThrough s e.note.ctype
+IsAddressed s t (Node-F.Dot e n spot) = IsFreeMember s e.note.ctype t n
+IsAddressed s t _ = ⊥
 
 -- the operands of unary operators
-abbrev pub IsCoveredUnary : Setting → TreeOp → NotedExpr → Type 0
-IsCoveredUnary s op.Deref e = IsElement e ⊎ (IsSingle s e ⊎ IsStructureTarget s e)
-IsCoveredUnary s op.Address e = IsAddressed (out-Node Name Note e.node)
-IsCoveredUnary s o e = IsArithmetic o
+abbrev pub IsCoveredUnary : Setting → Store → TreeOp → NotedExpr → Type 0
+IsCoveredUnary s store op.Deref e = IsElement e ⊎ (IsSingle s e ⊎ (IsStructureTarget s e ⊎ IsPointerTarget s store e))
+IsCoveredUnary s store op.Address e = IsAddressed s e.note.ctype (out-Node Name Note e.node)
+IsCoveredUnary s store o e = IsArithmetic o
 
 -- The nodes of a type of which it is said what they come to: numbers, `sizeof`, `NULL`, locals in scope, static
--- integers, arrays and pointers, operators, `?:`, casts, integers that are read through pointers, what `->` and `.` read,
--- `&*p` and `&p[e]`; and the structures of which `.` gives a member.
+-- integers, arrays and pointers, operators, `?:`, casts, what is read through pointers, what `->` and `.` read,
+-- and the addresses of static objects, elements and members; and the structures of which `.` gives a member.
 abbrev pub IsCoveredNode : Setting → Store → List ℕ → CType → NotedLayer → Type 0
 IsCoveredNode s store seen t (Node-F.Number n unsigned) = Unit {0}
 IsCoveredNode s store seen t (Node-F.Size w) = Unit {0}
 IsCoveredNode s store seen t Node-F.Null = Unit {0}
 IsCoveredNode s store seen t (Node-F.Name (name.Local k)) = IsInScope s seen k
 IsCoveredNode s store seen t (Node-F.Name (name.Static k)) =
-    IsStaticInteger s t k ⊎ (IsStaticArray s t k ⊎ (IsStaticPointer s store t k ⊎ IsStaticStructure s t k))
-IsCoveredNode s store seen t (Node-F.Un o e) = IsCoveredUnary s o e
+    IsStaticInteger s t k
+    ⊎ (IsStaticArray s t k ⊎ (IsStaticPointer s store t k ⊎ (IsStaticBounded s store t k ⊎ IsStaticStructure s t k)))
+IsCoveredNode s store seen t (Node-F.Un o e) = IsCoveredUnary s store o e
 IsCoveredNode s store seen t (Node-F.Bin o e f) = Unit {0}
 IsCoveredNode s store seen t (Node-F.Pick e f g) = Unit {0}
 IsCoveredNode s store seen t (Node-F.Cast w e) = Unit {0}
-IsCoveredNode s store seen t (Node-F.Index e f) = IsElement e ⊎ IsStructureElement e
+IsCoveredNode s store seen t (Node-F.Index e f) =
+    IsElement e ⊎ (IsStructureElement e ⊎ (IsPointerTarget s store e × (kind_of e.note.ctype ≡ Some kind.Arr)))
 IsCoveredNode s store seen t (Node-F.Arrow e n spot) = IsArrow s e n t ⊎ IsPointerArrow s store e n t
 IsCoveredNode s store seen t (Node-F.Dot e n spot) = IsDot s store e n t
 IsCoveredNode s store seen t _ = ⊥

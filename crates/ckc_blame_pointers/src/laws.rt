@@ -1,8 +1,10 @@
 //! What follows from the definitions alone, each the contract of a function that does nothing.
 
-ghost use Rattle.std.specs.Prelude.{◌≡◌, ℕ, ◌+◌, ◌<◌, ◌^◌, List, length, Ok};
+ghost use Rattle.std.specs.Prelude.{◌≡◌, ℕ, ◌+◌, ◌<◌, ◌≤◌, ◌^◌, List, length, Ok};
 ghost use Rattle.ckc_typed.specs.declared.environment.Globals.{Globals};
 ghost use Rattle.ckc_typed.specs.Trees.{NotedExpr};
+ghost use Rattle.ckc_bounds_points.specs.declared.frame.Frame.{Frame};
+ghost use Rattle.ckc_bounds_points.specs.Flow.{State};
 ghost use Rattle.ckc_bounds_views.specs.Views.{view};
 ghost use Rattle.ckc_bounds_statements.specs.Paths.{Here};
 ghost use Rattle.ckc_source.specs.Eval.{Store, evaluated};
@@ -16,8 +18,8 @@ ghost use Rattle.ckc_blame_pointers.specs.Meant.{IsNotStuck, IsMeant};
 
 /// What becomes of a judged expression gives a value that is as it is judged to be, or stops at a named check. It is
 /// not stuck. This is said of numbers, `sizeof`, `NULL`, locals in scope, static integers and arrays, operators, `?:`,
-/// casts, static pointers without bounds, members, integers that are read through checked pointers, `&*p` and
-/// `&p[e]`; and of no unchecked pointers.
+/// casts, static pointers, members, what is read through checked pointers, and the addresses of static objects, elements
+/// and members; and of no unchecked pointers.
 pub fn expressions_are_not_stuck()
     ensures { (globals : Globals) (s : Setting) (entry : List ℕ) (here : Here)
         (before after : NotedExpr) (fresh literals next : ℕ) (store : Store) → Agrees globals s
@@ -28,4 +30,10 @@ pub fn expressions_are_not_stuck()
         → HoldsAt s store entry here
         → IsNotStuck (IsMeant s store entry here (view s.frame before))
         (evaluated store (expr_elaborated s.text s.variables literals after)) }
+{}
+
+/// An expression needs no more fresh variables at a point than it may need at most.
+pub fn fresh_variables_are_few()
+    ensures { (frame : Frame) (e : NotedExpr) (at : State) → (view frame e).most_fresh + 1 < 2 ^ 32
+        → length ((view frame e).fresh at) ≤ (view frame e).most_fresh }
 {}

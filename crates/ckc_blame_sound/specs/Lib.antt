@@ -12,3 +12,4 @@ pub mod Judged
 pub mod Calls
 pub mod Slots
 pub mod Sound
+pub mod Scopes

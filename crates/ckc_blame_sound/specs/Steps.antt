@@ -14,6 +14,7 @@ use Rattle.ckc_blame_sound.specs.Settings.{Setting}
 use Rattle.ckc_blame_sound.specs.Values.{NamesIntegers}
 use Rattle.ckc_blame_sound.specs.Points.{GoesTo}
 use Rattle.ckc_blame_sound.specs.Bodies.{IsInBody, IsTestInBody, IsNextFresh}
+use Rattle.ckc_blame_sound.specs.Scopes.{StandsInScope, IsTestInScope}
 
 -- a statement that is a step by itself: no block, no `if` and no loop
 abbrev pub is_simple : Act-F Name Note NotedAct NotedStmt → Bool
@@ -26,7 +27,8 @@ is_simple (Act-F.Bundle ss) = true
 is_simple a = false
 
 -- A statement of the function is judged at a point, and not only counted, and each fact there names the number zero and
--- integer locals alone; what becomes of it is this one step, and control goes from there to another point.
+-- integer locals alone; it stands in the scope of the locals there; what becomes of it is this one step, and control
+-- goes from there to another point.
 pub record IsStep (s : Setting) (here : Here) (step : Code → Code) (there : Here) : Type 0 where
   pub before : NotedStmt
   pub after : NotedStmt
@@ -34,6 +36,7 @@ pub record IsStep (s : Setting) (here : Here) (step : Code → Code) (there : He
   pub behind : Here
   pub simple : is_simple (out-Act Name Note before.body) ≡ true
   pub inside : IsInBody s before
+  pub scope : StandsInScope s before here.seen
   pub fresh : IsNextFresh s here.next
   pub counting : here.counting ≡ false
   pub named : All (NamesIntegers s.frame) here.at.facts.list
@@ -49,6 +52,7 @@ pub record IsCondition (s : Setting) (mode : Mode) (here : Here) (e : Expr) (yes
   pub literals : ℕ
   pub behind : Here
   pub inside : IsTestInBody s mode before
+  pub scope : IsTestInScope s before here.seen
   pub fresh : IsNextFresh s here.next
   pub counting : here.counting ≡ false
   pub named : All (NamesIntegers s.frame) here.at.facts.list

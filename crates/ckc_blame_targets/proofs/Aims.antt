@@ -1,6 +1,6 @@
 -- Each target that is covered comes to a place.
 use Rattle.std.proofs.Common.{◌≡◌, ◌⊎◌, refl, sym, ap, subst, ◌∙◌, ℕ, Bool, true, false, List, arith}
-use Rattle.std.specs.Prelude.{◌+◌, ◌==◌, ◌<◌, ◌^◌, if◌then◌else◌, slice_index, unwrap_or, ℤ, pos, negsuc, Option, None, Some, Result, Ok, Err}
+use Rattle.std.specs.Prelude.{◌+◌, ◌==◌, ◌<◌, ◌^◌, if◌then◌else◌, length, slice_index, unwrap_or, ℤ, pos, negsuc, Option, None, Some, Result, Ok, Err}
 use Rattle.std.proofs.lemmas.Bool.{eqb-true}
 use Rattle.ckc_base.specs.declared.places.Pos.{Pos}
 use Rattle.ckc_types.specs.declared.types.CType.{CType, CType-F, out-CType}
@@ -58,13 +58,13 @@ use Rattle.ckc_blame_targets.specs.Targets.{KeepRunsFree, IsStaticTarget, IsThro
 use Rattle.ckc_blame_targets.proofs.Hits.{IsHit}
 use Rattle.ckc_blame_targets.proofs.Layers.{viewed, view_is, part_is, part_by, dot_every, DotEvery}
 use Rattle.ckc_blame_targets.proofs.Places.{Goes, IsIn, Lies, allowed_is, member_struct, scalar_target, struct_target, hit_goes, hit_scalar, hit_struct}
-use Rattle.ckc_blame_targets.proofs.Pointers.{viewed_type, parted_type, node_is, node_judged_at, row_at, parts_at, behind_aims, deref_aims, index_aims}
+use Rattle.ckc_blame_targets.proofs.Pointers.{viewed_type, parted_type, node_is, node_room, node_judged_at, row_at, parts_at, behind_aims, deref_aims, index_aims}
 use Rattle.ckc_blame_targets.proofs.Reached.{IsElementReached, IsRunReached}
 use Rattle.ckc_blame_targets.proofs.Statics.{static_aims, static_member_aims}
 
 module _ (globals : Globals) (s : Setting) (agrees : Agrees globals s) (declares : DeclareLocals s) (store : Store) (entry : List ℕ) (next : ℕ) (ready : IsSoundStore s store next) (here : Here) (h : HoldsAt s store entry here)
-    (fresh : ℕ) (little : fresh < 2 ^ 32) (are : AreFresh s.frame fresh) (free : KeepRunsFree s.text) (p : Placed) (scalar : is_scalar p.target.note.ctype ≡ true) (typed : IsTyped globals s p.target)
-    (judged : (view s.frame p.target).judged fresh here.at ≡ Ok p.target) (k : ℕ) where
+    (fresh : ℕ) (are : AreFresh s.frame fresh) (free : KeepRunsFree s.text) (p : Placed) (scalar : is_scalar p.target.note.ctype ≡ true) (typed : IsTyped globals s p.target)
+    (room : fresh + length ((view s.frame p.target).fresh here.at) < 2 ^ 32) (judged : (view s.frame p.target).judged fresh here.at ≡ Ok p.target) (k : ℕ) where
   abbrev e : NotedExpr
   e = p.target
 
@@ -105,7 +105,7 @@ module _ (globals : Globals) (s : Setting) (agrees : Agrees globals s) (declares
       })
     where
       same : t ≡ c.local.ctype
-      same = sym (agrees.locals j c.local t c.there (row_at globals s agrees declares store entry next ready here h fresh little are e typed (Node-F.Name (name.Local j)) out).row)
+      same = sym (agrees.locals j c.local t c.there (row_at globals s agrees declares store entry next ready here h fresh are e typed (Node-F.Name (name.Local j)) out).row)
 
       whole : IsLocalTarget s p j (place.Local j (width_of t))
       whole = record { local = c.local; there = c.there; same = same; goes = ap (λ u. place.Local j (width_of u)) same }
@@ -208,10 +208,10 @@ module _ (globals : Globals) (s : Setting) (agrees : Agrees globals s) (declares
   arrow_goes : (f : NotedExpr) (n : Name) (at : Pos) → out-Node Name Note e.node ≡ Node-F.Arrow f n at → IsCovered s store here.seen f → IsThrough s f → IsMemberNamed s (element_of f.note.ctype) t n → Sent (Node-F.Arrow f n at)
   arrow_goes f n at out covered through m =
       let x = Node-F.Arrow f n at in
-      let j = node_judged_at globals s agrees declares store entry next ready here h fresh little are e judged x out in
+      let j = node_judged_at globals s agrees declares store entry next ready here h fresh are e judged x out in
       subst Of (sym (parted_type f))
-      (behind_aims globals s agrees declares store entry next ready here h fresh little are Gone (width_of t) (offset (element_of f.note.ctype) n m) k f
-      (parts_at globals s agrees declares store entry next ready here h fresh little are e typed x out) covered through
+      (behind_aims globals s agrees declares store entry next ready here h fresh are Gone (width_of t) (offset (element_of f.note.ctype) n m) k f
+      (parts_at globals s agrees declares store entry next ready here h fresh are e typed x out) covered through (node_room globals s agrees declares store entry next ready here h fresh are e room x out)
       (one_part (λ a. Node-F.Arrow a n at) (λ a b e. cc) _ f (j.node ∙ ap Ok (node_is e x out))) e.pos j.fault
       (λ v is a first access lies hit.
       struct_goes (element_of f.note.ctype) n m (local_is x out) (member_is x out ∙ found (element_of f.note.ctype) n m (element_of (view s.frame f).ctype) (ap element_of (viewed_type s f))) f.note.ctype refl access lies v a hit
@@ -230,9 +230,12 @@ module _ (globals : Globals) (s : Setting) (agrees : Agrees globals s) (declares
       typed_there : IsTyped globals s f
       typed_there = subst (DotEvery (HasRow globals s)) out (dot_every (HasRow globals s) e typed)
 
+      room_there : fresh + length ((view s.frame f).fresh here.at) < 2 ^ 32
+      room_there = node_room globals s agrees declares store entry next ready here h fresh are e room (Node-F.Dot f n at) out
+
       judged_there : (view s.frame f).judged fresh here.at ≡ Ok f
       judged_there =
-          let j = node_judged_at globals s agrees declares store entry next ready here h fresh little are e judged (Node-F.Dot f n at) out in
+          let j = node_judged_at globals s agrees declares store entry next ready here h fresh are e judged (Node-F.Dot f n at) out in
           one_part (λ a. Node-F.Dot a n at) (λ a b e. cc) _ f (j.node ∙ ap Ok (node_is e (Node-F.Dot f n at) out))
 
       found_there : (view s.frame e).member ≡ Some (member f.note.ctype n m)
@@ -252,9 +255,9 @@ module _ (globals : Globals) (s : Setting) (agrees : Agrees globals s) (declares
           (lies_there f.note.ctype n m found_there (address_of s.text j)
           (λ b begins. let same : Some (address_of s.text j) ≡ Some b = sym (ap (placed_by s.text) out_f) ∙ sym (begin_is (Node-F.Dot f n at) out) ∙ begins in cc))
       by (Node-F.Un op.Deref g) out_f c =
-          deref_aims globals s agrees declares store entry next ready here h fresh little are Gone (width_of t) (offset f.note.ctype n m) k f typed_there judged_there (goes (ap (placed_by s.text) out_f)) g out_f c.0 c.1
+          deref_aims globals s agrees declares store entry next ready here h fresh are Gone (width_of t) (offset f.note.ctype n m) k f typed_there room_there judged_there (goes (ap (placed_by s.text) out_f)) g out_f c.0 c.1
       by (Node-F.Index g i) out_f c =
-          index_aims globals s agrees declares store entry next ready here h fresh little are Gone (width_of t) (offset f.note.ctype n m) k f typed_there judged_there (goes (ap (placed_by s.text) out_f)) g i out_f c.0 c.1 c.2
+          index_aims globals s agrees declares store entry next ready here h fresh are Gone (width_of t) (offset f.note.ctype n m) k f typed_there room_there judged_there (goes (ap (placed_by s.text) out_f)) g i out_f c.0 c.1 c.2
       by y out_f c = absurd (c)
 
   -- ---- all of them
@@ -263,9 +266,9 @@ module _ (globals : Globals) (s : Setting) (agrees : Agrees globals s) (declares
   each (Node-F.Name (name.Local j)) out c = local_goes j out c
   each (Node-F.Name (name.Static j)) out c = static_goes j out c
   each (Node-F.Un op.Deref f) out c =
-      deref_aims globals s agrees declares store entry next ready here h fresh little are Gone (width_of t) 0 k e typed judged (scalar_goes (Node-F.Un op.Deref f) out refl refl refl refl) f out c.0 c.1
+      deref_aims globals s agrees declares store entry next ready here h fresh are Gone (width_of t) 0 k e typed room judged (scalar_goes (Node-F.Un op.Deref f) out refl refl refl refl) f out c.0 c.1
   each (Node-F.Index f g) out c =
-      index_aims globals s agrees declares store entry next ready here h fresh little are Gone (width_of t) 0 k e typed judged (scalar_goes (Node-F.Index f g) out refl refl refl refl) f g out c.0 c.1 c.2
+      index_aims globals s agrees declares store entry next ready here h fresh are Gone (width_of t) 0 k e typed room judged (scalar_goes (Node-F.Index f g) out refl refl refl refl) f g out c.0 c.1 c.2
   each (Node-F.Arrow f n at) out c = arrow_goes f n at out c.0 c.1 c.2
   each (Node-F.Dot f n at) out c = dot_goes f n at out c.0 c.1
   each x out c = absurd c
@@ -276,10 +279,10 @@ module _ (globals : Globals) (s : Setting) (agrees : Agrees globals s) (declares
 
 module _ (globals : Globals) (s : Setting) (agrees : Agrees globals s) (declares : DeclareLocals s) (store : Store) (entry : List ℕ) (next : ℕ) (ready : IsSoundStore s store next) (here : Here) (free : KeepRunsFree s.text) where
   -- the target that has been judged is judged as it was
-  pub judged_aims : (before : NotedExpr) (p : Placed) (fresh literals : ℕ) → fresh < 2 ^ 32 → AreFresh s.frame fresh → IsTyped globals s before → (view s.frame before).judged fresh here.at ≡ Ok p.target
+  pub judged_aims : (before : NotedExpr) (p : Placed) (fresh literals : ℕ) → fresh + length ((view s.frame before).fresh here.at) < 2 ^ 32 → AreFresh s.frame fresh → IsTyped globals s before → (view s.frame before).judged fresh here.at ≡ Ok p.target
       → is_scalar p.target.note.ctype ≡ true → IsCoveredTarget s store here.seen p.target (out-Node Name Note p.target.node) → HoldsAt s store entry here
       → IsAimed s store p (aimed store (target_of s.text s.variables literals p.target))
   judged_aims before p fresh literals little are typed is scalar covered h =
       let same : view s.frame p.target ≡ view s.frame before = same_view s.frame before p.target fresh here.at is s.frame in
       let good : IsTyped globals s p.target = (judged_typed globals s before p.target fresh here.at typed is).0 in
-      target_aims globals s agrees declares store entry next ready here h fresh little are free p scalar good (subst (λ (v : View). v.judged fresh here.at ≡ Ok p.target) (sym same) is) literals covered
+      target_aims globals s agrees declares store entry next ready here h fresh are free p scalar good (subst (λ (v : View). fresh + length (v.fresh here.at) < 2 ^ 32) (sym same) little) (subst (λ (v : View). v.judged fresh here.at ≡ Ok p.target) (sym same) is) literals covered

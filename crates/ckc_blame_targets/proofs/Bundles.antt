@@ -6,7 +6,7 @@ use Rattle.std.specs.List.{Contains, list_any, filter_map, cons_option}
 use Rattle.std.proofs.lemmas.Bool.{and_parts, eqb-true, eq-eqb, ne_eqb}
 use Rattle.std.proofs.lemmas.List.Elements.{filter_map-append, Contains-append_left, Contains-append_right}
 use Rattle.ckc_base.specs.declared.places.Pos.{Pos}
-use Rattle.ckc_types.specs.declared.types.CType.{CType, CType-F, out-CType}
+use Rattle.ckc_types.specs.declared.types.CType.{CType-F, out-CType}
 use Rattle.ckc_syntax.specs.declared.tree.Name.{Name}
 use Rattle.ckc_syntax.specs.declared.tree.Name.TheVariants as name
 use Rattle.ckc_syntax.specs.declared.tree.Act.{Act-F, out-Act}

@@ -1,9 +1,9 @@
 -- The pointers in memory may be read after planned writes.
-use Rattle.std.proofs.Common.{◌≡◌, ◌⊎◌, ⊎_elim, inl, inr, refl, sym, ap, subst, ◌∙◌, ℕ, ◌+◌, ◌*◌, List, [], ◌∷◌, ◌++◌, length, arith}
-use Rattle.std.specs.Prelude.{false, ◌<◌, pos, slice_get, Option, None, Some, Ok, IsSome, is_some}
+use Rattle.std.proofs.Common.{◌≡◌, ⊎_elim, inl, inr, refl, sym, ap, subst, ◌∙◌, ℕ, ◌+◌, ◌*◌, List, [], ◌∷◌, ◌++◌, length, arith}
+use Rattle.std.specs.Prelude.{false, ◌<◌, pos, slice_get, Option, None, Some, Ok, IsSome}
 use Rattle.std.specs.List.{Contains}
 use Rattle.std.proofs.Math.Nat.{mul_comm}
-use Rattle.ckc_types.specs.declared.types.CType.{CType, CType-F, out-CType}
+use Rattle.ckc_types.specs.declared.types.CType.{CType-F, out-CType}
 use Rattle.ckc_syntax.specs.declared.tree.Name.{Name}
 use Rattle.ckc_syntax.specs.declared.tree.Node.{Node-F, out-Node}
 use Rattle.ckc_typed.specs.declared.typed.Note.{Note}
@@ -35,7 +35,7 @@ use Rattle.ckc_blame_slots.specs.Limited.{AreSlotParts, IsCountSpared, store_wit
 use Rattle.ckc_blame_slots.specs.Writes.{AreCellWrites, IsCellWrite, AreElsewhere, IsElsewhere}
 use Rattle.ckc_blame_slots.proofs.Apart.{AreLaid, behind, placed_at, three}
 use Rattle.ckc_blame_slots.proofs.Filled.{filled_after}
-use Rattle.ckc_blame_slots.proofs.Fresh.{get_before, cell_before}
+use Rattle.ckc_blame_slots.proofs.Fresh.{get_before}
 use Rattle.ckc_blame_slots.proofs.Places.{element_between}
 use Rattle.ckc_blame_slots.proofs.Written.{KeepsAll, all_keep, laid}
 use Rattle.ckc_blame_contained.specs.Elements.{IsStructure, NameIntegerMembers}
@@ -47,6 +47,7 @@ use Rattle.ckc_blame_given.specs.Planned.{IsPartTarget, IsMemberTarget, IsMemory
 use Rattle.ckc_blame_targets.specs.Targets.{begin_in, begin_of, LiesIn}
 use Rattle.ckc_blame_targets.specs.Together.{HaveSmallNames, AreMembersAt, AreLocals, AreTogether, AreIn}
 use Rattle.ckc_blame_targets.proofs.Kept.{from_kept}
+use Rattle.ckc_blame_targets.proofs.Later.{written_later}
 use Rattle.ckc_blame_targets.proofs.Members.{IsOf, AreOf, number_after, zero_after, are_written, are_once}
 use Rattle.ckc_blame_targets.proofs.Runs.{run_filled}
 
@@ -94,10 +95,7 @@ module _ (s : Setting) (same_structs : s.frame.structs ≡ s.text.layout) (own :
   -- ---- what is written is a number of an element
 
   cell_there : (to : Place) (n : ℕ) → IsCellWrite s.text.layout before.blocks to n → IsCellWrite s.text.layout state.blocks to n
-  cell_there place.Nowhere n h = tt
-  cell_there (place.Local x width) n h = tt
-  cell_there (place.Memory a width z) n h =
-      subst (λ bs. IsCellWrite s.text.layout bs (place.Memory a width z) n) (sym more_there) (cell_before s.text.layout before.blocks more a width (is_some z) h.0, h.1, h.2)
+  cell_there to n h = subst (λ bs. IsCellWrite s.text.layout bs to n) (sym more_there) (written_later s.text.layout before.blocks more to n h)
 
   pub cells_there : (ps : List Placed) (ws : List Write) → ArePlanned s before after v at ps ws → AreCellWrites s.text.layout state.blocks ws
   unfolding ArePlanned AreCellWrites

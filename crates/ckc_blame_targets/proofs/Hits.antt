@@ -1,6 +1,6 @@
 -- The element that an access goes to through a checked pointer lies in a true range.
 use Rattle.std.proofs.Common.{◌≡◌, ◌⊎◌, ⊎_elim, inl, inr, refl, sym, ap, subst, ◌∙◌, ℕ, true, false, List}
-use Rattle.std.specs.Prelude.{◌+◌, ◌<◌, ◌^◌, pos, Option, None, Some, Result, Ok, Err}
+use Rattle.std.specs.Prelude.{◌+◌, ◌<◌, ◌^◌, length, pos, Option, None, Some, Result, Ok, Err}
 use Rattle.ckc_base.specs.declared.arithmetic.Width.{Width}
 use Rattle.ckc_base.specs.declared.places.Pos.{Pos}
 use Rattle.ckc_types.specs.declared.types.Kind.{Kind}
@@ -91,7 +91,7 @@ module _ (s : Setting) (store : Store) (entry : List ℕ) (next : ℕ) (ready : 
   Goes index w = (x k : Value) → evaluated store v ≡ Ok x → evaluated store w ≡ Ok k → (a : ℕ) → pos a ≡ elements_behind x.number sized (exact index k.number)
       → IsHit s store e.note.ctype (access_by index) x a → ComesTo Q (aims_at store width (access_by index) x.range a)
 
-  module _ (fresh : ℕ) (few : (view s.frame e).values + 1 < 2 ^ 32) (little : fresh < 2 ^ 32) (are : AreFresh s.frame fresh) where
+  module _ (fresh : ℕ) (few : (view s.frame e).values + 1 < 2 ^ 32) (little : fresh + length ((view s.frame e).fresh here.at) < 2 ^ 32) (are : AreFresh s.frame fresh) where
     pub counted_aims : (index : Integer) (w : Expr) (R : Value → Type 0) → IsNotStuck R (evaluated store w) → is_counted_kind (kind_of e.note.ctype) ≡ true
         → ((x : Value) → ExprClaims s store entry here e x → IsRanged s store entry next ready here h e fresh few little are x) → Goes index w → ComesTo Q (aimed store (Memory width (access_by index) v w))
     unfolding IsRanged
@@ -170,7 +170,7 @@ module _ (s : Setting) (store : Store) (entry : List ℕ) (next : ℕ) (ready : 
           }))
 
   -- `*p`, and the structure of `p->m`
-  pub through_aims : IsThrough s e → (fresh : ℕ) (few : (view s.frame e).values + 1 < 2 ^ 32) (little : fresh < 2 ^ 32) (are : AreFresh s.frame fresh)
+  pub through_aims : IsThrough s e → (fresh : ℕ) (few : (view s.frame e).values + 1 < 2 ^ 32) (little : fresh + length ((view s.frame e).fresh here.at) < 2 ^ 32) (are : AreFresh s.frame fresh)
       → (is_counted_kind (kind_of e.note.ctype) ≡ true → (x : Value) → ExprClaims s store entry here e x → IsRanged s store entry next ready here h e fresh few little are x)
       → Goes Int (Number 0) → ComesTo Q (aimed store (Memory width (access_by Int) v (Number 0)))
   through_aims t fresh few little are ranged goes =

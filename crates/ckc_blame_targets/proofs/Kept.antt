@@ -1,8 +1,7 @@
 -- What is known of a new value is known where the same ranges are true.
 use Rattle.std.proofs.Common.{◌≡◌, sym, subst, ℕ, List}
-use Rattle.std.specs.Prelude.{[], pos, Result, IsOk}
+use Rattle.std.specs.Prelude.{[], Result, IsOk}
 use Rattle.ckc_types.specs.declared.types.CType.{CType}
-use Rattle.ckc_linear.specs.declared.forms.Form.{Form}
 use Rattle.ckc_typed.specs.declared.typed.Range.{Range}
 use Rattle.ckc_typed.specs.declared.typed.Range.TheVariants as range
 use Rattle.ckc_typed.specs.Trees.{NotedExpr}

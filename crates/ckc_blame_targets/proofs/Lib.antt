@@ -8,5 +8,6 @@ pub mod Aims
 pub mod Kept
 pub mod Runs
 pub mod Members
+pub mod Later
 pub mod Filled
 pub mod Bundles

@@ -1,5 +1,5 @@
 -- Assignments that are judged as one, by their targets: an assignment alone, or those of a bundle.
-use Rattle.std.specs.Prelude.{◌≡◌, ◌⊎◌, ℕ, ◌+◌, ◌<◌, ◌^◌, false, List, [], ◌∷◌, length, Option, Some, IsSome}
+use Rattle.std.specs.Prelude.{◌≡◌, ◌⊎◌, ℕ, ◌+◌, ◌<◌, ◌^◌, false, List, [], ◌∷◌, length, Some, IsSome}
 use Rattle.std.specs.List.{Contains}
 use Rattle.ckc_types.specs.declared.types.MemberShape.{MemberShape}
 use Rattle.ckc_types.specs.declared.types.Structs.{Structs}

@@ -1,7 +1,7 @@
 //! What follows from the definitions alone, each the contract of a function that does nothing.
 
 ghost use Rattle.std.specs.List.{Contains};
-ghost use Rattle.std.specs.Prelude.{◌≡◌, ℕ, ◌<◌, ◌^◌, true, pos, List, ◌++◌, Ok};
+ghost use Rattle.std.specs.Prelude.{◌≡◌, ℕ, ◌+◌, ◌<◌, ◌^◌, true, pos, List, ◌++◌, length, Ok};
 ghost use Rattle.ckc_bounds_points.specs.declared.frame.Bounds.{Bounds};
 ghost use Rattle.ckc_bounds_points.specs.Flow.{State};
 ghost use Rattle.ckc_syntax.specs.declared.tree.Name.{Name};
@@ -15,6 +15,7 @@ ghost use Rattle.ckc_bounds_views.specs.Views.{view};
 ghost use Rattle.ckc_bounds_statements.specs.Paths.{Here};
 ghost use Rattle.ckc_bounds_stores.specs.Stores as stores;
 ghost use Rattle.ckc_bounds_stores.specs.Stores.{Placed, numbered, stores_of, stored_placed};
+ghost use Rattle.ckc_source.specs.declared.outcome.Place.{Place};
 ghost use Rattle.ckc_source.specs.Blocks.{Block};
 ghost use Rattle.ckc_source.specs.Eval.{Store};
 ghost use Rattle.ckc_source.specs.States as states;
@@ -32,26 +33,30 @@ ghost use Rattle.ckc_blame_sound.specs.Valuations.{Valuation, AreFacts};
 ghost use Rattle.ckc_blame_numbers.specs.Typed.{IsTyped, Agrees};
 ghost use Rattle.ckc_blame_pointers.specs.Covered.{DeclareLocals, IsSoundStore};
 ghost use Rattle.ckc_blame_given.specs.Planned.{ArePlanned};
-ghost use Rattle.ckc_blame_targets.specs.Targets.{KeepRunsFree, IsCoveredTarget, IsAimed};
+ghost use Rattle.ckc_blame_targets.specs.Targets.{KeepRunsFree, IsCoveredTarget, GoesThere, IsAimed};
 ghost use Rattle.ckc_blame_targets.specs.Together.{HaveSmallNames, AreTogether, AreIn};
 
-/// The evaluation of the target of a judged assignment comes to a place, or stops at a named check. It is not stuck. What
-/// may be written to that place is written to the local, the element or the member that the target is judged to be.
+/// The evaluation of the target of a judged assignment comes to a place, or stops at a named check. It is not
+/// stuck. What may be written to that place goes to the local, the element or the member that the target is
+/// judged to be, also when blocks have been made since.
 pub fn targets_aim()
-    ensures { (globals : Globals) (s : Setting) (entry : List ℕ) (here : Here)
+    ensures aims { (globals : Globals) (s : Setting) (entry : List ℕ) (here : Here)
         (before : NotedExpr) (p : Placed) (fresh literals next : ℕ) (store : Store) →
         Agrees globals s → DeclareLocals s → KeepRunsFree s.text → IsSoundStore s store next
-        → fresh < 2 ^ 32 → AreFresh s.frame fresh → IsTyped globals s before
+        → fresh + length ((view s.frame before).fresh here.at) < 2 ^ 32 → AreFresh s.frame fresh → IsTyped globals s before
         → (view s.frame before).judged fresh here.at ≡ Ok p.target
         → is_scalar p.target.note.ctype ≡ true
         → IsCoveredTarget s store here.seen p.target (out-Node Name Note p.target.node)
         → HoldsAt s store entry here
         → IsAimed s store p (aimed store (target_of s.text s.variables literals p.target)) }
+    ensures stays { (s : Setting) (store after : Store) (more : List Block) (p : Placed) (n : ℕ)
+        (w : Place) → after.blocks ≡ store.blocks ++ more → after.locals ≡ store.locals
+        → GoesThere s store p n w → GoesThere s after p n w }
 {}
 
-/// After the writes that assignments plan, which are judged as one, the blocks lie as they did, and each checked pointer
-/// in memory may be read within its bounds. The assignments are one alone, or several to locals, or to members of one
-/// structure.
+/// After the writes that assignments plan, which are judged as one, the blocks lie as they did, and each checked
+/// pointer in memory may be read within its bounds. The assignments are one alone, or several to locals, or to
+/// members of one structure.
 pub fn memory_stays_filled()
     ensures { (s : Setting) (next : ℕ) (before after : Store) (more : List Block)
         (state done : states.State) (v : Valuation) (at there : State) (ps : List Placed)
@@ -68,7 +73,8 @@ pub fn memory_stays_filled()
         × AreFilled s.text (store_with after.shapes done.blocks locals) }
 {}
 
-/// The assignments of a bundle go together: their targets are locals, or members of one structure, no two of them one.
+/// The assignments of a bundle go together: their targets are locals, or members of one structure, no two of them
+/// one.
 pub fn bundles_go_together()
     ensures { (globals : Globals) (s : Setting) (locals : List ℕ) (ss : List NotedStmt)
         (at : State) (value fresh : ℕ) → is_bundle ss ≡ true

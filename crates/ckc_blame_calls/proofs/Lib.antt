@@ -1,0 +1,10 @@
+pub mod Views
+pub mod Looser
+pub mod Converted
+pub mod Taken
+pub mod Numbering
+pub mod Passed
+pub mod Evaluated
+pub mod Calls
+pub mod Stepping
+pub mod Entering
