@@ -1,5 +1,5 @@
 -- The expressions of statements and conditions of checked scopes have no unchecked pointer and no `_Assume_bounds_cast`.
-use Rattle.std.proofs.Common.{◌≡◌, ◌∙◌, sym, ap, subst, refl, List, [], ◌∷◌, map, arith}
+use Rattle.std.proofs.Common.{◌≡◌, ◌∙◌, sym, subst, refl, List, [], ◌∷◌, map, arith}
 use Rattle.std.specs.Prelude.{Bool, true, Option, None, Some, IfSome}
 use Rattle.std.specs.List.{Contains, AllByRecursion}
 use Rattle.std.proofs.lemmas.List.Elements.{Contains-append_left, Contains-append_right}

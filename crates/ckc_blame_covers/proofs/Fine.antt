@@ -17,7 +17,7 @@ use Rattle.ckc_syntax.specs.declared.tree.Act.{Act-F, map-Act, roll-Act, fold-Ac
 use Rattle.ckc_syntax.specs.declared.tree.Stmt.{Stmt-F, map-Stmt, ind-Stmt, roll-Stmt, fold-roll-Stmt}
 use Rattle.ckc_typed.specs.declared.typed.Note.{Note}
 use Rattle.ckc_typed.specs.Raw.{has_raw, raws_of_decl}
-use Rattle.ckc_typed.specs.Scoped.{fault_at, fault_in, fault_where, unchecked_pointer}
+use Rattle.ckc_typed.specs.Scoped.{fault_at, fault_in, fault_where}
 use Rattle.ckc_typed.specs.Trees.{NotedLimits, NotedNode, NotedExpr, NotedLayer, NotedInit, NotedDecl, NotedAct, NotedStmt}
 use Rattle.ckc_typed.specs.Walk.{Matter, assumed, value, Spot, spot, Within, within, node_spots, expr_spots, written_at, spots_of_limits, spots_of_expr, spots_of_bounds, spots_of_value, spots_of_init, spots_of_decl, act_spots, stmt_spots, spots_of_act, spots_of_stmt}
 use Rattle.ckc_blame_sound.specs.Words.{exprs_of_act, exprs_of_stmt, exprs_in}

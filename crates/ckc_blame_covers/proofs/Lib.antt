@@ -4,3 +4,8 @@ mod Fine
 mod Scoped
 mod Modes
 mod Checked
+mod Ranges
+mod Few
+mod Cover
+mod Judged
+mod Layouts

@@ -1,10 +1,9 @@
 -- The code of a step stands in the mode that its statement notes.
-use Rattle.std.proofs.Common.{◌≡◌, ◌∙◌, sym, ap, subst, refl, ℕ, ◌+◌, List, [], ◌∷◌, map, rules}
-use Rattle.std.specs.Prelude.{Bool, true, false, not, Option, Some, Ok}
+use Rattle.std.proofs.Common.{◌≡◌, ◌∙◌, sym, ap, refl, ℕ, ◌+◌, List, [], ◌∷◌, map, rules}
+use Rattle.std.specs.Prelude.{true, not, Ok}
 use Rattle.ckc_base.specs.declared.places.Pos.{Pos}
 use Rattle.ckc_base.specs.declared.arithmetic.Mode.{Mode}
-use Rattle.ckc_base.specs.Outcomes.{bind, unless}
-use Rattle.ckc_types.specs.declared.types.CType.{CType}
+use Rattle.ckc_base.specs.Outcomes.{bind}
 use Rattle.ckc_syntax.specs.declared.tree.Name.{Name}
 use Rattle.ckc_syntax.specs.declared.tree.Name.TheVariants as name
 use Rattle.ckc_syntax.specs.declared.tree.Init.TheVariants as init
@@ -23,7 +22,7 @@ use Rattle.ckc_bounds_statements.specs.Paths.{Here, path, value_judged, maybe_ju
 use Rattle.ckc_source.specs.declared.stmt.Spot.{Spot}
 use Rattle.ckc_source.specs.Code.{Code, End}
 use Rattle.ckc_build_values.specs.Expressions.{literals_of}
-use Rattle.ckc_build_elaborate.specs.Steps.{Destination, spot, nowhere, destination_of, called, assigned, assigned_form, started, declared, returned}
+use Rattle.ckc_build_elaborate.specs.Steps.{Destination, spot, nowhere, destination_of, called, assigned, assigned_form, started, declared}
 use Rattle.ckc_build_elaborate.specs.Statements.{act_code}
 use Rattle.ckc_blame_sound.specs.Settings.{Setting}
 use Rattle.ckc_blame_sound.specs.Steps.{is_simple, IsStep}

@@ -1,6 +1,6 @@
 -- In checked scopes the expressions of a scoped text are safe, whatever text it was judged as.
-use Rattle.std.proofs.Common.{◌≡◌, ◌∙◌, ⊎_elim, refl, sym, ap, subst, List, [], ◌∷◌, ◌++◌, arith}
-use Rattle.std.specs.Prelude.{Ok, Err}
+use Rattle.std.proofs.Common.{◌≡◌, ◌∙◌, ⊎_elim, refl, sym, ap, subst, List, [], ◌∷◌, arith}
+use Rattle.std.specs.Prelude.{Ok}
 use Rattle.std.specs.List.{Contains}
 use Rattle.std.proofs.lemmas.List.Elements.{All-nil, All-cons, All-contains, Contains-append_cases}
 use Rattle.ckc_base.specs.declared.arithmetic.Mode.{Mode}
@@ -10,13 +10,13 @@ use Rattle.ckc_syntax.specs.declared.tree.Item.TheVariants as item
 use Rattle.ckc_typed.specs.declared.typed.Typed.{Typed}
 use Rattle.ckc_typed.specs.Scoped.{Scoped}
 use Rattle.ckc_typed.specs.Trees.{NotedHead, NotedItem, NotedStmt}
-use Rattle.ckc_typed.specs.Walk.{Spot, spots_of_stmt, spots_of_head, spots_of_item, spots_of_items, pragma_after}
+use Rattle.ckc_typed.specs.Walk.{spots_of_stmt, spots_of_head, spots_of_item, spots_of_items, pragma_after}
 use Rattle.ckc_bounds_points.specs.declared.frame.Frame.{Frame}
-use Rattle.ckc_bounds.specs.Declarations.{types_in, head_judged, member_holder}
-use Rattle.ckc_bounds.specs.Texts.{members_judged, object_judged, head_kept, body_judged, item_judged, items_judged}
+use Rattle.ckc_bounds.specs.Declarations.{types_in, head_judged}
+use Rattle.ckc_bounds.specs.Texts.{body_judged, item_judged, items_judged}
 use Rattle.ckc_bounds.specs.Phase.{bounding}
 use Rattle.ckc_blame_sound.specs.Settings.{frame_of_text}
-use Rattle.ckc_blame_sound.specs.Safe.{AreSafe, HasOnlySafe}
+use Rattle.ckc_blame_sound.specs.Safe.{AreSafe}
 use Rattle.ckc_blame_texts.proofs.Bounded.{is_bounded}
 use Rattle.ckc_blame_texts.proofs.Kept.{Keeps}
 use Rattle.ckc_blame_walk.proofs.Flow.{first_in, later_in}

@@ -1,8 +1,8 @@
 -- The expressions of checked statements, in which there is no unchecked pointer and no `_Assume_bounds_cast`.
-use Rattle.std.specs.Prelude.{◌≡◌, Bool, true, false, Some, None, Option, IfSome}
+use Rattle.std.specs.Prelude.{◌≡◌, false, IfSome}
 use Rattle.std.specs.List.{AllByRecursion}
 use Rattle.ckc_base.specs.declared.arithmetic.Mode.{Mode}
-use Rattle.ckc_base.specs.declared.arithmetic.Mode.TheVariants.{Checked, Unchecked}
+use Rattle.ckc_base.specs.declared.arithmetic.Mode.TheVariants.{Unchecked}
 use Rattle.ckc_syntax.specs.declared.tree.Name.{Name}
 use Rattle.ckc_syntax.specs.declared.tree.Init.TheVariants as init
 use Rattle.ckc_syntax.specs.declared.tree.Act.{Act-F, out-Act}
@@ -12,7 +12,7 @@ use Rattle.ckc_typed.specs.declared.typed.Note.{Note}
 use Rattle.ckc_typed.specs.Raw.{has_raw}
 use Rattle.ckc_typed.specs.Trees.{NotedLimits, NotedNode, NotedExpr, NotedInit, NotedAct, NotedStmt}
 use Rattle.ckc_typed_welltyped.specs.Expressions.{AnyLimits, AnyNode}
-use Rattle.ckc_source.specs.Code.{Code, End, Assign, Bundle, Get, Put, Call, If, Loop, Break, Continue, Return, Check}
+use Rattle.ckc_source.specs.Code.{Code, Assign, Bundle, Get, Put, Call, If, Loop, Return, Check}
 use Rattle.ckc_blame_sound.specs.Safe.{is_assumed}
 
 -- An expression has a type with no unchecked pointer in it, and is no `_Assume_bounds_cast`.
