@@ -50,6 +50,27 @@ use Rattle.ckc_blame_pointers.proofs.Rows.{pointer_word}
 use Rattle.ckc_blame_pointers.proofs.Truths.{true_bare}
 
 module _ (s : Setting) (store : Store) (entry : List ℕ) (here : Here) where
+  -- ---- a pointer of which less is said
+
+  some_less : (Q : Form → Type 0) (o whole : Option Form) → ((f : Form) → o ≡ Some f → whole ≡ Some f) → IfSome whole Q → IfSome o Q
+  some_less Q None whole less there = tt
+  some_less Q (Some f) whole less there = subst (λ (o : Option Form). IfSome o Q) (less f refl) there
+
+  -- its place at fewer facts
+  placed_less : (t : CType) (limit : ℕ) (place whole : Known → Option Form) (r : State → Range) (types : List CType) (first fresh : ℕ) (before : Valuation) (v : Value) → ((facts : Known) (f : Form) → place facts ≡ Some f → whole facts ≡ Some f)
+      → Placed s store entry here t limit whole r types first fresh before v → Placed s store entry here t limit place r types first fresh before v
+  placed_less t limit place whole r types first fresh before v less p = record {
+    after = p.after;
+    extends = p.extends;
+    place_between = λ facts. some_less (λ f. BaseBetween first limit f.base) (place facts) (whole facts) (less facts) (p.place_between facts);
+    range_between = p.range_between;
+    of_local = λ facts. some_less (λ f. IsOfLocal s t f.base) (place facts) (whole facts) (less facts) (p.of_local facts);
+    place_in = λ later ext facts told. some_less (λ f. pos v.number ≡ address_by s store.locals later (size_behind s.text.layout t) f) (place facts) (whole facts) (less facts) (p.place_in later ext facts told);
+    range_is = p.range_is;
+    readable = p.readable;
+    numbers = p.numbers;
+  }
+
   -- ---- a pointer that stands for itself if it has no place
 
   module _ (t : CType) (limit most : ℕ) (place : Known → Option Form) (r : State → Range) (types : List CType) (first fresh : ℕ) (before : Valuation) (v : Value) (p : Placed s store entry here t limit place r types first fresh before v)
@@ -192,7 +213,7 @@ address_row Checked t u e raw =
 address_row Unchecked t u e raw =
     let unchecked : is_raw_kind (kind_of u) ≡ true = ap (λ u. is_raw_kind (kind_of u)) (sym e) ∙ ap (λ f. is_raw_kind (kind_in f)) (pointer_form kind.Raw t) in absurd (cc)
 
-module _ (s : Setting) (store : Store) (entry : List ℕ) (here : Here) (h : HoldsAt s store entry here) (e : NotedExpr) (note : Note) (place : Pos) (bare : is_pointer note.ctype ≡ false) (r : CType)
+module _ (s : Setting) (store : Store) (entry : List ℕ) (here : Here) (h : HoldsAt s store entry here) (e : NotedExpr) (note : Note) (place : Pos) (r : CType)
     (pointer : is_pointer r ≡ true) (array : kind_of r ≡ Some kind.Arr) (same : element_of r ≡ element_of e.note.ctype) where
   abbrev pub address_view : NodeView → NodeView
   address_view n = node_view s.frame (Node-F.Un op.Address (expr_view (record { node = n; pos = place; note = note })))
@@ -200,49 +221,44 @@ module _ (s : Setting) (store : Store) (entry : List ℕ) (here : Here) (h : Hol
   pub target_claims : (x : Value) → ExprClaims s store entry here e x → NodeClaims s store entry here h r (address_view (node_view s.frame (Node-F.Un op.Deref (view s.frame e)))) x
   target_claims x c =
       address_claims s store entry here h e.note.ctype r same pointer array made refl refl (λ b. nothing_read s store entry (λ facts. None) b here.at) x (word_wide e.note.ctype x.number c.word)
-      (λ first fresh before low little are fits. placed_so first fresh before (room first (view s.frame e).values (subst (λ m. first + m + 1 < 2 ^ 32) own_is low)) little are fits)
+      (λ first fresh before low little are fits. placed_so first fresh before (room first (view s.frame e).values (is_pointer note.ctype) (subst (λ m. first + m + 1 < 2 ^ 32) own_is low)) little are fits)
     where
       made : NodeView
       made = address_view (node_view s.frame (Node-F.Un op.Deref (view s.frame e)))
 
-      values_is : made.values ≡ (view s.frame e).values
-      values_is = ap (λ b. if b && true then capped (view s.frame e).values 1 else (view s.frame e).values) bare
+      own_is : with_own r made ≡ capped made.values 1
+      own_is = ap (λ b. if b && true then capped made.values 1 else made.values) pointer
 
-      own_is : with_own r made ≡ capped (view s.frame e).values 1
-      own_is = ap (λ b. if b && true then capped made.values 1 else made.values) pointer ∙ ap (λ n. capped n 1) values_is
-
-      place_is : (first : ℕ) (facts : Known) → pointer_place r made first facts ≡ option_or ((view s.frame e).place first facts) (Some (base_form (base.Value (capped first (view s.frame e).values))))
-      place_is first facts =
-          ap (λ b. if b then option_or ((view s.frame e).place first facts) (Some (base_form (base.Value (capped first made.values)))) else None) pointer
-          ∙ ap (λ n. option_or ((view s.frame e).place first facts) (Some (base_form (base.Value (capped first n))))) values_is
+      place_is : (first : ℕ) (facts : Known) → pointer_place r made first facts ≡ option_or ((view s.frame e).place first facts) (Some (base_form (base.Value (capped first made.values))))
+      place_is first facts = ap (λ b. if b then option_or ((view s.frame e).place first facts) (Some (base_form (base.Value (capped first made.values)))) else None) pointer
 
       range_is : (first fresh : ℕ) (widened : List ℕ) → pointer_range r made first fresh (record here.at { widened = widened }) ≡ (view s.frame e).range first fresh (record here.at { widened = widened })
       range_is first fresh widened = ap (λ b. if b then (view s.frame e).range first fresh (record here.at { widened = widened }) else range.Missing) pointer
 
-      room : (first n : ℕ) → first + capped n 1 + 1 < 2 ^ 32 → (first + n + 1 < 2 ^ 32) × (first ≤ capped first n) × (first + n ≤ capped first n) × (capped first n < first + capped n 1)
-      room first n low = (omega arith, omega arith, omega arith, omega arith)
+      room : (first n : ℕ) (b : Bool) → first + capped (if b && true then capped n 1 else n) 1 + 1 < 2 ^ 32
+          → (first + n + 1 < 2 ^ 32) × (first ≤ capped first (if b && true then capped n 1 else n)) × (first + n ≤ capped first (if b && true then capped n 1 else n))
+          × (capped first (if b && true then capped n 1 else n) < first + capped (if b && true then capped n 1 else n) 1)
+      room first n true low = (omega arith, omega arith, omega arith, omega arith)
+      room first n false low = (omega arith, omega arith, omega arith, omega arith)
 
       placed_so : (first fresh : ℕ) (before : Valuation)
-          → (first + (view s.frame e).values + 1 < 2 ^ 32) × (first ≤ capped first (view s.frame e).values) × (first + (view s.frame e).values ≤ capped first (view s.frame e).values)
-          × (capped first (view s.frame e).values < first + capped (view s.frame e).values 1)
+          → (first + (view s.frame e).values + 1 < 2 ^ 32) × (first ≤ capped first made.values) × (first + (view s.frame e).values ≤ capped first made.values)
+          × (capped first made.values < first + capped made.values 1)
           → fresh + length ((view s.frame e).fresh here.at) < 2 ^ 32 → AreFresh s.frame fresh → Fits s.frame store.locals before
           → Placed s store entry here e.note.ctype (first + with_own r made) (pointer_place r made first) (pointer_range r made first fresh) (node_fresh r made here.at) first fresh before x
       placed_so first fresh before there little are fits =
           let p = c.placed first fresh before there.0 little are fits in
-          placed_as s store entry here e.note.ctype (first + capped (view s.frame e).values 1) (first + with_own r made) _ (pointer_place r made first) ((view s.frame e).range first fresh) (pointer_range r made first fresh) ((view s.frame e).fresh here.at)
+          placed_as s store entry here e.note.ctype (first + capped made.values 1) (first + with_own r made) _ (pointer_place r made first) ((view s.frame e).range first fresh) (pointer_range r made first fresh) ((view s.frame e).fresh here.at)
           (node_fresh r made here.at) first fresh before x (ap (λ m. first + m) own_is) (place_is first) (range_is first fresh) refl
-          (or_own s store entry here e.note.ctype (first + (view s.frame e).values) (first + capped (view s.frame e).values 1) ((view s.frame e).place first) ((view s.frame e).range first fresh) ((view s.frame e).fresh here.at)
-          first fresh before x p little are fits (capped first (view s.frame e).values) there.1 there.2 there.3)
+          (or_own s store entry here e.note.ctype (first + (view s.frame e).values) (first + capped made.values 1) ((view s.frame e).place first) ((view s.frame e).range first fresh) ((view s.frame e).fresh here.at)
+          first fresh before x p little are fits (capped first made.values) there.1 there.2 there.3)
 
   pub index_claims : (f : NotedExpr) → is_pointer e.note.ctype ≡ true → is_raw_kind (kind_of e.note.ctype) ≡ false → (view s.frame e).ctype ≡ e.note.ctype → (x : Value)
       → NodeClaims s store entry here h e.note.ctype (node_view s.frame (Node-F.Bin op.Add (view s.frame e) (view s.frame f))) x
       → NodeClaims s store entry here h r (address_view (node_view s.frame (Node-F.Index (view s.frame e) (view s.frame f)))) x
   index_claims f from checked viewed x c =
       address_claims s store entry here h e.note.ctype r same pointer array made refl refl (λ b. nothing_read s store entry (λ facts. None) b here.at) x (word_wide e.note.ctype x.number c.word)
-      (λ first fresh before low little are fits.
-      placed_as s store entry here e.note.ctype (first + with_own e.note.ctype sum) (first + with_own r made) (pointer_place e.note.ctype sum first) (pointer_place r made first) (pointer_range e.note.ctype sum first fresh)
-      (pointer_range r made first fresh) (node_fresh e.note.ctype sum here.at) (node_fresh r made here.at) first fresh before x (ap (λ m. first + m) own_is) (place_is first) (range_is first fresh) types_are
-      (c.placed first fresh before (subst (λ m. first + m + 1 < 2 ^ 32) own_is low) (subst (λ us. fresh + length us < 2 ^ 32) types_are little) are fits))
+      (λ first fresh before low little are fits. by (is_pointer note.ctype) refl first fresh before low little are fits)
     where
       made : NodeView
       made = address_view (node_view s.frame (Node-F.Index (view s.frame e) (view s.frame f)))
@@ -256,12 +272,14 @@ module _ (s : Setting) (store : Store) (entry : List ℕ) (here : Here) (h : Hol
       view_pointer : is_pointer (view s.frame e).ctype ≡ true
       view_pointer = ap is_pointer viewed ∙ from
 
-      values_is : made.values ≡ sum.values
-      values_is = ap (λ b. if b && true then capped sum.values 1 else sum.values) bare
+      values_are : made.values ≡ (if is_pointer note.ctype && true then capped sum.values 1 else sum.values)
+      values_are = refl
 
-      own_is : with_own r made ≡ with_own e.note.ctype sum
-      own_is =
-          ap (λ b. if b && true then capped made.values 1 else made.values) pointer ∙ ap (λ n. capped n 1) values_is ∙ sym (ap (λ b. if b && true then capped sum.values 1 else sum.values) from)
+      sum_own : with_own e.note.ctype sum ≡ capped sum.values 1
+      sum_own = ap (λ b. if b && true then capped sum.values 1 else sum.values) from
+
+      own_made : with_own r made ≡ capped made.values 1
+      own_made = ap (λ b. if b && true then capped made.values 1 else made.values) pointer
 
       own_form : ℕ → Option Form
       own_form n = Some (base_form (base.Value n))
@@ -269,15 +287,19 @@ module _ (s : Setting) (store : Store) (entry : List ℕ) (here : Here) (h : Hol
       types_are : node_fresh r made here.at ≡ node_fresh e.note.ctype sum here.at
       types_are = ap (λ us. (view s.frame e).fresh here.at ++ us) (sym (right_fresh_is s.frame op.Add (view s.frame e) f here.at))
 
-      place_is : (first : ℕ) (facts : Known) → pointer_place r made first facts ≡ pointer_place e.note.ctype sum first facts
-      place_is first facts =
-          ap (λ b. if b then option_or (if is_raw_kind (kind_of (view s.frame e).ctype) then None else sum_of_forms ((view s.frame e).place first facts) ((view s.frame f).form facts)) (own_form (capped first made.values)) else None) pointer
-          ∙ ap (λ b. option_or (if b then None else sum_of_forms ((view s.frame e).place first facts) ((view s.frame f).form facts)) (own_form (capped first made.values))) raw
-          ∙ ap (λ n. option_or (sum_of_forms ((view s.frame e).place first facts) ((view s.frame f).form facts)) (own_form (capped first n))) values_is
-          ∙ sym (ap (λ b. if b then option_or (if is_raw_kind (kind_of e.note.ctype) then None else binary_place first facts op.Add (view s.frame e) (view s.frame f)) (own_form (capped first sum.values)) else None) from
+      form_there : ℕ → Known → Option Form
+      form_there first facts = sum_of_forms ((view s.frame e).place first facts) ((view s.frame f).form facts)
+
+      place_made : (first : ℕ) (facts : Known) → pointer_place r made first facts ≡ option_or (form_there first facts) (own_form (capped first made.values))
+      place_made first facts =
+          ap (λ b. if b then option_or (if is_raw_kind (kind_of (view s.frame e).ctype) then None else form_there first facts) (own_form (capped first made.values)) else None) pointer
+          ∙ ap (λ b. option_or (if b then None else form_there first facts) (own_form (capped first made.values))) raw
+
+      place_sum : (first : ℕ) (facts : Known) → pointer_place e.note.ctype sum first facts ≡ option_or (form_there first facts) (own_form (capped first sum.values))
+      place_sum first facts =
+          ap (λ b. if b then option_or (if is_raw_kind (kind_of e.note.ctype) then None else binary_place first facts op.Add (view s.frame e) (view s.frame f)) (own_form (capped first sum.values)) else None) from
           ∙ ap (λ b. option_or (if b then None else binary_place first facts op.Add (view s.frame e) (view s.frame f)) (own_form (capped first sum.values))) checked
-          ∙ ap (λ b. option_or (if b then sum_of_forms ((view s.frame e).place first facts) ((view s.frame f).form facts)
-          else sum_of_forms ((view s.frame f).place (capped first (view s.frame e).values) facts) ((view s.frame e).form facts)) (own_form (capped first sum.values))) view_pointer)
+          ∙ ap (λ b. option_or (if b then form_there first facts else sum_of_forms ((view s.frame f).place (capped first (view s.frame e).values) facts) ((view s.frame e).form facts)) (own_form (capped first sum.values))) view_pointer
 
       range_is : (first fresh : ℕ) (widened : List ℕ) → pointer_range r made first fresh (record here.at { widened = widened }) ≡ pointer_range e.note.ctype sum first fresh (record here.at { widened = widened })
       range_is first fresh widened =
@@ -289,3 +311,38 @@ module _ (s : Setting) (store : Store) (entry : List ℕ) (here : Here) (h : Hol
         where
           at : List ℕ → State
           at widened = record here.at { widened = widened }
+
+      AsJudged : Type 0
+      AsJudged = (first fresh : ℕ) (before : Valuation) → first + with_own r made + 1 < 2 ^ 32 → fresh + length (node_fresh r made here.at) < 2 ^ 32 → AreFresh s.frame fresh → Fits s.frame store.locals before
+          → Placed s store entry here e.note.ctype (first + with_own r made) (pointer_place r made first) (pointer_range r made first fresh) (node_fresh r made here.at) first fresh before x
+
+      -- what is no pointer itself stands for no value
+      other_claims : made.values ≡ sum.values → AsJudged
+      other_claims values_is first fresh before low little are fits =
+          let own_is : with_own r made ≡ with_own e.note.ctype sum = own_made ∙ ap (λ n. capped n 1) values_is ∙ sym sum_own in
+          placed_as s store entry here e.note.ctype (first + with_own e.note.ctype sum) (first + with_own r made) (pointer_place e.note.ctype sum first) (pointer_place r made first) (pointer_range e.note.ctype sum first fresh)
+          (pointer_range r made first fresh) (node_fresh e.note.ctype sum here.at) (node_fresh r made here.at) first fresh before x (ap (λ m. first + m) own_is)
+          (λ facts. place_made first facts ∙ ap (λ n. option_or (form_there first facts) (own_form (capped first n))) values_is ∙ sym (place_sum first facts)) (range_is first fresh) types_are
+          (c.placed first fresh before (subst (λ m. first + m + 1 < 2 ^ 32) own_is low) (subst (λ us. fresh + length us < 2 ^ 32) types_are little) are fits)
+
+      -- and a pointer has a value between
+      pointer_claims : made.values ≡ capped sum.values 1 → AsJudged
+      pointer_claims values_is first fresh before low little are fits =
+          let there = room first sum.values (subst (λ m. first + m + 1 < 2 ^ 32) (own_made ∙ ap (λ n. capped n 1) values_is) low) in
+          let less = subst (λ us. fresh + length us < 2 ^ 32) types_are little in
+          placed_as s store entry here e.note.ctype (first + capped (capped sum.values 1) 1) (first + with_own r made) (λ facts. option_or (form_there first facts) (own_form (capped first (capped sum.values 1)))) (pointer_place r made first)
+          (pointer_range e.note.ctype sum first fresh) (pointer_range r made first fresh) (node_fresh e.note.ctype sum here.at) (node_fresh r made here.at) first fresh before x (ap (λ m. first + m) (own_made ∙ ap (λ n. capped n 1) values_is))
+          (λ facts. place_made first facts ∙ ap (λ n. option_or (form_there first facts) (own_form (capped first n))) values_is) (range_is first fresh) types_are
+          (or_own s store entry here e.note.ctype (first + with_own e.note.ctype sum) (first + capped (capped sum.values 1) 1) (form_there first) (pointer_range e.note.ctype sum first fresh) (node_fresh e.note.ctype sum here.at) first fresh before x
+          (placed_less s store entry here e.note.ctype (first + with_own e.note.ctype sum) (form_there first) (pointer_place e.note.ctype sum first) (pointer_range e.note.ctype sum first fresh) (node_fresh e.note.ctype sum here.at) first fresh before x
+          (λ facts g is. place_sum first facts ∙ ap (λ o. option_or o (own_form (capped first sum.values))) is)
+          (c.placed first fresh before (subst (λ m. first + m + 1 < 2 ^ 32) (sym sum_own) there.0) less are fits)) less are fits (capped first (capped sum.values 1)) there.1
+          (subst (λ m. first + m ≤ capped first (capped sum.values 1)) (sym sum_own) there.2) there.3)
+        where
+          room : (first n : ℕ) → first + capped (capped n 1) 1 + 1 < 2 ^ 32
+              → (first + capped n 1 + 1 < 2 ^ 32) × (first ≤ capped first (capped n 1)) × (first + capped n 1 ≤ capped first (capped n 1)) × (capped first (capped n 1) < first + capped (capped n 1) 1)
+          room first n low = (omega arith, omega arith, omega arith, omega arith)
+
+      by : (b : Bool) → is_pointer note.ctype ≡ b → AsJudged
+      by true is = pointer_claims (values_are ∙ ap (λ b. if b && true then capped sum.values 1 else sum.values) is)
+      by false is = other_claims (values_are ∙ ap (λ b. if b && true then capped sum.values 1 else sum.values) is)

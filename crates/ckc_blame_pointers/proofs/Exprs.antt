@@ -579,13 +579,10 @@ module _ (globals : Globals) (s : Setting) (agrees : Agrees globals s) (declares
         (evaluated store (node_address (part_node (inner_node y)) note place s.text s.variables k))
     address_step (Node-F.Un op.Deref e) note place row typed covered node addressed fresh little are judged fault r pointer array element k =
         weaker (evaluated store ((part_of e.0).value s.text s.variables k)) (e.1.claims typed here covered (target_scalar e.0 note.ctype row.row) h fresh little are (one_part (λ a. Node-F.Un op.Deref a) (λ a b e. cc) _ e.0 judged) k)
-        (λ x there c. target_claims s store entry here h e.0 note place bare r pointer array (element ∙ sym is) x c)
+        (λ x there c. target_claims s store entry here h e.0 note place r pointer array (element ∙ sym is) x c)
       where
         is : element_of e.0.note.ctype ≡ note.ctype
         is = some_if (is_pointer e.0.note.ctype && not (is_void (element_of e.0.note.ctype))) (element_of e.0.note.ctype) note.ctype row.row
-
-        bare : is_pointer note.ctype ≡ false
-        bare = addressed
     address_step (Node-F.Index e f) note place row typed covered node addressed fresh little are judged fault r pointer array element k =
         let parts = two_parts (λ a b. Node-F.Index a b) (λ a b c d e. (cc, cc)) _ _ e.0 f.0 judged in
         let small = covered_sized e.0 covered.0 in
@@ -595,7 +592,7 @@ module _ (globals : Globals) (s : Setting) (agrees : Agrees globals s) (declares
         (right_claims e f typed covered scalars fresh first are k here.at (right_room fresh ((view s.frame e.0).fresh here.at) ((view s.frame f.0).fresh here.at) little) parts.1 h) (viewed_type e.0)
         (λ x is. index_of here h e.0 typed.0 k x is) (λ x is. index_of here h f.0 typed.1 (k + (part_of e.0).literals) x is) checked
         (ap (λ b. if b then Some e.0.note.ctype else (if is_integer e.0.note.ctype && is_moved f.0.note.ctype then Some f.0.note.ctype else arithmetic_type e.0.note.ctype f.0.note.ctype)) moved))
-        (λ x there c. index_claims s store entry here h e.0 note place bare r pointer array (element ∙ sym is) f.0 (moved_pointer e.0.note.ctype (and_parts (is_moved e.0.note.ctype) (is_integer f.0.note.ctype) moved).0) checked (viewed_type e.0) x c)))
+        (λ x there c. index_claims s store entry here h e.0 note place r pointer array (element ∙ sym is) f.0 (moved_pointer e.0.note.ctype (and_parts (is_moved e.0.note.ctype) (is_integer f.0.note.ctype) moved).0) checked (viewed_type e.0) x c)))
       where
         first : fresh + length ((view s.frame e.0).fresh here.at) < 2 ^ 32
         first = left_room fresh ((view s.frame e.0).fresh here.at) ((view s.frame f.0).fresh here.at) little
@@ -621,9 +618,6 @@ module _ (globals : Globals) (s : Setting) (agrees : Agrees globals s) (declares
 
         scalars : (is_scalar e.0.note.ctype ≡ true) × (is_scalar f.0.note.ctype ≡ true)
         scalars = index_scalar e.0.note.ctype f.0.note.ctype note.ctype row.row
-
-        bare : is_pointer note.ctype ≡ false
-        bare = addressed
     address_step (Node-F.Name (name.Static j)) note place row typed covered node addressed fresh little are judged fault r pointer array element k =
         object_claims s store entry next ready here h note.ctype r pointer array element (node_view s.frame (Node-F.Un op.Address (expr_view (record { node = node_view s.frame (Node-F.Name (name.Static j)); pos = place; note = note }))))
         (address_node s here note place r (node_view s.frame (Node-F.Name (name.Static j))) (λ widened. refl) (λ own first fresh at. refl) (λ first facts. refl)) j addressed

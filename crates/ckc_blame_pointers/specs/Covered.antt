@@ -226,8 +226,8 @@ NamesInteger s tag (mbounds.Named k c) =
     × (named_type s.frame.structs tag (mbounds.Named k c) ≡ Some m.ctype)
 NamesInteger s tag b = Unit {0}
 
--- a pointer that is a member of a structure of a type, as it is judged and as it is read; a `_Ptr` has no bounds, and the
--- pointers that memory holds are in bounds
+-- A pointer that is a member of a structure of a type, as it is judged and as it is read. The frame has the structures
+-- of the text, bounds are written at no `_Ptr` and name an integer member, and pointers in memory are in bounds.
 pub record IsPointerMember (s : Setting) (store : Store) (u t : CType) (n : Name) : Type 0 where
   pub tag : ℕ
   pub struct : out-CType u ≡ CType-F.Struct tag
@@ -269,7 +269,8 @@ KeepRunsFree p =
     (k : ℕ) → (limits_declared p (name.Static k) ≡ None)
     ⊎ ((o : Object) × (slice_get (objects_elaborated p) k ≡ Some o) × (o.is_run ≡ false))
 
--- what else `*` and `[` read: a pointer, through an `_Array_ptr` or a `_Ptr`; the pointers that memory holds are in bounds
+-- What else `*` and `[` read: a pointer, through an `_Array_ptr` or a `_Ptr`. An object with written bounds is no run,
+-- and the pointers that memory holds are in bounds.
 pub record IsPointerTarget (s : Setting) (store : Store) (e : NotedExpr) : Type 0 where
   pub pointer : is_pointer (element_of e.note.ctype) ≡ true
   pub through : IsThrough s e.note.ctype
@@ -299,7 +300,7 @@ pub record IsFreeObject (s : Setting) (t : CType) (k : ℕ) : Type 0 where
   pub some : 0 < object.count
   pub element : object.element ≡ t
 
--- a member of a structure of a type, an integer or a pointer, that takes part in no bounds; of others there is no address
+-- a member of a structure of a type, an integer or a pointer, that takes part in no bounds; others have no address
 pub record IsFreeMember (s : Setting) (u t : CType) (n : Name) : Type 0 where
   pub tag : ℕ
   pub struct : out-CType u ≡ CType-F.Struct tag
@@ -311,11 +312,11 @@ pub record IsFreeMember (s : Setting) (u t : CType) (n : Name) : Type 0 where
   pub scalar : is_scalar t ≡ true
   pub free : is_run (members_of s.text.layout tag) member ≡ true
 
--- what `&` gives the address of: static objects, members, and `*p` and `p[e]` that are no pointers
+-- what `&` gives the address of: static objects, `*p`, `p[e]` and members
 abbrev pub IsAddressed : Setting → CType → NotedLayer → Type 0
 IsAddressed s t (Node-F.Name (name.Static k)) = IsFreeObject s t k
-IsAddressed s t (Node-F.Un op.Deref e) = is_pointer t ≡ false
-IsAddressed s t (Node-F.Index e f) = is_pointer t ≡ false
+IsAddressed s t (Node-F.Un op.Deref e) = Unit {0}
+IsAddressed s t (Node-F.Index e f) = Unit {0}
 IsAddressed s t (Node-F.Arrow e n spot) = IsFreeMember s (element_of e.note.ctype) t n × IsThrough s e.note.ctype
 IsAddressed s t (Node-F.Dot e n spot) = IsFreeMember s e.note.ctype t n
 IsAddressed s t _ = ⊥
