@@ -40,7 +40,7 @@ use Rattle.ckc_blame_texts.specs.Judged.{IsJudged}
 use Rattle.ckc_blame_texts.proofs.SameViews.{same_view}
 use Rattle.ckc_blame_contained.specs.Containment.{IsRanged}
 use Rattle.ckc_blame_contained.specs.Given.{memory_of, IsFrom}
-use Rattle.ckc_blame_contained.specs.Valuations.{NamesIntegers}
+use Rattle.ckc_blame_sound.specs.Values.{NamesIntegers}
 use Rattle.ckc_blame_contained.proofs.Agree.{facts_agree}
 use Rattle.ckc_blame_contained.proofs.Returned.{result_read}
 use Rattle.ckc_blame_declared.proofs.Heads.{results_have_ends}
