@@ -17,7 +17,7 @@ use Rattle.ckc_build_elaborate.specs.Shapes.{shapes_elaborated}
 use Rattle.ckc_blame_sound.specs.Settings.{Setting, IsFunction}
 use Rattle.ckc_blame_sound.specs.Points.{HoldsAt}
 use Rattle.ckc_blame_sound.specs.Judged.{JudgedWork}
-use Rattle.ckc_blame_sound.specs.Calls.{store_in, arguments_of, ArePassed, Waits, AreWaiting}
+use Rattle.ckc_blame_sound.specs.Calls.{store_in, arguments_of, head_of, ArePassed, Waits, AreWaiting}
 use Rattle.ckc_blame_sound.specs.Slots.{AreFilled}
 use Rattle.ckc_blame_sound.specs.Sound.{Sound}
 use Rattle.ckc_blame_slots.specs.Cells.{AreSound}
@@ -27,9 +27,9 @@ use Rattle.ckc_blame_control.proofs.Kept.{waiting_kept}
 
 pub call_waits : (p : Typed) (blocks : List Block) (s called : Setting) (frame : states.Frame) (spot : Spot) (target : Option Kept) (number : ℕ) (es : List Expr) (next : List Work) (callee : Function)
     (entry : List ℕ) (f : Faces s (store_in p blocks frame) frame.entry (Call spot target number es) next) → IsFunction p s frame.function → slice_get (functions_elaborated p) number ≡ Some callee
-    → ((n : ℕ) → ArePassed s called f.here frame.locals entry (map (view s.frame) (arguments_of f.judged.before)) n)
+    → head_of s.frame f.judged.before ≡ Some called.head → ((n : ℕ) → ArePassed s called f.here frame.locals entry (map (view s.frame) (arguments_of f.judged.before)) n)
     → Waits p blocks (record { frame = record frame { work = next }; target = target }) s called callee entry
-call_waits p blocks s called frame spot target number es next callee entry f function calls passed = record {
+call_waits p blocks s called frame spot target number es next callee entry f function calls head passed = record {
   function = function;
   spot = spot;
   number = number;
@@ -40,6 +40,7 @@ call_waits p blocks s called frame spot target number es next callee entry f fun
   calls = calls;
   work = f.work;
   holds = f.holds;
+  head = head;
   passed = passed;
 }
 
@@ -49,17 +50,17 @@ room_left n h = grind (arith, nat_tests)
 pub entered_sound : (p : Typed) (s : State) (h : Sound p s) (called : Setting) (spot : Spot) (target : Option Kept) (number : ℕ) (es : List Expr) (next : List Work) (callee : Function)
     (values : List ℕ) (f : Faces h.setting (store_in p s.blocks s.frame) s.frame.entry (Call spot target number es) next) → has_room (active s) ≡ true
     → slice_get (functions_elaborated p) number ≡ Some callee → IsFunction p called callee
-    → ((n : ℕ) → ArePassed h.setting called f.here s.frame.locals values (map (view h.setting.frame) (arguments_of f.judged.before)) n)
+    → head_of h.setting.frame f.judged.before ≡ Some called.head → ((n : ℕ) → ArePassed h.setting called f.here s.frame.locals values (map (view h.setting.frame) (arguments_of f.judged.before)) n)
     → IsReady called (store_in p s.blocks (entered callee values)) values (Rest callee.body ∷ []) → Sound p (inside s next target callee values)
 unfolding AreWaiting
-entered_sound p s h called spot target number es next callee values f room calls function passed ready = record {
+entered_sound p s h called spot target number es next callee values f room calls function head passed ready = record {
   orderly = record { apart = h.orderly.apart; bytes = h.orderly.bytes; few = few };
   memory = h.memory;
   filled = h.filled;
   input = h.input;
   setting = called;
   stands = record { function = function; exits = ready.exits; work = ready.work; holds = ready.holds };
-  waiting = (h.setting, call_waits p s.blocks h.setting called s.frame spot target number es next callee values f h.stands.function calls passed, h.waiting);
+  waiting = (h.setting, call_waits p s.blocks h.setting called s.frame spot target number es next callee values f h.stands.function calls head passed, h.waiting);
 }
   where
     few : length (inside s next target callee values).callers ≤ 1023

@@ -1,6 +1,8 @@
 -- A dynamic check is a condition, and the point after it is on the true side of that.
-use Rattle.std.proofs.Common.{◌≡◌, ℕ, ◌+◌, List, [], ◌∷◌, map, refl, sym, ap, subst, ◌∙◌, rules}
+use Rattle.std.proofs.Common.{◌≡◌, ℕ, ◌+◌, List, [], ◌∷◌, map, refl, sym, ap, subst, ◌∙◌, arith, rules}
+use Rattle.std.specs.List.{Contains}
 use Rattle.std.specs.Prelude.{Bool, true, false, not, Option, Some, Ok}
+use Rattle.ckc_base.specs.declared.arithmetic.Mode.{Mode}
 use Rattle.ckc_base.specs.declared.places.Pos.{Pos}
 use Rattle.ckc_base.specs.Outcomes.{Outcome, bind, unless}
 use Rattle.ckc_syntax.specs.declared.tree.Name.{Name}
@@ -14,7 +16,7 @@ use Rattle.ckc_typed.specs.declared.typed.Note.{Note}
 use Rattle.ckc_typed.specs.declared.typed.Typed.{Typed}
 use Rattle.ckc_typed.specs.Trees.{NotedDecl, NotedExpr, NotedInit, NotedLayer, NotedStmt}
 use Rattle.ckc_typed_welltyped.specs.Statements as rows
-use Rattle.ckc_typed_welltyped.specs.Statements.{act_rows, WellTypedStmt}
+use Rattle.ckc_typed_welltyped.specs.Statements.{act_rows, mode_in_form, WellTypedStmt}
 use Rattle.ckc_bounds_points.specs.Codes.{not_contained, bad_bundle}
 use Rattle.ckc_bounds_statements.specs.Paths.{Here, path, value_judged, maybe_judged, side_of, is_returned, gone, parts_judged, is_good, bundle_judged, sides_judged, behind_stores, decl_judged, stated, act_judged}
 use Rattle.ckc_source.specs.declared.stmt.Spot.{Spot}
@@ -25,18 +27,20 @@ use Rattle.ckc_build_elaborate.specs.Steps.{Destination, spot, nowhere, destinat
 use Rattle.ckc_build_elaborate.specs.Statements.{all_assigns, act_code, part_of}
 use Rattle.ckc_blame_sound.specs.Settings.{Setting}
 use Rattle.ckc_blame_sound.specs.Points.{GoesTo}
-use Rattle.ckc_blame_sound.specs.Words.{HasWordsAct}
+use Rattle.ckc_blame_sound.specs.Words.{HasWordsAct, exprs_in, exprs_of_act}
+use Rattle.ckc_blame_sound.proofs.Words.{exprs_inside, exprs_are}
 use Rattle.ckc_blame_sound.specs.Bodies.{globals_of_text}
 use Rattle.ckc_blame_sound.specs.Steps.{is_simple, IsStep, IsCondition}
+use Rattle.ckc_blame_sound.proofs.Words.{exprs_inside, exprs_are}
 use Rattle.ckc_blame_numbers.proofs.Statements.{made_of, pair_same, passes}
 use Rattle.ckc_blame_control.proofs.Typed.{by_parts, words_in}
 use Rattle.ckc_blame_numbers.proofs.Stepping.{ActLayer, viewed, judged_is, parted, code_is, out_call, out_return, out_check, out_bundle, first_step}
 
 -- An expression is a condition at a point, and control goes from its true side to another point.
-pub record Tests (s : Setting) (here : Here) (e : Expr) (there : Here) : Type 0 where
+pub record Tests (s : Setting) (mode : Mode) (here : Here) (e : Expr) (there : Here) : Type 0 where
   pub one : Here
   pub other : Here
-  pub is : IsCondition s here e one other
+  pub is : IsCondition s mode here e one other
   pub goes : GoesTo s.frame one there
 
 -- ---- no other step is a check
@@ -113,7 +117,7 @@ module _ (s : Setting) (here there : Here) (sp : Spot) (e : Expr) (step : IsStep
       (sym code ∙ ap (λ (y : ActLayer). act_code (parted y) step.after.pos step.after.note.mode s.text s.variables s.result step.literals) (sym is) ∙ sym (code_is s step.literals step.after) ∙ step.becomes)
 
   no_other : (x : ActLayer) → out-Act Name Note step.after.body ≡ x → (f : Code → Code)
-      → act_code (parted x) step.after.pos step.after.note.mode s.text s.variables s.result step.literals ≡ f ∷ [] → is_check (f End) ≡ false → Tests s here e there
+      → act_code (parted x) step.after.pos step.after.note.mode s.text s.variables s.result step.literals ≡ f ∷ [] → is_check (f End) ≡ false → Tests s sp.mode here e there
   no_other x is f code other = absurd (none (sym other ∙ ap is_check (becomes_as x is f code))) where
     none : false ≡ true → ⊥
     none e = cc
@@ -121,7 +125,7 @@ module _ (s : Setting) (here there : Here) (sp : Spot) (e : Expr) (step : IsStep
   abbrev at : Spot
   at = spot step.after.pos step.after.note.mode
 
-  as_check : (x : NotedExpr) → out-Act Name Note step.before.body ≡ Act-F.Check x → Tests s here e there
+  as_check : (x : NotedExpr) → out-Act Name Note step.before.body ≡ Act-F.Check x → Tests s sp.mode here e there
   as_check x is =
       let m = made_of (value_judged s.frame x here) (λ p. Ok (stated step.before.pos step.before.note (act.Check p.0), record p.1 { at = side_of s.frame true p.0 p.1.at })) (step.after, step.behind)
       (judged_as (Act-F.Check x) is) in
@@ -138,9 +142,13 @@ module _ (s : Setting) (here there : Here) (sp : Spot) (e : Expr) (step : IsStep
           literals = step.literals;
           behind = m.0.1;
           inside = record {
-            mode = step.inside.mode;
-            typed = check_inside x is;
+            typed = subst (λ m. rows.IsCondition (globals_of_text s.text) s.variables m x) (mode_of x is (ap (λ (st : NotedStmt). st.note) last.0) code) (check_inside x is);
             words = λ w. subst HasWordsAct is (words_in step.before (step.inside.words w));
+            safe = λ w. step.inside.safe w x (first_there x is);
+          };
+          scope = record {
+            names = step.scope.names x (subst (λ es. Contains es x) (sym (exprs_are step.before ∙ ap (λ y. exprs_of_act (exprs_inside y)) is)) (0, omega arith, refl));
+            known = step.scope.known;
           };
           fresh = step.fresh;
           counting = step.counting;
@@ -153,17 +161,30 @@ module _ (s : Setting) (here there : Here) (sp : Spot) (e : Expr) (step : IsStep
         goes = subst (λ h. GoesTo s.frame h there) (sym last.1) step.goes;
       }
     where
+      spot_same : {a b : Spot} {v w : Expr} → Check a v End ≡ Check b w End → a ≡ b
+      spot_same h = cc
+
+      mode_of : (x : NotedExpr) → out-Act Name Note step.before.body ≡ Act-F.Check x → step.before.note ≡ step.after.note → {v : Expr} → Check at v End ≡ Check sp e End
+          → step.inside.mode ≡ sp.mode
+      mode_of x is same code =
+          ap (mode_in_form step.inside.mode) (sym is) ∙ sym (ap (λ (n : Note). n.mode) (by_parts s step.before step.inside).noted)
+          ∙ ap (λ (n : Note). n.mode) same ∙ ap (λ (a : Spot). a.mode) (spot_same code)
+
+      first_there : (x : NotedExpr) → out-Act Name Note step.before.body ≡ Act-F.Check x → Contains (exprs_in step.before) x
+      first_there x is =
+          subst (λ es. Contains es x) (sym (exprs_are step.before ∙ ap (λ (y : ActLayer). exprs_of_act (exprs_inside y)) is)) (0, omega arith, refl)
+
       same_check : {a b : Spot} {x y : Expr} → Check a x End ≡ Check b y End → y ≡ x
       same_check h = cc
 
-  as_local : (d : NotedDecl) → out-Act Name Note step.before.body ≡ Act-F.Local d → Tests s here e there
+  as_local : (d : NotedDecl) → out-Act Name Note step.before.body ≡ Act-F.Local d → Tests s sp.mode here e there
   as_local d is =
       let m = made_of (decl_judged s.frame d here) (λ p. Ok (stated step.before.pos step.before.note (act.Local p.0), p.1)) (step.after, step.behind) (judged_as (Act-F.Local d) is) in
       let last = pair_same (stated step.before.pos step.before.note (act.Local m.0.0)) step.after m.0.1 step.behind m.2 in
       no_other (Act-F.Local m.0.0) (layer_of (act.Local m.0.0) (Act-F.Local m.0.0) last.0 (out_local m.0.0)) (declared s.text s.variables at step.literals m.0.0) refl
       (declared_other s.text s.variables at step.literals m.0.0)
 
-  as_assign : (p q : NotedExpr) → out-Act Name Note step.before.body ≡ Act-F.Assign p q → Tests s here e there
+  as_assign : (p q : NotedExpr) → out-Act Name Note step.before.body ≡ Act-F.Assign p q → Tests s sp.mode here e there
   as_assign p q is =
       let m = made_of (sides_judged s.frame step.before.pos step.before.note p q here) (λ p. bind (behind_stores s.frame s.head (p.0 ∷ []) here.next p.1) (λ h. Ok (p.0, h)))
       (step.after, step.behind) (judged_as (Act-F.Assign p q) is) in
@@ -177,7 +198,7 @@ module _ (s : Setting) (here there : Here) (sp : Spot) (e : Expr) (step : IsStep
       (assigned s.text s.variables at (destination_of s.text s.variables step.literals x.0.0) (step.literals + literals_of x.0.0) y.0.0) refl
       (assigned_other s.text s.variables at (destination_of s.text s.variables step.literals x.0.0) (step.literals + literals_of x.0.0) y.0.0)
 
-  as_call : (x : NotedExpr) → out-Act Name Note step.before.body ≡ Act-F.Call x → Tests s here e there
+  as_call : (x : NotedExpr) → out-Act Name Note step.before.body ≡ Act-F.Call x → Tests s sp.mode here e there
   as_call x is =
       let m = made_of (value_judged s.frame x here) (λ p. Ok (stated step.before.pos step.before.note (act.Call p.0), p.1)) (step.after, step.behind) (judged_as (Act-F.Call x) is) in
       let last = pair_same (stated step.before.pos step.before.note (act.Call m.0.0)) step.after m.0.1 step.behind m.2 in
@@ -185,7 +206,7 @@ module _ (s : Setting) (here there : Here) (sp : Spot) (e : Expr) (step : IsStep
       (assigned s.text s.variables (spot m.0.0.pos step.after.note.mode) nowhere step.literals m.0.0) refl
       (assigned_other s.text s.variables (spot m.0.0.pos step.after.note.mode) nowhere step.literals m.0.0)
 
-  as_return : (x : Option NotedExpr) → out-Act Name Note step.before.body ≡ Act-F.Return x → Tests s here e there
+  as_return : (x : Option NotedExpr) → out-Act Name Note step.before.body ≡ Act-F.Return x → Tests s sp.mode here e there
   as_return x is =
       let m = made_of (maybe_judged s.frame x here) (λ p. unless (not (is_returned s.frame s.head p.0 here.next p.1)) not_contained step.before.pos (Ok (stated step.before.pos step.before.note (act.Return p.0), gone s.frame p.1)))
       (step.after, step.behind) (judged_as (Act-F.Return x) is) in
@@ -194,7 +215,7 @@ module _ (s : Setting) (here there : Here) (sp : Spot) (e : Expr) (step : IsStep
       no_other (Act-F.Return m.0.0) (layer_of (act.Return m.0.0) (Act-F.Return m.0.0) last.0 (out_return m.0.0))
       (code.Return at (returned s.text s.variables s.result step.literals m.0.0)) refl refl
 
-  as_bundle : (ss : List NotedStmt) → out-Act Name Note step.before.body ≡ Act-F.Bundle ss → Tests s here e there
+  as_bundle : (ss : List NotedStmt) → out-Act Name Note step.before.body ≡ Act-F.Bundle ss → Tests s sp.mode here e there
   unfolding bundle_judged
   as_bundle ss is =
       let paths = map path ss in
@@ -207,10 +228,10 @@ module _ (s : Setting) (here there : Here) (sp : Spot) (e : Expr) (step : IsStep
       no_other (Act-F.Bundle m.0.0) (layer_of (act.Bundle m.0.0) (Act-F.Bundle m.0.0) last.0 (out_bundle m.0.0))
       (code.Bundle at (all_assigns (map part_of m.0.0) s.text s.variables step.literals)) refl refl
 
-  pub check_tests : Tests s here e there
+  pub check_tests : Tests s sp.mode here e there
   check_tests = by (out-Act Name Note step.before.body) refl step.simple
     where
-      by : (d : ActLayer) → out-Act Name Note step.before.body ≡ d → is_simple d ≡ true → Tests s here e there
+      by : (d : ActLayer) → out-Act Name Note step.before.body ≡ d → is_simple d ≡ true → Tests s sp.mode here e there
       by (Act-F.Local d) is simple = as_local d is
       by (Act-F.Assign p q) is simple = as_assign p q is
       by (Act-F.Call x) is simple = as_call x is

@@ -1,6 +1,7 @@
 -- Conditions keep a state sound: `if`, loops and dynamic checks.
 use Rattle.std.proofs.Common.{◌≡◌, ℕ, List, [], ◌∷◌}
 use Rattle.std.specs.Prelude.{◌==◌, Bool, true, false, if◌then◌else◌, Result, Ok, Err}
+use Rattle.ckc_base.specs.declared.arithmetic.Mode.{Mode}
 use Rattle.ckc_base.specs.Steps.{Move, Goes, Halts}
 use Rattle.ckc_base.specs.Traces.{Event, Stopped}
 use Rattle.ckc_base.specs.declared.runtime_checks.Check.TheVariants as check
@@ -57,7 +58,7 @@ module _ (s : Setting) (store : Store) (entry : List ℕ) where
   -- ---- loops
 
   -- the body comes next and then a turn of the loop, or what comes after the loop
-  loop_ready : (spot : Spot) (e : Expr) (body step rest : Code) (next : List Work) (exits : Exits) (l : Turns) → IsLoop s e l (Judged s body) (Judged s step)
+  loop_ready : (spot : Spot) (e : Expr) (body step rest : Code) (next : List Work) (exits : Exits) (l : Turns) → IsLoop s spot.mode e l (Judged s body) (Judged s step)
       → Judged s rest exits l.behind → JudgedWork s next exits → (zero : Bool) → Holds (if zero then l.no else l.yes)
       → IsReady s store entry (if zero then Rest rest ∷ next else Rest body ∷ Turn (Loop spot e body step rest) ∷ next)
   unfolding JudgedWork
@@ -76,13 +77,13 @@ module _ (p : Typed) (s : State) (h : Sound p s) where
   abbrev ReadyAt : List Work → Type 0
   ReadyAt next = IsReady h.setting store s.frame.entry next
 
-  abbrev IsDecidedHere : Expr → Type 0
-  IsDecidedHere e = IsDecided h.setting store s.frame.entry e
+  abbrev IsDecidedHere : Mode → Expr → Type 0
+  IsDecidedHere mode e = IsDecided h.setting mode store s.frame.entry e
 
   front : (next : List Work) (code : Code) → settled s.frame.work ≡ Rest code ∷ next → Begins h.setting store s.frame.entry code next
   front next code is = (ready_begins h.setting store s.frame.entry s.frame.work next code (stands_ready p s h) is).1
 
-  pub if_sound : (spot : Spot) (e : Expr) (one two rest : Code) (next : List Work) → settled s.frame.work ≡ Rest (If spot e one two rest) ∷ next → IsDecidedHere e
+  pub if_sound : (spot : Spot) (e : Expr) (one two rest : Code) (next : List Work) → settled s.frame.work ≡ Rest (If spot e one two rest) ∷ next → IsDecidedHere spot.mode e
       → IsSoundMove p (source_step (elaborated p) s)
   unfolding Judged
   if_sound spot e one two rest next is d =
@@ -95,7 +96,7 @@ module _ (p : Typed) (s : State) (h : Sound p s) where
       sound_at p s h (Rest (if v.number == 0 then two else one) ∷ Rest rest ∷ next)
       (if_ready h.setting store s.frame.entry one two rest next b.exits b.work b.judged.0 b.judged.2 b.judged.3 b.judged.4 b.judged.5 (v.number == 0) g)))
 
-  pub loop_sound : (spot : Spot) (e : Expr) (body step rest : Code) (next : List Work) → settled s.frame.work ≡ Rest (Loop spot e body step rest) ∷ next → IsDecidedHere e
+  pub loop_sound : (spot : Spot) (e : Expr) (body step rest : Code) (next : List Work) → settled s.frame.work ≡ Rest (Loop spot e body step rest) ∷ next → IsDecidedHere spot.mode e
       → IsSoundMove p (source_step (elaborated p) s)
   unfolding Judged
   loop_sound spot e body step rest next is d =
@@ -109,11 +110,11 @@ module _ (p : Typed) (s : State) (h : Sound p s) where
       sound_at p s h (if v.number == 0 then Rest rest ∷ next else Rest body ∷ Turn loop ∷ next)
       (loop_ready h.setting store s.frame.entry spot e body step rest next b.exits b.judged.0 b.judged.2 b.judged.3 b.work (v.number == 0) g)))
 
-  pub check_sound : (spot : Spot) (e : Expr) (rest : Code) (next : List Work) → settled s.frame.work ≡ Rest (Check spot e rest) ∷ next → IsDecidedHere e
+  pub check_sound : (spot : Spot) (e : Expr) (rest : Code) (next : List Work) → settled s.frame.work ≡ Rest (Check spot e rest) ∷ next → IsDecidedHere spot.mode e
       → IsSoundMove p (source_step (elaborated p) s)
   check_sound spot e rest next is d =
       let f : Faces h.setting store s.frame.entry (Check spot e) (Rest rest ∷ next) = faces_check h.setting store s.frame.entry s.frame.work next (stands_ready p s h) spot e rest is in
-      let t : Tests h.setting f.here e f.exits.ends = check_tests h.setting f.here f.exits.ends spot e f.judged in
+      let t : Tests h.setting spot.mode f.here e f.exits.ends = check_tests h.setting f.here f.exits.ends spot e f.judged in
       let go : HoldsAt h.setting store s.frame.entry t.one → Sound p (at_work s (Rest rest ∷ next)) =
       λ g. sound_at p s h (Rest rest ∷ next) (record { exits = f.exits; work = f.work; holds = point_kept h.setting store s.frame.entry t.one f.exits.ends t.goes g }) in
       move_by p s (Rest (Check spot e rest) ∷ next) is
@@ -122,7 +123,7 @@ module _ (p : Typed) (s : State) (h : Sound p s) where
       (d f.here t.one t.other t.is f.holds)
       (λ v g. by (v.number == 0) t go g))
     where
-      by : (zero : Bool) {here there : Here} (t : Tests h.setting here e there) → (HoldsAt h.setting store s.frame.entry t.one → Sound p (at_work s (Rest rest ∷ next)))
+      by : (zero : Bool) {mode : Mode} {here there : Here} (t : Tests h.setting mode here e there) → (HoldsAt h.setting store s.frame.entry t.one → Sound p (at_work s (Rest rest ∷ next)))
           → HoldsAt h.setting store s.frame.entry (if zero then t.other else t.one)
           → IsSoundMove p (if zero then Halts [] (Stopped check.Dynamic spot.at) else Goes [] (at_work s (Rest rest ∷ next)))
       by true t go g = stopped check.Dynamic spot.at

@@ -93,6 +93,7 @@ module _ (p : Typed) (before after : List Block) (keep : KeepRanges (shapes_elab
     calls = w.calls;
     work = w.work;
     holds = holds_kept (shapes_elaborated p.layout) before after keep s caller.frame.locals caller.frame.entry w.at w.holds;
+    head = w.head;
     passed = w.passed;
   }
 

@@ -1,6 +1,7 @@
 -- A condition leads to the side that its expression comes to.
 use Rattle.std.proofs.Common.{◌≡◌, ℕ, List, refl, sym, ap, subst, ◌∙◌}
 use Rattle.std.specs.Prelude.{◌==◌, Bool, true, false, not, if◌then◌else◌, Option, None, Some, Result, Ok, Err}
+use Rattle.ckc_base.specs.declared.arithmetic.Mode.{Mode}
 use Rattle.ckc_typed.specs.Trees.{NotedExpr}
 use Rattle.std.specs.List.{Contains}
 use Rattle.ckc_bounds_points.specs.Flow.{State}
@@ -44,7 +45,7 @@ module _ (s : Setting) (store : Store) (entry : List ℕ) where
       by true h = h false refl
       by false h = h true refl
 
-  module _ (here one other : Here) (e : Expr) (c : IsCondition s here e one other) where
+  module _ (mode : Mode) (here one other : Here) (e : Expr) (c : IsCondition s mode here e one other) where
     -- the point on a side
     abbrev there : Bool → Here
     there side = record c.behind { at = maybe_side s.frame side c.after c.behind.at }
@@ -63,8 +64,9 @@ module _ (s : Setting) (store : Store) (entry : List ℕ) where
         pub after : c.after ≡ Some expr
         pub behind : c.behind ≡ next
         pub same : view s.frame expr ≡ view s.frame f
+        pub judged : (view s.frame f).judged here.next here.at ≡ Ok expr
 
-      judges : Judges
+      pub judges : Judges
       unfolding value_judged
       judges =
           let judged : maybe_judged s.frame (Some f) here ≡ Ok (c.after, c.behind) = subst (λ (o : Option NotedExpr). maybe_judged s.frame o here ≡ Ok (c.after, c.behind)) is c.judged in
@@ -79,6 +81,7 @@ module _ (s : Setting) (store : Store) (entry : List ℕ) where
             after = sym (ap (λ (x : NotedExpr). Some x) made.0 ∙ last.0);
             behind = sym (made.1 ∙ last.1);
             same = same_view s.frame f n.0 here.next here.at view_is s.frame;
+            judged = view_is;
           }
 
       side_holds : (side : Bool) → Holds (record here { at = (view s.frame f).side side here.at }) → Holds (there side)

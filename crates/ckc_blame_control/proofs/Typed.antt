@@ -3,6 +3,7 @@ use Rattle.std.proofs.Common.{◌≡◌, refl, sym, ap, subst, ◌∙◌, ℕ, z
 use Rattle.std.specs.Prelude.{◌<◌, ◌≤◌, ◌-◌, ◌^◌, false, slice_get, replicate, Option, None, Some}
 use Rattle.std.specs.List.{All, AllByRecursion, Contains}
 use Rattle.std.proofs.lemmas.List.Elements.{Contains-append_left, Contains-append_right}
+use Rattle.ckc_base.specs.declared.arithmetic.Mode.{Mode}
 use Rattle.ckc_syntax.specs.Inside.{listed, inside_each, inside_init}
 use Rattle.ckc_syntax.specs.declared.tree.Init.TheVariants as init
 use Rattle.ckc_types.specs.declared.types.CType.{out-CType}
@@ -104,10 +105,10 @@ statement_typed p s f j w i st h =
     subst (λ g. IsTypedStmt g s st) (text_is p s f i)
     (statements_are_typed (globals_of_text s.text) s s.result st h.mode h.looped (variables_have_types p s f j i) (by_parts s st h) (words_in st (h.words (own_words p s f i w))) (known_in s st h))
 
-pub condition_typed : (p : Typed) (s : Setting) (f : Function) → HaveWords p → IsFunction p s f → (e : Option NotedExpr) → IsTestInBody s e → IsTypedIf (globals_in p) s e
-condition_typed p s f w i None h = tt
-condition_typed p s f w i (Some e) h =
-    subst (λ g. IsTypedIf g s (Some e)) (text_is p s f i) (conditions_are_typed (globals_of_text s.text) s h.mode (Some e) h.typed.0 (h.words (own_words p s f i w)))
+pub condition_typed : (p : Typed) (s : Setting) (f : Function) (mode : Mode) → HaveWords p → IsFunction p s f → (e : Option NotedExpr) → IsTestInBody s mode e → IsTypedIf (globals_in p) s e
+condition_typed p s f mode w i None h = tt
+condition_typed p s f mode w i (Some e) h =
+    subst (λ g. IsTypedIf g s (Some e)) (text_is p s f i) (conditions_are_typed (globals_of_text s.text) s mode (Some e) h.typed.0 (h.words (own_words p s f i w)))
 
 -- ---- fresh variables
 

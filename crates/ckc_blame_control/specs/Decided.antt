@@ -2,6 +2,7 @@
 use Rattle.std.specs.Prelude.{◌≡◌, ℕ, Bool, not, ◌==◌, if◌then◌else◌, List, Result, Ok, Err}
 use Rattle.ckc_typed.specs.Trees.{NotedExpr}
 use Rattle.ckc_bounds_views.specs.Views.{view}
+use Rattle.ckc_base.specs.declared.arithmetic.Mode.{Mode}
 use Rattle.ckc_bounds_statements.specs.Paths.{Here}
 use Rattle.ckc_source.specs.declared.outcome.Halt.{Halt}
 use Rattle.ckc_source.specs.declared.outcome.Halt.TheVariants as halt
@@ -18,10 +19,10 @@ LeadsTo s store entry one other (Ok v) = HoldsAt s store entry (if v.number == 0
 LeadsTo s store entry one other (Err (halt.Stopped why at)) = Unit {0}
 LeadsTo s store entry one other (Err halt.Stuck) = ⊥
 
--- An expression does so wherever it is a condition at a point that holds.
-abbrev pub IsDecided : Setting → Store → List ℕ → Expr → Type 0
-IsDecided s store entry e =
-    (here one other : Here) → IsCondition s here e one other → HoldsAt s store entry here
+-- An expression does so wherever it is a condition of a statement of this mode, at a point that holds.
+abbrev pub IsDecided : Setting → Mode → Store → List ℕ → Expr → Type 0
+IsDecided s mode store entry e =
+    (here one other : Here) → IsCondition s mode here e one other → HoldsAt s store entry here
     → LeadsTo s store entry one other (evaluated store e)
 
 -- The point on the side of an expression that it comes to holds, or the expression stops at a named check. It is not

@@ -33,7 +33,7 @@ assigns_or_calls code = false
 pub record KeepSound (p : Typed) : Type 0 where
   pub conditions : (s : State) (h : Sound p s) (code : Code) (next : List Work) (e : Expr)
       → settled s.frame.work ≡ Rest code ∷ next → (spot_of s).mode ≡ Checked → condition_of code ≡ Some e
-      → IsDecided h.setting (store_in p s.blocks s.frame) s.frame.entry e
+      → IsDecided h.setting Checked (store_in p s.blocks s.frame) s.frame.entry e
   pub steps : (s : State) (h : Sound p s) (code : Code) (next : List Work) → settled s.frame.work ≡ Rest code ∷ next
       → (spot_of s).mode ≡ Checked → assigns_or_calls code ≡ true → IsSoundMove p (source_step (elaborated p) s)
   pub falls : (s : State) (h : Sound p s) (caller : Caller) (callers : List Caller) → settled s.frame.work ≡ []

@@ -5,6 +5,7 @@ ghost use Rattle.ckc_base.specs.Activations.{has_room};
 ghost use Rattle.ckc_base.specs.Lists.{AreBytes};
 ghost use Rattle.ckc_base.specs.Steps.{Halts};
 ghost use Rattle.ckc_base.specs.Traces.{Ended};
+ghost use Rattle.ckc_base.specs.declared.arithmetic.Mode.{Mode};
 ghost use Rattle.ckc_typed.specs.declared.typed.Typed.{Typed};
 ghost use Rattle.ckc_typed.specs.Trees.{NotedExpr};
 ghost use Rattle.ckc_bounds_views.specs.Views.{view};
@@ -27,7 +28,7 @@ ghost use Rattle.ckc_blame_sound.specs.Points.{HoldsAt};
 ghost use Rattle.ckc_blame_sound.specs.Words.{HaveWords};
 ghost use Rattle.ckc_blame_sound.specs.Bodies.{AreFresh};
 ghost use Rattle.ckc_blame_sound.specs.Steps.{IsStep, IsCondition};
-ghost use Rattle.ckc_blame_sound.specs.Calls.{store_in, arguments_of, ArePassed, Stands, Waits, AreWaiting};
+ghost use Rattle.ckc_blame_sound.specs.Calls.{store_in, arguments_of, head_of, ArePassed, Stands, Waits, AreWaiting};
 ghost use Rattle.ckc_blame_sound.specs.Slots.{AreFilled};
 ghost use Rattle.ckc_blame_sound.specs.Sound.{Sound};
 ghost use Rattle.ckc_blame_runs.specs.Moves.{IsSoundMove, StaysSound};
@@ -99,27 +100,27 @@ pub fn conditions_stay_sound()
     ensures branch { (p : Typed) (s : State) (h : Sound p s) (spot : Spot) (e : Expr)
         (one two rest : Code) (next : List Work) →
         settled s.frame.work ≡ Rest (If spot e one two rest) ∷ next
-        → IsDecided h.setting (store_in p s.blocks s.frame) s.frame.entry e
+        → IsDecided h.setting spot.mode (store_in p s.blocks s.frame) s.frame.entry e
         → IsSoundMove p (source_step (elaborated p) s) }
     ensures check { (p : Typed) (s : State) (h : Sound p s) (spot : Spot) (e : Expr)
         (rest : Code) (next : List Work) → settled s.frame.work ≡ Rest (Check spot e rest) ∷ next
-        → IsDecided h.setting (store_in p s.blocks s.frame) s.frame.entry e
+        → IsDecided h.setting spot.mode (store_in p s.blocks s.frame) s.frame.entry e
         → IsSoundMove p (source_step (elaborated p) s) }
     ensures turn { (p : Typed) (s : State) (h : Sound p s) (spot : Spot) (e : Expr)
         (body step rest : Code) (next : List Work) →
         settled s.frame.work ≡ Rest (Loop spot e body step rest) ∷ next
-        → IsDecided h.setting (store_in p s.blocks s.frame) s.frame.entry e
+        → IsDecided h.setting spot.mode (store_in p s.blocks s.frame) s.frame.entry e
         → IsSoundMove p (source_step (elaborated p) s) }
 {}
 
 /// A condition leads to a side that holds if that of its expression does, and if it is left out.
 pub fn conditions_have_sides()
     ensures some { (s : Setting) (store : Store) (entry : List ℕ) (here one other : Here)
-        (e : Expr) (c : IsCondition s here e one other) (f : NotedExpr) → c.before ≡ Some f
+        (e : Expr) (mode : Mode) (c : IsCondition s mode here e one other) (f : NotedExpr) → c.before ≡ Some f
         → HasSides s store entry here f (evaluated store e)
         → LeadsTo s store entry one other (evaluated store e) }
     ensures none { (s : Setting) (store : Store) (entry : List ℕ) (here one other : Here)
-        (e : Expr) (c : IsCondition s here e one other) → c.before ≡ None
+        (e : Expr) (mode : Mode) (c : IsCondition s mode here e one other) → c.before ≡ None
         → HoldsAt s store entry here → LeadsTo s store entry one other (evaluated store e) }
 {}
 
@@ -177,7 +178,8 @@ pub fn states_stay_sound()
 {}
 
 /// The state in a function that was called is sound if what the function begins with is judged from a
-/// point that holds, and the arguments stand for what its parameters have.
+/// point that holds, the call is judged by the head of the function, and the arguments stand for what
+/// its parameters have.
 pub fn calls_enter_soundly()
     ensures { (p : Typed) (s : State) (h : Sound p s) (called : Setting) (spot : Spot)
         (target : Option Kept) (number : ℕ) (es : List Expr) (next : List Work)
@@ -185,6 +187,7 @@ pub fn calls_enter_soundly()
         (f : Faces h.setting (store_in p s.blocks s.frame) s.frame.entry
         (Call spot target number es) next) → has_room (active s) ≡ true
         → slice_get (functions_elaborated p) number ≡ Some callee → IsFunction p called callee
+        → head_of h.setting.frame f.judged.before ≡ Some called.head
         → ((n : ℕ) → ArePassed h.setting called f.here s.frame.locals values
         (map (view h.setting.frame) (arguments_of f.judged.before)) n)
         → IsReady called (store_in p s.blocks (entered callee values)) values
@@ -223,14 +226,14 @@ pub fn steps_are_typed()
     ensures step { (p : Typed) (s : Setting) (f : Function) (here there : Here)
         (step : Code → Code) → IsJudged p → HaveWords p → IsFunction p s f
         → (is : IsStep s here step there) → IsTypedStmt (globals_in p) s is.before }
-    ensures condition { (p : Typed) (s : Setting) (f : Function) (here yes no : Here) (e : Expr) →
-        HaveWords p → IsFunction p s f → (c : IsCondition s here e yes no)
+    ensures condition { (p : Typed) (s : Setting) (f : Function) (mode : Mode) (here yes no : Here) (e : Expr) →
+        HaveWords p → IsFunction p s f → (c : IsCondition s mode here e yes no)
         → IsTypedIf (globals_in p) s c.before }
     ensures fresh { (p : Typed) (s : Setting) (f : Function) (here there : Here)
         (step : Code → Code) → IsFunction p s f → IsStep s here step there
         → length s.variables < 2 ^ 32 → AreFresh s.frame here.next × (here.next < 2 ^ 32) }
-    ensures tested { (p : Typed) (s : Setting) (f : Function) (here yes no : Here) (e : Expr) →
-        IsFunction p s f → IsCondition s here e yes no → length s.variables < 2 ^ 32
+    ensures tested { (p : Typed) (s : Setting) (f : Function) (mode : Mode) (here yes no : Here) (e : Expr) →
+        IsFunction p s f → IsCondition s mode here e yes no → length s.variables < 2 ^ 32
         → AreFresh s.frame here.next × (here.next < 2 ^ 32) }
 {}
 
@@ -241,8 +244,8 @@ pub fn steps_are_known()
         (step : Code → Code) → IsJudged p → HaveWords p → IsFunction p s f
         → length s.variables < 2 ^ 32 → (is : IsStep s here step there)
         → IsTypedStmt (globals_in p) s is.before × IsKnownPoint (globals_in p) s here }
-    ensures condition { (p : Typed) (s : Setting) (f : Function) (here yes no : Here) (e : Expr) →
+    ensures condition { (p : Typed) (s : Setting) (f : Function) (mode : Mode) (here yes no : Here) (e : Expr) →
         IsJudged p → HaveWords p → IsFunction p s f → length s.variables < 2 ^ 32
-        → (c : IsCondition s here e yes no)
+        → (c : IsCondition s mode here e yes no)
         → IsTypedIf (globals_in p) s c.before × IsKnownPoint (globals_in p) s here }
 {}

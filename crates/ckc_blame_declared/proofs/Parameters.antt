@@ -58,7 +58,7 @@ made_there frame b ls (x ∷ ds) (suc i) k d is e =
     made_there frame b (ls ++ m ∷ []) ds i k d (omega (arith, is, longer)) e
 
 -- the local that is made of a declaration
-all_at : (frame : Frame) (b : Bool) (ds : List NotedDecl) (k : ℕ) (d : NotedDecl) → slice_get ds k ≡ Some d → slice_get (with_all frame b [] ds) k ≡ Some (local_made frame b k d)
+pub all_at : (frame : Frame) (b : Bool) (ds : List NotedDecl) (k : ℕ) (d : NotedDecl) → slice_get ds k ≡ Some d → slice_get (with_all frame b [] ds) k ≡ Some (local_made frame b k d)
 all_at frame b ds k d e = made_there frame b [] ds k k d (sym (from_zero k)) e
 
 declaration_at : (frame : Frame) (b : Bool) (ds : List NotedDecl) (k : ℕ) (l : Local) → slice_get (with_all frame b [] ds) k ≡ Some l
@@ -88,7 +88,7 @@ knows_more frame other ds es structs statics = record {
 
 -- ---- what was judged
 
-abbrev IsJudgedWell : {A : Type 0} → Outcome A → Type 0
+abbrev pub IsJudgedWell : {A : Type 0} → Outcome A → Type 0
 IsJudgedWell {A} o = (a : A) × (o ≡ Ok a)
 
 each_well : {A : Type 0} (os : List (Outcome A)) → Gives (λ u. All IsJudgedWell os) (each os)
@@ -100,7 +100,7 @@ each_well {A} (o ∷ os) =
     by a e (Ok u) h = All-cons IsJudgedWell o os (a, e) h
     by a e (Err r) h = tt
 
-record IsHeadWell (frame : Frame) (h : NotedHead) : Type 0 where
+pub record IsHeadWell (frame : Frame) (h : NotedHead) : Type 0 where
   pub params : All IsJudgedWell (map (bounds_there (types_in frame h.params)) h.params)
   pub result : IsJudgedWell (result_bounds (types_in frame h.params) h)
 
@@ -135,7 +135,7 @@ items_well frame (i ∷ is) =
     bound {A = NotedItem} (IsItemWell frame) (All (IsItemWell frame)) _ _ (item_well frame i) (λ j f.
     bound {A = List NotedItem} (All (IsItemWell frame)) (All (IsItemWell frame)) _ _ (items_well frame is) (λ js g. All-cons (IsItemWell frame) j js f g))
 
-function_well : (p : Typed) (j : IsJudged p) (h : NotedHead) (body : NotedStmt) → Contains p.tree.items (item.Function h body) → IsHeadWell (frame_of_text j.typed) h
+pub function_well : (p : Typed) (j : IsJudged p) (h : NotedHead) (body : NotedStmt) → Contains p.tree.items (item.Function h body) → IsHeadWell (frame_of_text j.typed) h
 function_well p j h body there =
     let frame = frame_of_text j.typed in
     All-contains (IsItemWell frame) p.tree.items (item.Function h body)

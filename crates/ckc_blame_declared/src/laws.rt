@@ -14,6 +14,7 @@ ghost use Rattle.ckc_source.specs.declared.expr.Count.{Count};
 ghost use Rattle.ckc_build_values.specs.Kinds.{size_behind};
 ghost use Rattle.ckc_build_values.specs.Members.{count_by};
 ghost use Rattle.ckc_blame_sound.specs.Settings.{Setting, IsFunction};
+ghost use Rattle.ckc_blame_contained.specs.Elements.{NameIntegerMembers};
 ghost use Rattle.ckc_blame_contained.specs.Ends.{HaveEnds};
 ghost use Rattle.ckc_blame_contained.specs.Memory.{AreOwn};
 ghost use Rattle.ckc_blame_contained.specs.Passed.{AreParameters, IsResult, result_between};
@@ -57,4 +58,9 @@ pub fn counted_members_have_bounds()
     ensures { (structs : Structs) (tag : ℕ) (t : CType) (b : MemberBounds) (count : Count) →
         count_by structs tag t b ≡ Some count
         → (low : Form) × (high : Form) × (bounds_by_member t b ≡ bounds.Known low high) }
+{}
+
+/// The bounds of a member of a judged text count by a constant or by an integer member of the same structure.
+pub fn members_count_integers()
+    ensures { (p : Typed) → IsJudged p → NameIntegerMembers p.layout }
 {}

@@ -10,65 +10,25 @@ use Rattle.ckc_syntax.specs.declared.tree.Name.{Name}
 use Rattle.ckc_syntax.specs.declared.tree.Name.TheVariants as name
 use Rattle.ckc_syntax.specs.declared.tree.TreeOp.{TreeOp}
 use Rattle.ckc_syntax.specs.declared.tree.TreeOp.TheVariants as op
-use Rattle.ckc_syntax.specs.declared.tree.Limits.{Limits-F, map-Limits, out-Limits, roll-Limits, fold_out-Limits, the_lemmas as limits_lemmas}
-use Rattle.ckc_syntax.specs.declared.tree.Node.{Node-F, map-Node, out-Node, roll-Node, fold_out-Node, the_lemmas as node_lemmas}
-use Rattle.ckc_syntax.specs.declared.tree.Expr.{fold-roll-Expr, every_here-Expr}
+use Rattle.ckc_syntax.specs.declared.tree.Limits.{Limits-F, out-Limits, roll-Limits, the_lemmas as limits_lemmas}
+use Rattle.ckc_syntax.specs.declared.tree.Node.{Node-F, out-Node, roll-Node, the_lemmas as node_lemmas}
+use Rattle.ckc_syntax.specs.declared.tree.Expr.{every_here-Expr}
 use Rattle.ckc_typed.specs.declared.environment.Amount.{Amount}
 use Rattle.ckc_typed.specs.declared.environment.Globals.{Globals}
 use Rattle.ckc_typed.specs.declared.environment.Variable.{Variable}
 use Rattle.ckc_typed.specs.declared.typed.Note.{Note}
-use Rattle.ckc_typed.specs.Trees.{Expr, Limits, Node, NotedLimits, NotedNode, NotedExpr, NotedLayer}
+use Rattle.ckc_typed.specs.Trees.{NotedLimits, NotedNode, NotedExpr, NotedLayer}
 use Rattle.ckc_typed.specs.Types.{element_of}
 use Rattle.ckc_typed.specs.Environment.{type_of_name}
 use Rattle.ckc_typed.specs.Constants.{size_of}
 use Rattle.ckc_typed.specs.Amounts.{fixed, is_multiple, variable_in_form, variable_in, number_in, negative, moved, or_amount, sum_amount, amount_in_form, amount_by, amount, scaled, amount_of_bytes}
-use Rattle.ckc_typed.specs.Layouts.{counted_by, counted, bounds_by, bounds_of}
-use Rattle.ckc_typed_welltyped.specs.Noteless.{limits_noteless, node_noteless, limits_bared, node_bared, expr_bared, BareLimits, BareNode, BareExpr, bare_limits, bare_node, bare_expr}
+use Rattle.ckc_typed.specs.Layouts.{bounds_by, bounds_of}
+use Rattle.ckc_typed_welltyped.specs.Noteless.{bare_limits, bare_expr}
 use Rattle.ckc_typed_welltyped.specs.Expressions.{AnyLimits, AnyNode, HasType, IsNoted, WellTypedExpr, WellTypedNode, WellTypedLimits}
+use Rattle.ckc_blame_texts.proofs.Amounts.{limits_made, node_made, limits_out, layer_is, variable_bare, moved_is, counted_is}
 use Rattle.ckc_blame_texts.proofs.Every.{LimitsLayer, LimitsParts, limits_hold, node_hold, inside}
 
--- ---- without notes
-
-abbrev BareLimitsLayer : Type 0
-BareLimitsLayer = Limits-F Name (Unit {0}) Limits Node Expr
-
-abbrev BareNodeLayer : Type 0
-BareNodeLayer = Node-F Name (Unit {0}) Limits Node Expr
-
-abbrev limits_made : LimitsLayer → BareLimitsLayer
-limits_made x = limits_noteless (map-Limits Name Note NotedLimits NotedNode NotedExpr (BareLimits Name) (BareNode Name) (BareExpr Name) bare_limits bare_node bare_expr x)
-
-abbrev node_made : NotedLayer → BareNodeLayer
-node_made x = node_noteless (map-Node Name Note NotedLimits NotedNode NotedExpr (BareLimits Name) (BareNode Name) (BareExpr Name) bare_limits bare_node bare_expr x)
-
-limits_back : (x : BareLimitsLayer) → out-Limits Name (Unit {0}) (roll-Limits Name (Unit {0}) x) ≡ x
-limits_back x = search (rules, limits_lemmas)
-
-node_back : (x : BareNodeLayer) → out-Node Name (Unit {0}) (roll-Node Name (Unit {0}) x) ≡ x
-node_back x = search (rules, node_lemmas)
-
-limits_out : (l : NotedLimits) → out-Limits Name (Unit {0}) (bare_limits l) ≡ limits_made (out-Limits Name Note l)
-limits_out l =
-    ap (out-Limits Name (Unit {0})) (fold_out-Limits Name Note (BareLimits Name) (BareNode Name) (BareExpr Name) limits_bared node_bared expr_bared l)
-    ∙ limits_back (limits_made (out-Limits Name Note l))
-
-node_out : (n : NotedNode) → out-Node Name (Unit {0}) (bare_node n) ≡ node_made (out-Node Name Note n)
-node_out n =
-    ap (out-Node Name (Unit {0})) (fold_out-Node Name Note (BareLimits Name) (BareNode Name) (BareExpr Name) limits_bared node_bared expr_bared n)
-    ∙ node_back (node_made (out-Node Name Note n))
-
-expr_is : (e : NotedExpr) → bare_expr e ≡ record { node = bare_node e.node; pos = e.pos; note = tt }
-expr_is e = fold-roll-Expr Name Note (BareLimits Name) (BareNode Name) (BareExpr Name) limits_bared node_bared expr_bared (record { node = e.node; pos = e.pos; note = e.note })
-
-layer_is : (e : NotedExpr) → out-Node Name (Unit {0}) (bare_expr e).node ≡ node_made (out-Node Name Note e.node)
-layer_is e = ap (λ (x : Expr). out-Node Name (Unit {0}) x.node) (expr_is e) ∙ node_out e.node
-
-variable_form : (x : NotedLayer) → variable_in_form (node_made x) ≡ variable_in_form x
-variable_form (Node-F.Name n) = refl
-variable_form x = refl
-
-variable_bare : (e : NotedExpr) → variable_in (bare_expr e) ≡ variable_in e
-variable_bare e = ap variable_in_form (layer_is e) ∙ variable_form (out-Node Name Note e.node)
+-- ---- layers
 
 node_whole : (m : NotedNode) → roll-Node Name Note (out-Node Name Note m) ≡ m
 node_whole m = search (rules, node_lemmas)
@@ -95,11 +55,6 @@ module _ (globals : Globals) (variables : List Variable) (mode : Mode) where
   name_typed e n w is =
       let noted = every_here-Expr Name Note AnyLimits AnyNode (IsNoted globals variables mode) e w in
       form_typed (out-Node Name Note e.node) e.note.ctype n noted.row is
-
-  moved_is : (v : Option Name) (c : Option ℤ) (a : Amount) → moved v c ≡ Some a → a.variable ≡ v
-  moved_is (Some n) (Some c) a e = let same : record { variable = Some n; number = c } ≡ a = cc in sym (ap (λ (x : Amount). x.variable) same)
-  moved_is (Some n) None a e = absurd cc
-  moved_is None c a e = absurd cc
 
   moved_typed : (e : NotedExpr) (c : Option ℤ) (a : Amount) (n : Name) → WellTypedExpr globals variables mode e → moved (variable_in (bare_expr e)) c ≡ Some a
       → a.variable ≡ Some n → HasNameType n
@@ -132,15 +87,6 @@ module _ (globals : Globals) (variables : List Variable) (mode : Mode) where
       by : (o : Option ℤ) → amount_by structs (bare_expr e) o ≡ Some a → HasNameType n
       by (Some c) g = let same : record { variable = None; number = c } ≡ a = cc in let none : None ≡ a.variable = ap (λ (x : Amount). x.variable) same in absurd cc
       by None g = layer_typed structs (out-Node Name Note e.node) e a n w refl (sym (ap (amount_in_form structs) (layer_is e)) ∙ g) v
-
-  counted_is : (o : Option Amount) (k : ℕ) (c : ℤ) → counted o ≡ bounds.Named k c → (a : Amount) × (o ≡ Some a) × (a.variable ≡ Some (name.Member k))
-  counted_is (Some a) k c e = (a, refl, by a.variable e)
-    where
-      by : (v : Option Name) → counted_by v a.number ≡ bounds.Named k c → v ≡ Some (name.Member k)
-      by (Some (name.Member m)) f = let same : m ≡ k = cc in ap (λ j. Some (name.Member j)) same
-      by None f = absurd cc
-      by (Some n) f = absurd cc
-  counted_is None k c e = absurd cc
 
   bytes_typed : (structs : Structs) (size : ℕ) (e : NotedExpr) (a : Amount) (n : Name) → WellTypedExpr globals variables mode e
       → amount_of_bytes structs size (bare_expr e) ≡ Some a → a.variable ≡ Some n → HasNameType n

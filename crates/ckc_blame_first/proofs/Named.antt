@@ -39,7 +39,7 @@ use Rattle.ckc_blame_first.proofs.Bounds.{bounds_typed}
 -- ---- names of objects
 
 -- an object has the name of an object
-abbrev HasStatic : Item → Type 0
+abbrev pub HasStatic : Item → Type 0
 HasStatic (item.Static d) = (n : ℕ) × (d.name ≡ name.Static n)
 HasStatic i = Unit {0}
 
@@ -51,7 +51,7 @@ item_static names all before i j (items.static g new) = (_, g.named)
 item_static names all before i j (items.proto q there) = tt
 item_static names all before i j (items.function q new made) = tt
 
-items_static : (names : Names) (all : List trees.Item) (before : Names) (is : List trees.Item) (js : List Item) → ItemsNamed names all before is js → All HasStatic js
+pub items_static : (names : Names) (all : List trees.Item) (before : Names) (is : List trees.Item) (js : List Item) → ItemsNamed names all before is js → All HasStatic js
 items_static names all before is js items.none = All-nil HasStatic
 items_static names all before is js (items.more {i = i} {j = j} {is = others} {js = rest} k ks) =
     All-cons HasStatic j rest (item_static names all before i j k) (items_static names all _ others rest ks)

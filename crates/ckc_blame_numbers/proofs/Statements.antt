@@ -110,9 +110,9 @@ module _ (globals : Globals) (s : Setting) where
       let p = pair_same {A = Option NotedExpr} (Some m.0.0) after m.0.1 there m.2 in
       (sym (ap (λ (x : Here). x.at) p.1) ∙ t.at, subst (IsTypedIf globals s) p.0 t.typed)
 
-  pub condition_holds : (agrees : Agrees globals s) (here sure other : Here) (e : Expr) (store : Store) (v : Value) (c : IsCondition s here e sure other) → IsTypedIf globals s c.before
+  pub condition_holds : (agrees : Agrees globals s) (mode : Mode) (here sure other : Here) (e : Expr) (store : Store) (v : Value) (c : IsCondition s mode here e sure other) → IsTypedIf globals s c.before
       → HoldWords s.frame store.locals → AreTrue s.frame store.locals here.at.facts → evaluated store e ≡ Ok v → AreTrue s.frame store.locals (if v.number == 0 then other else sure).at.facts
-  condition_holds agrees here sure other e store v c typed words all is =
+  condition_holds agrees mode here sure other e store v c typed words all is =
       let m = maybe_stays c.before c.after here c.behind typed c.judged in
       side_comes globals s agrees sure other c.behind e c.literals store v words (subst (λ (at : State). AreTrue s.frame store.locals at.facts) (sym m.0) all) is c.after m.1 c.becomes c.true_side c.false_side
       (v.number == 0) refl

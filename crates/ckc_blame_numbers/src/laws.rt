@@ -2,6 +2,7 @@
 //! of the code that ran before: the laws hold after unchecked steps too.
 
 ghost use Rattle.std.specs.Prelude.{◌≡◌, ℕ, ◌==◌, ◌<◌, ◌^◌, true, not, if◌then◌else◌, Bool, List, [], ◌∷◌, length, ℤ, Option, Some, Ok};
+ghost use Rattle.ckc_base.specs.declared.arithmetic.Mode.{Mode};
 ghost use Rattle.ckc_base.specs.declared.arithmetic.Width.{Width};
 ghost use Rattle.ckc_types.specs.declared.types.CType.{CType};
 ghost use Rattle.ckc_linear.specs.declared.forms.Form.{Form};
@@ -79,8 +80,8 @@ pub fn judging_keeps_types()
 /// The facts of the next point are true after a condition, on the side that it comes to, and in the state after an
 /// assignment to a local, a declaration being one.
 pub fn facts_hold()
-    ensures condition { (globals : Globals) (s : Setting) (here yes no : Here) (e : Expr)
-        (store : Store) (v : Value) → Agrees globals s → (c : IsCondition s here e yes no)
+    ensures condition { (globals : Globals) (s : Setting) (mode : Mode) (here yes no : Here) (e : Expr)
+        (store : Store) (v : Value) → Agrees globals s → (c : IsCondition s mode here e yes no)
         → IsTypedIf globals s c.before → HoldWords s.frame store.locals
         → AreTrue s.frame store.locals here.at.facts → evaluated store e ≡ Ok v
         → AreTrue s.frame store.locals (if v.number == 0 then no else yes).at.facts }

@@ -79,7 +79,8 @@ module _ (s : Setting) (store : Store) (entry : List ℕ) where
   abbrev pub AreTold : Here → Valuation → Known → Type 0
   AreTold here v facts = (facts ≡ here.at.facts) ⊎ AreTrueIn v facts
 
-  -- Where a pointer is, by forms whose values have numbers below a limit, in numbers that begin here; and of what types its fresh variables are. All but where it begins is said of every later valuation too, which says the same of these.
+  -- Where a pointer is, by forms whose values have numbers from the first one on and below a limit, and of what types
+  -- its fresh variables are. It is said of every later valuation, which says the same of these.
   pub record Placed (here : Here) (t : CType) (limit : ℕ) (place : Known → Option Form) (r : State → Range) (types : List CType) (first fresh : ℕ) (before : Valuation) (p : Value) : Type 0 where
     pub after : Valuation
     pub extends : Extends first fresh before after

@@ -158,7 +158,7 @@ module _ (s : Setting) (store : Store) (entry : List ℕ) (here : Here) (t : CTy
     (p : Placed s store entry here t limit place r ts next more middle v) (z : ℤ) (form : Known → Option Form)
     (form_is : (w : Valuation) → Fits s.frame store.locals w → (facts : Known) → AreTold s store entry here w facts → (g : Form) → form facts ≡ Some g → z ≡ number_of w.numbers g)
     (a : ℕ) (is : pos a ≡ elements_behind v.number (size_behind s.text.layout t) z) (some : v.number ≡ 0 → ⊥) where
-  -- It has the place of the sum, or stands for itself; w is a valuation that also says what the fresh variables of the index are.
+  -- It has the place of the sum, or stands for itself. A valuation w also says what the fresh variables of the index are.
   pub moved_placed : (first fresh n : ℕ) (w : Valuation) → first ≤ next → first ≤ n → limit ≤ n → n < most → next_behind more ts ≤ next_behind fresh types → fresh ≤ next_behind fresh types → fresh + length types < 2 ^ 32
       → AreFresh s.frame fresh → Fits s.frame store.locals before → Extends first fresh before w → Extends limit (next_behind more ts) p.after w → AreNumbers w.numbers (capped fresh 1) types
       → Placed s store entry here t most (λ facts. option_or (sum_of_forms (place facts) (form facts)) (Some (base_form (base.Value n)))) r types first fresh before (record { number = a; range = v.range })

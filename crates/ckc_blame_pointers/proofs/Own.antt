@@ -77,7 +77,8 @@ fixed_reads store bytes to c begin a ok = counted_reads store bytes to (count.Fi
 
 -- ---- a pointer that stands for itself
 
--- It and its own fresh variable, if it needs one, may stand for any address and any number of the type of that. Its range, which names its own numbers alone, is said in each valuation in which they stand for these.
+-- It and its own fresh variable, if it needs one, may stand for any address and any number of the type of that. Its
+-- range is said in each valuation in which they stand for these.
 module _ (s : Setting) (store : Store) (entry : List ℕ) (here : Here) (h : HoldsAt s store entry here) (t : CType) (pointer : is_pointer t ≡ true) (n : NodeView) (alone : n.stands_alone ≡ true) (known : n.null ≡ false)
     (nowhere : (first : ℕ) (facts : Known) → n.place t first facts ≡ None) (kept : (widened : List ℕ) → n.fresh (record here.at { widened = widened }) ≡ n.fresh here.at)
     (r : Own → Range) (ranged : (own : Own) (first fresh : ℕ) (widened : List ℕ) → n.range t own first fresh (record here.at { widened = widened }) ≡ r own)
@@ -177,7 +178,7 @@ pub own_between : (g : ℕ → Form) (own : Own) (first limit : ℕ) → first �
 own_between g own first limit more less = ((more, less), (more, less))
 
 module _ (s : Setting) (store : Store) (t : CType) (x : Value) (z c : ℤ) (there : (x.number ≡ 0) ⊎ Ranged store.shapes store.blocks (pointee_of s.text.layout t) x.number (pos x.number) (elements_behind x.number (size_behind s.text.layout t) c) x) where
-  -- A pointer has the range of so many elements, if it is null or it may be read in that range, and the form says their number.
+  -- A pointer has the range of so many elements, if it is null or that range is true, and the form says their number.
   pub own_range : (o : Option CType) (g : ℕ → Form) → ((k : ℕ) (v : Valuation) → Fits s.frame store.locals v → IfSome o (λ u. v.numbers (capped k 1) ≡ z) → number_of v.numbers (g k) ≡ c)
       → (own : Own) (v : Valuation) → Fits s.frame store.locals v → v.addresses own.value ≡ x.number → IfSome o (λ u. v.numbers (capped own.fresh 1) ≡ z) → IsInRange s store v t (range_of_own g own) x
   own_range o g counts at_own v fits at number = by there

@@ -115,7 +115,8 @@ module _ (s : Setting) (store : Store) (entry : List ℕ) (here : Here) (h : Hol
 
   -- ---- a pointer that is moved
 
-  -- how the numbers of the pointer begin, what is said of the sum, and what fresh variables there are before those of the pointer and after them
+  -- how the numbers of the pointer begin, what is said of the sum, and what fresh variables there are before those of
+  -- the pointer and after them
   record IsMoved (k : NotedExpr) (n : NodeView) (form : Known → Option Form) (next : ℕ → ℕ) (front back : List CType) : Type 0 where
     pub pointer : is_pointer k.note.ctype ≡ true
     pub moved : is_moved k.note.ctype ≡ true

@@ -1,6 +1,6 @@
--- What is widened at a point says nothing of the fresh variables that expressions need there.
-use Rattle.std.proofs.Common.{◌≡◌, refl, sym, ap, subst, ◌∙◌, ℕ, Bool, true, false, List, [], ◌∷◌, ◌++◌, map, arith}
-use Rattle.std.specs.Prelude.{◌==◌, not, if◌then◌else◌, is_some, Option, None, Some}
+-- What is widened at a point says nothing of the fresh variables that expressions need there, which are at most so many.
+use Rattle.std.proofs.Common.{◌≡◌, refl, sym, ap, subst, ◌∙◌, ℕ, Bool, true, false, List, [], ◌∷◌, ◌++◌, length, length-append, map, arith}
+use Rattle.std.specs.Prelude.{◌+◌, ◌==◌, ◌<◌, ◌≤◌, ◌^◌, not, if◌then◌else◌, is_some, Option, None, Some}
 use Rattle.std.proofs.lemmas.Bool.{eqb-true}
 use Rattle.ckc_types.specs.declared.types.Kind.{Kind}
 use Rattle.ckc_types.specs.declared.types.CType.{CType}
@@ -9,7 +9,7 @@ use Rattle.ckc_syntax.specs.declared.tree.Name.{Name}
 use Rattle.ckc_syntax.specs.declared.tree.TreeOp.{TreeOp}
 use Rattle.ckc_syntax.specs.declared.tree.TreeOp.TheVariants as op
 use Rattle.ckc_syntax.specs.declared.tree.Limits.{Limits-F, map-Limits, roll-Limits, fold-roll-Limits}
-use Rattle.ckc_syntax.specs.declared.tree.Node.{Node-F, map-Node, roll-Node, fold-roll-Node}
+use Rattle.ckc_syntax.specs.declared.tree.Node.{Node-F, map-Node, ind-Node, roll-Node, fold-roll-Node}
 use Rattle.ckc_syntax.specs.declared.tree.Expr.{Expr-F, map-Expr, ind-Expr, roll-Expr, fold-roll-Expr}
 use Rattle.ckc_typed.specs.declared.typed.Note.{Note}
 use Rattle.ckc_typed.specs.Trees.{NotedLimits, NotedNode, NotedExpr, NotedLayer}
@@ -81,17 +81,36 @@ module _ (frame : Frame) (a b : State) (same : IsSamePoint a b) where
   compared_same o e f side true = operands_same o e f side (operand (compares_unsigned e f) e) (operand (compares_unsigned e f) f)
   compared_same o e f side false = same
 
+-- ---- how many fresh variables there are
+
+-- Fresh variables are at most so many, as far as a word counts.
+abbrev AreFew : List CType → ℕ → Type 0
+AreFew ts n = capped 0 (length ts) ≤ n
+
+both_few : (xs ys : List CType) (m n : ℕ) → AreFew xs m → AreFew ys n → AreFew (xs ++ ys) (capped m n)
+both_few xs ys m n a b = omega (arith, a, b, length-append xs ys)
+
+few_none : (n : ℕ) → AreFew [] n
+few_none n = omega arith
+
+few_empty : (ts : List CType) → AreFew ts 0 → ts ≡ []
+few_empty [] h = refl
+few_empty (t ∷ ts) h = absurd (impossible (length (t ∷ ts)) (omega arith) h)
+  where
+    impossible : (n : ℕ) → 0 < n → capped 0 n ≤ 0 → ⊥
+    impossible n some h = absurd (omega arith)
+
 -- ---- expressions
 
 module _ (frame : Frame) where
   record LimitsHold (l : NotedLimits) : Type 0 where
     pub fresh : (a b : State) → IsSamePoint a b → (view_of_limits frame l).fresh a ≡ (view_of_limits frame l).fresh b
-    pub none : (view_of_limits frame l).most_fresh ≡ 0 → (at : State) → (view_of_limits frame l).fresh at ≡ []
+    pub few : (at : State) → AreFew ((view_of_limits frame l).fresh at) (view_of_limits frame l).most_fresh
 
   pub record NodeHolds (n : NodeView) : Type 0 where
     pub fresh : (a b : State) → IsSamePoint a b → n.fresh a ≡ n.fresh b
     pub side : (b : Bool) (x y : State) → IsSamePoint x y → IsSamePoint (n.side b x) (n.side b y)
-    pub none : n.most_fresh ≡ 0 → (at : State) → n.fresh at ≡ []
+    pub few : (at : State) → AreFew (n.fresh at) n.most_fresh
 
   record InnerHolds (n : NotedNode) : Type 0 where
     pub holds : NodeHolds (view_of_node frame n)
@@ -99,7 +118,7 @@ module _ (frame : Frame) where
   pub record ExprHolds (e : NotedExpr) : Type 0 where
     pub fresh : (a b : State) → IsSamePoint a b → (view frame e).fresh a ≡ (view frame e).fresh b
     pub side : (b : Bool) (x y : State) → IsSamePoint x y → IsSamePoint ((view frame e).side b x) ((view frame e).side b y)
-    pub none : (view frame e).most_fresh ≡ 0 → (at : State) → (view frame e).fresh at ≡ []
+    pub few : (at : State) → AreFew ((view frame e).fresh at) (view frame e).most_fresh
 
   abbrev KeptLimits : Type 0
   KeptLimits = (l : NotedLimits) × LimitsHold l
@@ -128,12 +147,6 @@ module _ (frame : Frame) where
   abbrev viewed_expr : Expr-F Name Note NotedLimits NotedNode NotedExpr → Expr-F Name Note LimitsView NodeView View
   viewed_expr = map-Expr Name Note NotedLimits NotedNode NotedExpr LimitsView NodeView View (view_of_limits frame) (view_of_node frame) (view frame)
 
-  capped_none : (m n : ℕ) → capped m n ≡ 0 → (m ≡ 0) × (n ≡ 0)
-  capped_none m n e = (omega arith, omega arith)
-
-  both_none : (xs ys : List CType) → xs ≡ [] → ys ≡ [] → xs ++ ys ≡ []
-  both_none xs ys e f = ap (λ xs. xs ++ ys) e ∙ f
-
   -- ---- operands
 
   right_same : (o : TreeOp) (e : KeptExpr) (a b : State) → IsSamePoint a b → IsSamePoint (right_point o (view frame e.0) a) (right_point o (view frame e.0) b)
@@ -149,7 +162,8 @@ module _ (frame : Frame) where
   right_none o e f at = by ((view frame f.0).most_fresh == 0) refl
     where
       by : (b : Bool) → ((view frame f.0).most_fresh == 0) ≡ b → (if b then [] else (view frame f.0).fresh (right_point o e at)) ≡ (view frame f.0).fresh (right_point o e at)
-      by true z = sym (f.1.none (eqb-true (view frame f.0).most_fresh 0 z) (right_point o e at))
+      by true z =
+          sym (few_empty ((view frame f.0).fresh (right_point o e at)) (subst (λ n. AreFew ((view frame f.0).fresh (right_point o e at)) n) (eqb-true (view frame f.0).most_fresh 0 z) (f.1.few (right_point o e at))))
       by false z = refl
 
   binary_same : (o : TreeOp) (e f : KeptExpr) (side : Bool) (a b : State) → IsSamePoint a b → IsSamePoint (binary_side frame o (view frame e.0) (view frame f.0) side a) (binary_side frame o (view frame e.0) (view frame f.0) side b)
@@ -168,16 +182,21 @@ module _ (frame : Frame) where
   all_same [] a b s = refl
   all_same (e ∷ es) a b s = let p = e.1.fresh a b s in let q = all_same es a b s in cc
 
-  all_more : (es : List View) (n : ℕ) → most_after n es ≡ 0 → n ≡ 0
-  all_more [] n z = z
-  all_more (e ∷ es) n z = (capped_none n e.most_fresh (all_more es (capped n e.most_fresh) z)).0
+  all_few : (es : List KeptExpr) (at : State) (m n : ℕ) → m ≤ n → capped m (length (all_fresh (map (view frame) (map (λ (e : KeptExpr). e.0) es)) at)) ≤ most_after n (map (view frame) (map (λ (e : KeptExpr). e.0) es))
+  all_few [] at m n h = omega arith
+  all_few (e ∷ es) at m n h =
+      subst (λ k. k ≤ most_after (capped n (view frame e.0).most_fresh) (map (view frame) (map (λ (e : KeptExpr). e.0) es)))
+      (split m (length ((view frame e.0).fresh at)) (length rest) (length ((view frame e.0).fresh at ++ rest)) (length-append ((view frame e.0).fresh at) rest))
+      (all_few es at (capped m (length ((view frame e.0).fresh at))) (capped n (view frame e.0).most_fresh) (more (length ((view frame e.0).fresh at)) (view frame e.0).most_fresh (e.1.few at)))
+    where
+      rest : List CType
+      rest = all_fresh (map (view frame) (map (λ (e : KeptExpr). e.0) es)) at
 
-  all_none : (es : List KeptExpr) (n : ℕ) → most_after n (map (view frame) (map (λ (e : KeptExpr). e.0) es)) ≡ 0 → (at : State) → all_fresh (map (view frame) (map (λ (e : KeptExpr). e.0) es)) at ≡ []
-  all_none [] n z at = refl
-  all_none (e ∷ es) n z at =
-      both_none ((view frame e.0).fresh at) (all_fresh (map (view frame) (map (λ (e : KeptExpr). e.0) es)) at)
-      (e.1.none (capped_none n (view frame e.0).most_fresh (all_more (map (view frame) (map (λ (e : KeptExpr). e.0) es)) (capped n (view frame e.0).most_fresh) z)).1 at)
-      (all_none es (capped n (view frame e.0).most_fresh) z at)
+      split : (m a b c : ℕ) → c ≡ a + b → capped (capped m a) b ≡ capped m c
+      split m a b c e = omega arith
+
+      more : (a k : ℕ) → capped 0 a ≤ k → capped m a ≤ capped n k
+      more a k l = omega arith
 
   abbrev there : Option KeptLimits → Option LimitsView
   there None = None
@@ -187,19 +206,19 @@ module _ (frame : Frame) where
   there_same None a b s = refl
   there_same (Some l) a b s = l.1.fresh a b s
 
-  there_none : (l : Option KeptLimits) → most_there (there l) ≡ 0 → (at : State) → fresh_there (there l) at ≡ []
-  there_none None z at = refl
-  there_none (Some l) z at = l.1.none z at
+  there_few : (l : Option KeptLimits) (at : State) → AreFew (fresh_there (there l) at) (most_there (there l))
+  there_few None at = few_none 0
+  there_few (Some l) at = l.1.few at
 
   limits_step : (y : Limits-F Name Note KeptLimits KeptNode KeptExpr) → ((a b : State) → IsSamePoint a b → limits_fresh (viewed_limits (inner_limits y)) a ≡ limits_fresh (viewed_limits (inner_limits y)) b)
-      × (limits_most (viewed_limits (inner_limits y)) ≡ 0 → (at : State) → limits_fresh (viewed_limits (inner_limits y)) at ≡ [])
-  limits_step (Limits-F.Count e pos) = (e.1.fresh, e.1.none)
-  limits_step (Limits-F.ByteCount e pos) = (e.1.fresh, e.1.none)
+      × ((at : State) → AreFew (limits_fresh (viewed_limits (inner_limits y)) at) (limits_most (viewed_limits (inner_limits y))))
+  limits_step (Limits-F.Count e pos) = (e.1.fresh, e.1.few)
+  limits_step (Limits-F.ByteCount e pos) = (e.1.fresh, e.1.few)
   limits_step (Limits-F.Between e f pos) = (
     λ a b s. let p = e.1.fresh a b s in let q = f.1.fresh a b s in cc,
-    λ z at. let n = capped_none (view frame e.0).most_fresh (view frame f.0).most_fresh z in both_none ((view frame e.0).fresh at) ((view frame f.0).fresh at) (e.1.none n.0 at) (f.1.none n.1 at),
+    λ at. both_few ((view frame e.0).fresh at) ((view frame f.0).fresh at) (view frame e.0).most_fresh (view frame f.0).most_fresh (e.1.few at) (f.1.few at),
   )
-  limits_step (Limits-F.Unknown pos) = (λ a b s. refl, λ z at. refl)
+  limits_step (Limits-F.Unknown pos) = (λ a b s. refl, λ at. few_none 0)
 
   -- ---- nodes
 
@@ -219,30 +238,25 @@ module _ (frame : Frame) where
   fresh_step (Node-F.Calloc w e x) a b s = e.1.fresh a b s
   fresh_step y a b s = refl
 
-  none_step : (y : Node-F Name Note KeptLimits KeptNode KeptExpr) → most_of_node (viewed_node (inner_node y)) ≡ 0 → (at : State) → fresh_of_node (viewed_node (inner_node y)) at ≡ []
-  none_step (Node-F.Un o e) z at = e.1.none z at
-  none_step (Node-F.Bin o e f) z at =
-      let n = capped_none (view frame e.0).most_fresh (view frame f.0).most_fresh z in
-      both_none ((view frame e.0).fresh at) (right_fresh o (view frame e.0) (view frame f.0) at) (e.1.none n.0 at)
-      (right_none o (view frame e.0) f at ∙ f.1.none n.1 (right_point o (view frame e.0) at))
-  none_step (Node-F.Pick e f g) z at =
-      let m = capped_none (capped (view frame e.0).most_fresh (view frame f.0).most_fresh) (view frame g.0).most_fresh z in
-      let n = capped_none (view frame e.0).most_fresh (view frame f.0).most_fresh m.0 in
-      both_none ((view frame e.0).fresh at ++ (view frame f.0).fresh at) ((view frame g.0).fresh at) (both_none ((view frame e.0).fresh at) ((view frame f.0).fresh at) (e.1.none n.0 at) (f.1.none n.1 at)) (g.1.none m.1 at)
-  none_step (Node-F.Index e f) z at =
-      let n = capped_none (view frame e.0).most_fresh (view frame f.0).most_fresh z in both_none ((view frame e.0).fresh at) ((view frame f.0).fresh at) (e.1.none n.0 at) (f.1.none n.1 at)
-  none_step (Node-F.Dot e n spot) z at = e.1.none z at
-  none_step (Node-F.Arrow e n spot) z at = e.1.none z at
-  none_step (Node-F.Cast w e) z at = e.1.none z at
-  none_step (Node-F.Trusted w e None) z at = both_none ((view frame e.0).fresh at) [] (e.1.none (capped_none (view frame e.0).most_fresh 0 z).0 at) refl
-  none_step (Node-F.Trusted w e (Some l)) z at =
-      let n = capped_none (view frame e.0).most_fresh (view_of_limits frame l.0).most_fresh z in both_none ((view frame e.0).fresh at) ((view_of_limits frame l.0).fresh at) (e.1.none n.0 at) (l.1.none n.1 at)
-  none_step (Node-F.Tested w e None) z at = both_none ((view frame e.0).fresh at) [] (e.1.none (capped_none (view frame e.0).most_fresh 0 z).0 at) refl
-  none_step (Node-F.Tested w e (Some l)) z at =
-      let n = capped_none (view frame e.0).most_fresh (view_of_limits frame l.0).most_fresh z in both_none ((view frame e.0).fresh at) ((view_of_limits frame l.0).fresh at) (e.1.none n.0 at) (l.1.none n.1 at)
-  none_step (Node-F.Call n es) z at = all_none es 0 z at
-  none_step (Node-F.Calloc w e x) z at = e.1.none z at
-  none_step y z at = refl
+  few_step : (y : Node-F Name Note KeptLimits KeptNode KeptExpr) (at : State) → AreFew (fresh_of_node (viewed_node (inner_node y)) at) (most_of_node (viewed_node (inner_node y)))
+  few_step (Node-F.Un o e) at = e.1.few at
+  few_step (Node-F.Bin o e f) at =
+      both_few ((view frame e.0).fresh at) (right_fresh o (view frame e.0) (view frame f.0) at) (view frame e.0).most_fresh (view frame f.0).most_fresh (e.1.few at)
+      (subst (λ ts. AreFew ts (view frame f.0).most_fresh) (sym (right_none o (view frame e.0) f at)) (f.1.few (right_point o (view frame e.0) at)))
+  few_step (Node-F.Pick e f g) at =
+      both_few ((view frame e.0).fresh at ++ (view frame f.0).fresh at) ((view frame g.0).fresh at) (capped (view frame e.0).most_fresh (view frame f.0).most_fresh) (view frame g.0).most_fresh
+      (both_few ((view frame e.0).fresh at) ((view frame f.0).fresh at) (view frame e.0).most_fresh (view frame f.0).most_fresh (e.1.few at) (f.1.few at)) (g.1.few at)
+  few_step (Node-F.Index e f) at = both_few ((view frame e.0).fresh at) ((view frame f.0).fresh at) (view frame e.0).most_fresh (view frame f.0).most_fresh (e.1.few at) (f.1.few at)
+  few_step (Node-F.Dot e n spot) at = e.1.few at
+  few_step (Node-F.Arrow e n spot) at = e.1.few at
+  few_step (Node-F.Cast w e) at = e.1.few at
+  few_step (Node-F.Trusted w e None) at = both_few ((view frame e.0).fresh at) [] (view frame e.0).most_fresh 0 (e.1.few at) (few_none 0)
+  few_step (Node-F.Trusted w e (Some l)) at = both_few ((view frame e.0).fresh at) ((view_of_limits frame l.0).fresh at) (view frame e.0).most_fresh (view_of_limits frame l.0).most_fresh (e.1.few at) (l.1.few at)
+  few_step (Node-F.Tested w e None) at = both_few ((view frame e.0).fresh at) [] (view frame e.0).most_fresh 0 (e.1.few at) (few_none 0)
+  few_step (Node-F.Tested w e (Some l)) at = both_few ((view frame e.0).fresh at) ((view_of_limits frame l.0).fresh at) (view frame e.0).most_fresh (view_of_limits frame l.0).most_fresh (e.1.few at) (l.1.few at)
+  few_step (Node-F.Call n es) at = all_few es at 0 0 (omega arith)
+  few_step (Node-F.Calloc w e x) at = e.1.few at
+  few_step y at = few_none 0
 
   side_step : (y : Node-F Name Note KeptLimits KeptNode KeptExpr) (b : Bool) (x z : State) → IsSamePoint x z → IsSamePoint (side_of_node frame (viewed_node (inner_node y)) b x) (side_of_node frame (viewed_node (inner_node y)) b z)
   side_step (Node-F.Un op.Not e) b x z s = e.1.side (not b) x z s
@@ -252,15 +266,15 @@ module _ (frame : Frame) where
   -- ---- the induction
 
   node_holds : (y : Node-F Name Note KeptLimits KeptNode KeptExpr) → NodeHolds (node_view frame (viewed_node (inner_node y)))
-  node_holds y = record { fresh = fresh_step y; side = side_step y; none = none_step y }
+  node_holds y = record { fresh = fresh_step y; side = side_step y; few = few_step y }
 
   limits_by : (x : Limits-F Name Note NotedLimits NotedNode NotedExpr) (y : Limits-F Name Note KeptLimits KeptNode KeptExpr) → inner_limits y ≡ x → LimitsHold (roll-Limits Name Note x)
-  limits_by x y is = subst (λ x. LimitsHold (roll-Limits Name Note x)) is (record { fresh = (held y).0; none = (held y).1 })
+  limits_by x y is = subst (λ x. LimitsHold (roll-Limits Name Note x)) is (record { fresh = (held y).0; few = (held y).1 })
     where
       held : (y : Limits-F Name Note KeptLimits KeptNode KeptExpr)
           → ((a b : State) → IsSamePoint a b → (view_of_limits frame (roll-Limits Name Note (inner_limits y))).fresh a ≡ (view_of_limits frame (roll-Limits Name Note (inner_limits y))).fresh b)
-          × ((view_of_limits frame (roll-Limits Name Note (inner_limits y))).most_fresh ≡ 0 → (at : State) → (view_of_limits frame (roll-Limits Name Note (inner_limits y))).fresh at ≡ [])
-      held y = subst (λ (l : LimitsView). ((a b : State) → IsSamePoint a b → l.fresh a ≡ l.fresh b) × (l.most_fresh ≡ 0 → (at : State) → l.fresh at ≡ []))
+          × ((at : State) → AreFew ((view_of_limits frame (roll-Limits Name Note (inner_limits y))).fresh at) (view_of_limits frame (roll-Limits Name Note (inner_limits y))).most_fresh)
+      held y = subst (λ (l : LimitsView). ((a b : State) → IsSamePoint a b → l.fresh a ≡ l.fresh b) × ((at : State) → AreFew (l.fresh at) l.most_fresh))
           (sym (fold-roll-Limits Name Note LimitsView NodeView View limits_view (node_view frame) expr_view (inner_limits y))) (limits_step y)
 
   node_by : (x : NotedLayer) (y : Node-F Name Note KeptLimits KeptNode KeptExpr) → inner_node y ≡ x → InnerHolds (roll-Node Name Note x)
@@ -268,25 +282,23 @@ module _ (frame : Frame) where
       (record { holds = subst NodeHolds (sym (fold-roll-Node Name Note LimitsView NodeView View limits_view (node_view frame) expr_view (inner_node y))) (node_holds y) })
 
   abbrev ViewHolds : View → Type 0
-  ViewHolds v = ((a b : State) → IsSamePoint a b → v.fresh a ≡ v.fresh b) × ((b : Bool) (x y : State) → IsSamePoint x y → IsSamePoint (v.side b x) (v.side b y)) × (v.most_fresh ≡ 0 → (at : State) → v.fresh at ≡ [])
+  ViewHolds v = ((a b : State) → IsSamePoint a b → v.fresh a ≡ v.fresh b) × ((b : Bool) (x y : State) → IsSamePoint x y → IsSamePoint (v.side b x) (v.side b y)) × ((at : State) → AreFew (v.fresh at) v.most_fresh)
 
   expr_holds : (note : Note) (n : NodeView) → NodeHolds n → ((a b : State) → IsSamePoint a b → with_last (n.fresh a) (own_fresh note.ctype n a.facts) ≡ with_last (n.fresh b) (own_fresh note.ctype n b.facts))
-      × (with_own_most note.ctype n ≡ 0 → (at : State) → with_last (n.fresh at) (own_fresh note.ctype n at.facts) ≡ [])
-  expr_holds note n h = (λ a b s. let p = h.fresh a b s in let q = s.facts in cc, λ z at. none at (n.may_need note.ctype) refl z)
+      × ((at : State) → AreFew (with_last (n.fresh at) (own_fresh note.ctype n at.facts)) (with_own_most note.ctype n))
+  expr_holds note n h = (λ a b s. let p = h.fresh a b s in let q = s.facts in cc, λ at. few at (n.may_need note.ctype) (n.has_form note.ctype at.facts))
     where
-      none : (at : State) (o : Option CType) → n.may_need note.ctype ≡ o → (if is_some o then capped n.most_fresh 1 else n.most_fresh) ≡ 0 → with_last (n.fresh at) (own_fresh note.ctype n at.facts) ≡ []
-      none at (Some t) e z = absurd (more (capped_none n.most_fresh 1 z).1)
+      few : (at : State) (o : Option CType) (b : Bool) → AreFew (with_last (n.fresh at) (if b then None else o)) (if is_some o then capped n.most_fresh 1 else n.most_fresh)
+      few at None true = h.few at
+      few at None false = h.few at
+      few at (Some t) true = fewer (length (n.fresh at)) (h.few at)
         where
-          more : ◌≡◌ {A = ℕ} 1 0 → ⊥
-          more e = absurd (omega arith)
-      none at None e z = ap (with_last (n.fresh at)) (by (n.has_form note.ctype at.facts)) ∙ h.none z at
-        where
-          by : (b : Bool) → (if b then None else n.may_need note.ctype) ≡ None
-          by true = refl
-          by false = e
+          fewer : (k : ℕ) → capped 0 k ≤ n.most_fresh → capped 0 k ≤ capped n.most_fresh 1
+          fewer k l = omega arith
+      few at (Some t) false = both_few (n.fresh at) (t ∷ []) n.most_fresh 1 (h.few at) (omega arith)
 
   expr_by : (x : Expr-F Name Note NotedLimits NotedNode NotedExpr) (y : Expr-F Name Note KeptLimits KeptNode KeptExpr) → inner_expr y ≡ x → ExprHolds (roll-Expr Name Note x)
-  expr_by x y is = subst (λ x. ExprHolds (roll-Expr Name Note x)) is (record { fresh = all.0; side = all.1; none = all.2 })
+  expr_by x y is = subst (λ x. ExprHolds (roll-Expr Name Note x)) is (record { fresh = all.0; side = all.1; few = all.2 })
     where
       all : ViewHolds (view frame (roll-Expr Name Note (inner_expr y)))
       all =
@@ -296,9 +308,23 @@ module _ (frame : Frame) where
   pub steady : (e : NotedExpr) → ExprHolds e
   steady = ind-Expr Name Note LimitsHold InnerHolds ExprHolds limits_by node_by expr_by
 
-  -- the fresh variables that an expression needs, whatever is widened
+  steady_node : (n : NotedNode) → InnerHolds n
+  steady_node = ind-Node Name Note LimitsHold InnerHolds ExprHolds limits_by node_by expr_by
+
+  -- the fresh variables that a node needs, whatever is widened
+  pub node_fresh_same : (n : NotedNode) (at : State) (widened : List ℕ) → (view_of_node frame n).fresh (record at { widened = widened }) ≡ (view_of_node frame n).fresh at
+  node_fresh_same n at widened = (steady_node n).holds.fresh (record at { widened = widened }) at (record { reached = refl; facts = refl })
+
+  -- and those that an expression needs
   pub fresh_same : (e : NotedExpr) (at : State) (widened : List ℕ) → (view frame e).fresh (record at { widened = widened }) ≡ (view frame e).fresh at
   fresh_same e at widened = (steady e).fresh (record at { widened = widened }) at (record { reached = refl; facts = refl })
 
   pub right_fresh_is : (o : TreeOp) (e : View) (f : NotedExpr) (at : State) → right_fresh o e (view frame f) at ≡ (view frame f).fresh (right_point o e at)
   right_fresh_is o e f at = right_none o e (f, steady f) at
+
+  -- There are no more of them than it may need at most.
+  pub fresh_few : (e : NotedExpr) (at : State) → (view frame e).most_fresh + 1 < 2 ^ 32 → length ((view frame e).fresh at) ≤ (view frame e).most_fresh
+  fresh_few e at low = less (length ((view frame e).fresh at)) (view frame e).most_fresh low ((steady e).few at)
+    where
+      less : (k n : ℕ) → n + 1 < 2 ^ 32 → capped 0 k ≤ n → k ≤ n
+      less k n low h = omega arith

@@ -1,8 +1,10 @@
 //! What follows from the definitions alone, each the contract of a function that does nothing.
 
-ghost use Rattle.std.specs.Prelude.{◌≡◌, ℕ, ◌+◌, ◌<◌, ◌^◌, List, length, Ok};
+ghost use Rattle.std.specs.Prelude.{◌≡◌, ℕ, ◌+◌, ◌<◌, ◌≤◌, ◌^◌, List, length, Ok};
 ghost use Rattle.ckc_typed.specs.declared.environment.Globals.{Globals};
 ghost use Rattle.ckc_typed.specs.Trees.{NotedExpr};
+ghost use Rattle.ckc_bounds_points.specs.declared.frame.Frame.{Frame};
+ghost use Rattle.ckc_bounds_points.specs.Flow.{State};
 ghost use Rattle.ckc_bounds_views.specs.Views.{view};
 ghost use Rattle.ckc_bounds_statements.specs.Paths.{Here};
 ghost use Rattle.ckc_source.specs.Eval.{Store, evaluated};
@@ -28,4 +30,10 @@ pub fn expressions_are_not_stuck()
         → HoldsAt s store entry here
         → IsNotStuck (IsMeant s store entry here (view s.frame before))
         (evaluated store (expr_elaborated s.text s.variables literals after)) }
+{}
+
+/// An expression needs no more fresh variables at a point than it may need at most.
+pub fn fresh_variables_are_few()
+    ensures { (frame : Frame) (e : NotedExpr) (at : State) → (view frame e).most_fresh + 1 < 2 ^ 32
+        → length ((view frame e).fresh at) ≤ (view frame e).most_fresh }
 {}

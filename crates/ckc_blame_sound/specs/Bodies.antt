@@ -17,26 +17,28 @@ use Rattle.ckc_bounds_points.specs.Frames.{local_at}
 use Rattle.ckc_bounds_statements.specs.Paths.{path}
 use Rattle.ckc_blame_sound.specs.Settings.{Setting}
 use Rattle.ckc_blame_sound.specs.Words.{HasWords, HasOnlyWords, HaveWords}
+use Rattle.ckc_blame_sound.specs.Safe.{IsSafe, HasOnlySafe, AreSafe}
 
 -- what a whole text declares
 abbrev pub globals_of_text : Typed → Globals
 globals_of_text p = globals_of (without_notes p.tree).items
 
 -- A statement may stand in the body of a function, before it is judged: it is well typed among the variables of the
--- function, and declares no others, and its literals are words if those of the text are.
+-- function, and declares no others; its literals are words and its expressions safe if those of the text are.
 pub record IsInBody (s : Setting) (st : NotedStmt) : Type 0 where
   pub mode : Mode
   pub looped : Bool
   pub typed : WellTypedStmt (globals_of_text s.text) s.variables s.result st mode looped
   pub known : (d : NotedDecl) → Contains (path st).declared d → Contains s.variables (variable_declared d)
   pub words : HaveWords s.text → HasOnlyWords st
+  pub safe : AreSafe s.text → HasOnlySafe st
 
--- A condition may stand there: it is a well typed scalar, and its literals are words if those of the text are, if it is
--- not left out.
-pub record IsTestInBody (s : Setting) (e : Option NotedExpr) : Type 0 where
-  pub mode : Mode
+-- A condition may stand there, in a statement of a mode: if it is not left out it is a well typed scalar, and its literals
+-- are words and it is safe if those of the text are.
+pub record IsTestInBody (s : Setting) (mode : Mode) (e : Option NotedExpr) : Type 0 where
   pub typed : IfSome e (rows.IsCondition (globals_of_text s.text) s.variables mode)
   pub words : HaveWords s.text → IfSome e HasWords
+  pub safe : AreSafe s.text → IfSome e IsSafe
 
 -- The next fresh variable has a number after those of the variables of the function, and a word.
 abbrev pub IsNextFresh : Setting → ℕ → Type 0

@@ -1,13 +1,16 @@
 -- The active call and those that wait, as they were judged.
-use Rattle.std.specs.Prelude.{◌≡◌, ℕ, List, [], ◌∷◌, map, slice_get, pos, Some}
+use Rattle.std.specs.Prelude.{◌≡◌, ℕ, List, [], ◌∷◌, map, slice_get, pos, Option, None, Some}
 use Rattle.ckc_linear.specs.declared.forms.Base.TheVariants as base
 use Rattle.ckc_syntax.specs.declared.tree.Name.{Name}
+use Rattle.ckc_syntax.specs.declared.tree.Name.TheVariants as name
 use Rattle.ckc_syntax.specs.declared.tree.Init.TheVariants as init
 use Rattle.ckc_syntax.specs.declared.tree.Node.{Node-F, out-Node}
 use Rattle.ckc_syntax.specs.declared.tree.Act.{Act-F, out-Act}
 use Rattle.ckc_typed.specs.declared.typed.Note.{Note}
 use Rattle.ckc_typed.specs.declared.typed.Typed.{Typed}
 use Rattle.ckc_typed.specs.Trees.{NotedAct, NotedExpr, NotedInit, NotedLayer, NotedStmt}
+use Rattle.ckc_bounds_points.specs.declared.frame.Frame.{Frame}
+use Rattle.ckc_bounds_points.specs.declared.frame.HeadBounds.{HeadBounds}
 use Rattle.ckc_bounds_views.specs.Fresh.{all_fresh}
 use Rattle.ckc_bounds_views.specs.Parts.{View, capped}
 use Rattle.ckc_bounds_views.specs.Places.{values_after}
@@ -62,6 +65,33 @@ arguments_of_act _ = []
 abbrev pub arguments_of : NotedStmt → List NotedExpr
 arguments_of s = arguments_of_act (out-Act Name Note s.body)
 
+-- ---- the head of the function that is called
+
+abbrev pub head_by_name : Frame → Name → Option HeadBounds
+head_by_name frame (name.Function k) = slice_get frame.heads k
+head_by_name frame n = None
+
+abbrev pub head_of_node : Frame → NotedLayer → Option HeadBounds
+head_of_node frame (Node-F.Call n es) = head_by_name frame n
+head_of_node frame _ = None
+
+abbrev pub head_of_expr : Frame → NotedExpr → Option HeadBounds
+head_of_expr frame e = head_of_node frame (out-Node Name Note e.node)
+
+abbrev pub head_of_init : Frame → NotedInit → Option HeadBounds
+head_of_init frame (init.One e) = head_of_expr frame e
+head_of_init frame _ = None
+
+abbrev pub head_of_act : Frame → Act-F Name Note NotedAct NotedStmt → Option HeadBounds
+head_of_act frame (Act-F.Assign e f) = head_of_expr frame f
+head_of_act frame (Act-F.Call e) = head_of_expr frame e
+head_of_act frame (Act-F.Local d) = head_of_init frame d.init
+head_of_act frame _ = None
+
+-- the head that the call that a statement is is judged by
+abbrev pub head_of : Frame → NotedStmt → Option HeadBounds
+head_of frame s = head_of_act frame (out-Act Name Note s.body)
+
 -- The arguments of a call stand for what the parameters of another function are entered with, under a valuation of the
 -- locals at the point of the call. The fresh variables in them stand for numbers of their types, and the value of the
 -- call itself, which is numbered after those in its arguments, for the word n.
@@ -75,7 +105,8 @@ pub record ArePassed (s called : Setting) (at : Here) (locals entry : List ℕ) 
 -- ---- calls that wait
 
 -- A call waits for another one, which was entered with these values: the point of the step that called it holds, what
--- comes after that step is judged, and the arguments there stand for these values, whatever word the call will give.
+-- comes after that step is judged, and that was judged by the head of the function that was called; the arguments there
+-- stand for these values, whatever word the call will give.
 pub record Waits (p : Typed) (blocks : List Block) (caller : Caller) (s called : Setting) (callee : Function)
     (entry : List ℕ) : Type 0 where
   pub function : IsFunction p s caller.frame.function
@@ -88,6 +119,7 @@ pub record Waits (p : Typed) (blocks : List Block) (caller : Caller) (s called :
   pub calls : slice_get (functions_elaborated p) number ≡ Some callee
   pub work : JudgedWork s caller.frame.work exits
   pub holds : HoldsAt s (store_in p blocks caller.frame) caller.frame.entry at
+  pub head : head_of s.frame call.before ≡ Some called.head
   pub passed : (n : ℕ)
       → ArePassed s called at caller.frame.locals entry (map (view s.frame) (arguments_of call.before)) n
 

@@ -1,6 +1,7 @@
 -- Statements that are judged from a point on, each from the point after the one before it, with the points that control
 -- leaves them for.
 use Rattle.std.specs.Prelude.{List, [], ◌∷◌}
+use Rattle.ckc_base.specs.declared.arithmetic.Mode.{Mode}
 use Rattle.ckc_bounds_statements.specs.Paths.{Here}
 use Rattle.ckc_source.specs.Code.{Expr, Code, End, Assign, Bundle, Get, Put, Call, If, Loop, Break, Continue, Return, Check}
 use Rattle.ckc_source.specs.States.{Work, Rest, Turn}
@@ -40,9 +41,9 @@ in_body l = record { ends = l.step; breaks = l.behind; continues = l.step }
 
 -- The parts of a loop are judged from its points, each of which is as good for every turn. The step goes back to the
 -- head; it has no `break` and no `continue`, so that it is judged wherever these would lead to.
-abbrev pub IsLoop : Setting → Expr → Turns → (Exits → Here → Type 0) → (Exits → Here → Type 0) → Type 0
-IsLoop s e l body step =
-    IsCondition s l.head e l.yes l.no × GoesTo s.frame l.no l.behind × body (in_body l) l.yes
+abbrev pub IsLoop : Setting → Mode → Expr → Turns → (Exits → Here → Type 0) → (Exits → Here → Type 0) → Type 0
+IsLoop s mode e l body step =
+    IsCondition s mode l.head e l.yes l.no × GoesTo s.frame l.no l.behind × body (in_body l) l.yes
     × ((exits : Exits) → step (ending exits l.head) l.step)
 
 -- a step is judged, and then the rest
@@ -60,17 +61,17 @@ Judged s (Get spot target rest) exits here = Then s here (Get spot target) (Judg
 Judged s (Put spot target e rest) exits here = Then s here (Put spot target e) (Judged s rest exits)
 Judged s (Call spot target callee es rest) exits here = Then s here (Call spot target callee es) (Judged s rest exits)
 Judged s (If spot e one two rest) exits here =
-    (b : Branches) × IsCondition s here e b.yes b.no × Judged s one (ending exits b.behind) b.yes
+    (b : Branches) × IsCondition s spot.mode here e b.yes b.no × Judged s one (ending exits b.behind) b.yes
     × GoesTo s.frame b.no b.other × Judged s two (ending exits b.behind) b.other × Judged s rest exits b.behind
 Judged s (Loop spot e body step rest) exits here =
-    (l : Turns) × GoesTo s.frame here l.head × IsLoop s e l (Judged s body) (Judged s step) × Judged s rest exits l.behind
+    (l : Turns) × GoesTo s.frame here l.head × IsLoop s spot.mode e l (Judged s body) (Judged s step) × Judged s rest exits l.behind
 Judged s (Return spot e rest) exits here = Then s here (Return spot e) (Judged s rest exits)
 Judged s (Check spot e rest) exits here = Then s here (Check spot e) (Judged s rest exits)
 
 -- A turn of the loop in front is done: control goes to its step, by `continue` too, and by `break` past the loop.
 abbrev pub IsTurn : Setting → Code → Turns → Exits → Exits → Type 0
 IsTurn s (Loop spot e body step rest) l exits outer =
-    IsLoop s e l (Judged s body) (Judged s step) × GoesTo s.frame exits.ends l.step × GoesTo s.frame exits.continues l.step
+    IsLoop s spot.mode e l (Judged s body) (Judged s step) × GoesTo s.frame exits.ends l.step × GoesTo s.frame exits.continues l.step
     × GoesTo s.frame exits.breaks l.behind × Judged s rest outer l.behind
 IsTurn s code l exits outer = ⊥
 

@@ -5,9 +5,11 @@ pub mod Valuations
 pub mod Arguments
 pub mod Points
 pub mod Words
+pub mod Safe
 pub mod Bodies
 pub mod Steps
 pub mod Judged
 pub mod Calls
 pub mod Slots
 pub mod Sound
+pub mod Scopes

@@ -1,6 +1,7 @@
 -- A step of a program and the statement that it comes from, as that is judged.
 use Rattle.std.specs.Prelude.{◌≡◌, ℕ, Bool, true, false, [], ◌∷◌, Option, Ok}
 use Rattle.std.specs.List.{All}
+use Rattle.ckc_base.specs.declared.arithmetic.Mode.{Mode}
 use Rattle.ckc_syntax.specs.declared.tree.Name.{Name}
 use Rattle.ckc_syntax.specs.declared.tree.Act.{Act-F, out-Act}
 use Rattle.ckc_typed.specs.declared.typed.Note.{Note}
@@ -13,6 +14,7 @@ use Rattle.ckc_blame_sound.specs.Settings.{Setting}
 use Rattle.ckc_blame_sound.specs.Values.{NamesIntegers}
 use Rattle.ckc_blame_sound.specs.Points.{GoesTo}
 use Rattle.ckc_blame_sound.specs.Bodies.{IsInBody, IsTestInBody, IsNextFresh}
+use Rattle.ckc_blame_sound.specs.Scopes.{StandsInScope, IsTestInScope}
 
 -- a statement that is a step by itself: no block, no `if` and no loop
 abbrev pub is_simple : Act-F Name Note NotedAct NotedStmt → Bool
@@ -25,7 +27,8 @@ is_simple (Act-F.Bundle ss) = true
 is_simple a = false
 
 -- A statement of the function is judged at a point, and not only counted, and each fact there names the number zero and
--- integer locals alone; what becomes of it is this one step, and control goes from there to another point.
+-- integer locals alone; it stands in the scope of the locals there; what becomes of it is this one step, and control
+-- goes from there to another point.
 pub record IsStep (s : Setting) (here : Here) (step : Code → Code) (there : Here) : Type 0 where
   pub before : NotedStmt
   pub after : NotedStmt
@@ -33,6 +36,7 @@ pub record IsStep (s : Setting) (here : Here) (step : Code → Code) (there : He
   pub behind : Here
   pub simple : is_simple (out-Act Name Note before.body) ≡ true
   pub inside : IsInBody s before
+  pub scope : StandsInScope s before here.seen
   pub fresh : IsNextFresh s here.next
   pub counting : here.counting ≡ false
   pub named : All (NamesIntegers s.frame) here.at.facts.list
@@ -40,14 +44,15 @@ pub record IsStep (s : Setting) (here : Here) (step : Code → Code) (there : He
   pub becomes : stmt_elaborated s.text s.variables s.result literals after ≡ step ∷ []
   pub goes : GoesTo s.frame behind there
 
--- A condition of the function is judged at such a point, and becomes this expression; if it is true control is at a
+-- A condition of a statement of a mode in the function is judged at such a point, and becomes this expression; if it is true control is at a
 -- second point, and if it is false at a third. One that is left out is true.
-pub record IsCondition (s : Setting) (here : Here) (e : Expr) (yes no : Here) : Type 0 where
+pub record IsCondition (s : Setting) (mode : Mode) (here : Here) (e : Expr) (yes no : Here) : Type 0 where
   pub before : Option NotedExpr
   pub after : Option NotedExpr
   pub literals : ℕ
   pub behind : Here
-  pub inside : IsTestInBody s before
+  pub inside : IsTestInBody s mode before
+  pub scope : IsTestInScope s before here.seen
   pub fresh : IsNextFresh s here.next
   pub counting : here.counting ≡ false
   pub named : All (NamesIntegers s.frame) here.at.facts.list

@@ -27,7 +27,7 @@ use Rattle.ckc_blame_texts.proofs.Kept.{Keeps, bound, kept, two, ExprKept, expr_
 
 -- ---- expressions
 
-bare_kept : (frame : Frame) (e : NotedExpr) → ExprKept frame (BareLimits Name) (BareNode Name) (BareExpr Name) limits_bared node_bared expr_bared (λ n pos note r. refl) e
+pub bare_kept : (frame : Frame) (e : NotedExpr) → ExprKept frame (BareLimits Name) (BareNode Name) (BareExpr Name) limits_bared node_bared expr_bared (λ n pos note r. refl) e
 bare_kept frame = expr_kept frame (BareLimits Name) (BareNode Name) (BareExpr Name) limits_bared node_bared expr_bared (λ n pos note r. refl)
 
 -- what a part is without its notes, beside what it leaves

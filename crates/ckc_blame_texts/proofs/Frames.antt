@@ -125,7 +125,7 @@ variables_moved h body =
     (IsPermutation-append (variables_declared h.params) (variables_declared h.params) (variables_declared (path body).declared) (locals_of body)
     (IsPermutation-refl (variables_declared h.params)) (stmt_declares body).is.variables)
 
-variables_have : (h : NotedHead) (body : NotedStmt) → AreLocals 0 (names_declared (all_of h body)) → All (HasType (types_declared (all_of h body))) (variables_of h body)
+pub variables_have : (h : NotedHead) (body : NotedStmt) → AreLocals 0 (names_declared (all_of h body)) → All (HasType (types_declared (all_of h body))) (variables_of h body)
 variables_have h body n =
     all_moved (HasType (types_declared (all_of h body))) (variables_declared (all_of h body)) (variables_of h body) (variables_moved h body) (declared_have [] (all_of h body) n)
 
@@ -161,7 +161,7 @@ local_named name.Getchar k e = absurd cc
 local_named name.Putchar k e = absurd cc
 
 -- the type of a local that is named is that at its number
-named_type : (globals : Globals) (h : NotedHead) (body : NotedStmt) (k : ℕ) (t : CType) → AreLocals 0 (names_declared (all_of h body)) → All IsStaticNamed globals.objects
+pub named_type : (globals : Globals) (h : NotedHead) (body : NotedStmt) (k : ℕ) (t : CType) → AreLocals 0 (names_declared (all_of h body)) → All IsStaticNamed globals.objects
     → type_of_name globals (variables_of h body) (name.Local k) ≡ Some t → slice_get (types_declared (all_of h body)) k ≡ Some t
 named_type globals h body k t n os e = by (variable_named (variables_of h body) (name.Local k)) refl (object_named globals (name.Local k)) refl e
   where
@@ -173,7 +173,7 @@ named_type globals h body k t n os e = by (variable_named (variables_of h body) 
     by None is (Some o) there f = absurd (no_object globals.objects k o os there)
     by None is None there f = absurd cc
 
-statics_named : (p : Typed) → IsJudged p → All IsStaticNamed (globals_in p).objects
+pub statics_named : (p : Typed) → IsJudged p → All IsStaticNamed (globals_in p).objects
 statics_named p j =
     subst (λ (t : Tree). All IsStaticNamed (objects_of t.items)) (sym (tree_named p j))
     (objects_named (names_of j.spelled) j.spelled.items no_names j.spelled.items j.named.tree.items (text_is j.spelled j.named j.has_names).items)

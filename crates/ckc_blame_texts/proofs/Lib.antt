@@ -9,6 +9,7 @@ pub mod Functions
 pub mod Frames
 pub mod Sizes
 pub mod Every
+pub mod Amounts
 pub mod Typed
 pub mod Lists
 pub mod Accesses

@@ -1,6 +1,6 @@
 -- What statements with parts leave, and that their code is judged if that of their parts is.
 use Rattle.std.proofs.Common.{◌≡◌, inl, inr, refl, sym, ap, subst, ◌∙◌, ℕ, Bool, true, false, List, [], ◌++◌, length, take, append-nil, append_assoc, rules}
-use Rattle.std.specs.Prelude.{◌||◌, ◌+◌, not, Option, None, Some, Ok}
+use Rattle.std.specs.Prelude.{◌&&◌, ◌||◌, ◌+◌, not, Option, None, Some, Ok}
 use Rattle.std.specs.List.{Contains}
 use Rattle.std.proofs.Math.Seq.{take-append_seam}
 use Rattle.std.proofs.lemmas.List.Elements.{Contains-append_left}
@@ -13,7 +13,7 @@ use Rattle.ckc_syntax.specs.declared.tree.Act.{Act-F, map-Act, out-Act, roll-Act
 use Rattle.ckc_syntax.specs.declared.tree.Act.TheVariants as act
 use Rattle.ckc_syntax.specs.declared.tree.Stmt.{fold-roll-Stmt}
 use Rattle.ckc_typed.specs.declared.typed.Note.{Note}
-use Rattle.ckc_typed.specs.Trees.{NotedAct, NotedExpr, NotedStmt}
+use Rattle.ckc_typed.specs.Trees.{NotedAct, NotedDecl, NotedExpr, NotedStmt}
 use Rattle.ckc_bounds_known.proofs.Reaching.{and_cases}
 use Rattle.ckc_bounds_points.specs.Flow.{joined}
 use Rattle.ckc_bounds_statements.specs.Paths.{Here, value_judged, side_of, Path, stated, part_judged, if_judged}
@@ -36,6 +36,11 @@ use Rattle.ckc_blame_walk.proofs.Onward.{Onward, IsOn, onward_none, onward_throu
 use Rattle.ckc_blame_walk.proofs.Pieces.{Gives, through, nested, given, Moved, value_moves}
 use Rattle.ckc_blame_walk.proofs.Codes.{goes_nowhere, goes_through, IsCode, closed_code}
 use Rattle.ckc_blame_walk.proofs.Exits.{may_first, may_second, may_adding}
+use Rattle.ckc_blame_scopes.specs.Scopes.{tests_of, items_of}
+use Rattle.ckc_blame_scopes.proofs.Standing.{Scope, Fits, Stands, Leads, leads_quiet, next_front, next_back, leads_both}
+use Rattle.ckc_blame_scopes.proofs.Steps.{test_stands}
+use Rattle.ckc_typed_fit.specs.Tests.{Walked, act_walked, expr_passes, left_by_part, part_passes}
+use Rattle.ckc_typed_welltyped.specs.Noteless.{bare_expr}
 
 -- ---- what is in scope
 
@@ -75,6 +80,16 @@ breaks_if = inside_if one_has (λ (v : Path). v.breaks)
 abbrev pub continues_if : Option Path → Bool
 continues_if = inside_if one_has (λ (v : Path). v.continues)
 
+abbrev pub declared_if : Option Path → List NotedDecl
+declared_if = inside_if listed (λ (v : Path). v.declared)
+
+-- what a statement leaves visible and declares, and the same of one that may be left out
+abbrev pub own_of : Walked → Path → Scope
+own_of w path = record { walked = w; declared = path.declared }
+
+abbrev pub own_if : Option Walked → Option Path → Scope
+own_if w path = record { walked = record { leaves = left_by_part w; passes = part_passes w }; declared = declared_if path }
+
 abbrev pub fine_if : Option Nesting → Bool
 fine_if None = true
 fine_if (Some s) = s.fine
@@ -85,40 +100,43 @@ is_plain_if (Some s) = s.declares || s.assigns
 
 module _ (s : Setting) (Claimed : Type 0) where
   -- what a judged statement leaves, and that its code leads there
-  pub record Next (ks : List ℕ) (nest : Nesting) (left turned : Bool) (here : Here) (p : NotedStmt × Here) : Type 0 where
+  pub record Next (ks : List ℕ) (nest : Nesting) (own : Scope) (left turned : Bool) (here : Here) (p : NotedStmt × Here) : Type 0 where
     pub extends : Extends here.seen p.1.seen
     pub same : nest.declares ≡ false → p.1.seen ≡ here.seen
     pub onward : Onward here p.1
     pub stays : Stays s.frame ks here.at p.1.at
-    pub code : IsOn s Claimed here → AreTame s.frame here.at.facts → (k : ℕ) (exits : Exits) → MayLeave s.frame ks left turned here exits
+    pub leads : Leads s own here.seen p.1.seen
+    pub code : Stands s own here.seen → IsOn s Claimed here → AreTame s.frame here.at.facts → (k : ℕ) (exits : Exits) → MayLeave s.frame ks left turned here exits
         → IsCode s (stmt_elaborated s.text s.variables s.result k p.0) exits here p.1
 
   -- the same of a statement that may be left out
-  pub record NextIf (ks : List ℕ) (nest : Option Nesting) (left turned : Bool) (here : Here) (p : Option NotedStmt × Here) : Type 0 where
+  pub record NextIf (ks : List ℕ) (nest : Option Nesting) (own : Scope) (left turned : Bool) (here : Here) (p : Option NotedStmt × Here) : Type 0 where
     pub extends : Extends here.seen p.1.seen
     pub same : is_branch_if nest ≡ true → p.1.seen ≡ here.seen
     pub onward : Onward here p.1
     pub stays : Stays s.frame ks here.at p.1.at
-    pub code : IsOn s Claimed here → AreTame s.frame here.at.facts → (k : ℕ) (exits : Exits) → MayLeave s.frame ks left turned here exits
+    pub leads : Leads s own here.seen p.1.seen
+    pub code : Stands s own here.seen → IsOn s Claimed here → AreTame s.frame here.at.facts → (k : ℕ) (exits : Exits) → MayLeave s.frame ks left turned here exits
         → IsCode s (code_if (part_if p.0) s.text s.variables s.result k) exits here p.1
 
-  pub record Whole (path : Path) (nest : Nesting) : Type 0 where
-    pub judged : nest.fine ≡ true → (here : Here) → Gives (Next path.assigned nest path.breaks path.continues here) (path.judged s.frame s.head here)
+  pub record Whole (path : Path) (nest : Nesting) (w : Walked) : Type 0 where
+    pub judged : nest.fine ≡ true → (here : Here) → Gives (Next path.assigned nest (own_of w path) path.breaks path.continues here) (path.judged s.frame s.head here)
     pub plain : (nest.declares || nest.assigns) ≡ true → (path.breaks ≡ false) × (path.continues ≡ false)
 
-  pub record WholeIf (path : Option Path) (nest : Option Nesting) : Type 0 where
+  pub record WholeIf (path : Option Path) (nest : Option Nesting) (w : Option Walked) : Type 0 where
     pub judged : fine_if nest ≡ true → (here : Here)
-        → Gives (NextIf (assigned_if path) nest (breaks_if path) (continues_if path) here) (part_judged s.frame s.head path here)
+        → Gives (NextIf (assigned_if path) nest (own_if w path) (breaks_if path) (continues_if path) here) (part_judged s.frame s.head path here)
     pub plain : is_plain_if nest ≡ true → (breaks_if path ≡ false) × (continues_if path ≡ false)
 
-  pub whole_none : WholeIf None None
+  pub whole_none : WholeIf None None None
   whole_none = record {
-    judged = λ fine here. given (NextIf [] None false false here) (None, here) (record {
+    judged = λ fine here. given (NextIf [] None (own_if None None) false false here) (None, here) (record {
       extends = extends_none here.seen here.seen refl;
       same = λ e. refl;
       onward = onward_none here;
       stays = stays_none s.frame [] here.at;
-      code = λ on tame k exits may. inl (refl, refl);
+      leads = leads_quiet s (own_if None None) here.seen here.seen refl refl;
+      code = λ stands on tame k exits may. inl (refl, refl);
     });
     plain = λ e. (refl, refl);
   }
@@ -127,17 +145,21 @@ module _ (s : Setting) (Claimed : Type 0) where
   is_false true e = absurd (cc)
   is_false false e = refl
 
-  pub whole_some : (path : Path) (nest : Nesting) → Whole path nest → WholeIf (Some path) (Some nest)
-  whole_some path nest w = record {
+  same_fits : (v : Walked) (path : Path) (visible : List Name) (next : ℕ) → Fits s (own_if (Some v) (Some path)) visible next → Fits s (own_of v path) visible next
+  same_fits v path visible next f = record { passes = f.passes; declares = f.declares }
+
+  pub whole_some : (path : Path) (nest : Nesting) (v : Walked) → Whole path nest v → WholeIf (Some path) (Some nest) (Some v)
+  whole_some path nest v w = record {
     judged = λ fine here.
-        through (NextIf path.assigned (Some nest) path.breaks path.continues here) (path.judged s.frame s.head here) (λ p. Ok (Some p.0, p.1)) (λ p is.
-        let n : Next path.assigned nest path.breaks path.continues here p = (w.judged fine here).made p is in
-        given (NextIf path.assigned (Some nest) path.breaks path.continues here) (Some p.0, p.1) (record {
+        through (NextIf path.assigned (Some nest) (own_if (Some v) (Some path)) path.breaks path.continues here) (path.judged s.frame s.head here) (λ p. Ok (Some p.0, p.1)) (λ p is.
+        let n : Next path.assigned nest (own_of v path) path.breaks path.continues here p = (w.judged fine here).made p is in
+        given (NextIf path.assigned (Some nest) (own_if (Some v) (Some path)) path.breaks path.continues here) (Some p.0, p.1) (record {
           extends = n.extends;
           same = λ e. n.same (is_false nest.declares (and_cases nest.fine (not nest.declares) e).1);
           onward = n.onward;
           stays = n.stays;
-          code = n.code;
+          leads = λ visible next f. n.leads visible next (same_fits v path visible next f);
+          code = λ st. n.code (record { visible = st.visible; next = st.next; scope = st.scope; fits = same_fits v path st.visible st.next st.fits });
         }));
     plain = w.plain;
   }
@@ -166,13 +188,37 @@ module _ (s : Setting) (Claimed : Type 0) where
 
   -- ---- an `if`
 
-  module _ (at : Pos) (note : Note) (e : NotedExpr) (path : Path) (nest : Nesting) (w : Whole path nest) (path2 : Option Path) (nest2 : Option Nesting) (w2 : WholeIf path2 nest2)
-      (one_branch : is_branch nest ≡ true) (other_branch : is_branch_if nest2 ≡ true) (inside : Claimed → IsTestInBody s (Some e)) (mine : Nesting) (here : Here) where
+  module _ (at : Pos) (note : Note) (e : NotedExpr) (path : Path) (nest : Nesting) (walk : Walked) (w : Whole path nest walk) (path2 : Option Path) (nest2 : Option Nesting) (walk2 : Option Walked) (w2 : WholeIf path2 nest2 walk2)
+      (one_branch : is_branch nest ≡ true) (other_branch : is_branch_if nest2 ≡ true) (inside : Claimed → IsTestInBody s note.mode (Some e)) (mine : Nesting) (here : Here) where
     abbrev ks : List ℕ
     ks = path.assigned
 
     abbrev js : List ℕ
     js = assigned_if path2
+
+    abbrev one_own : Scope
+    one_own = own_of walk path
+
+    abbrev two_own : Scope
+    two_own = own_if walk2 path2
+
+    abbrev if_own : Scope
+    if_own = record { walked = act_walked (tests_of (items_of s)) (Act-F.If (bare_expr e) walk walk2); declared = path.declared ++ declared_if path2 }
+
+    record IfFits (visible : List Name) (next : ℕ) : Type 0 where
+      pub test : expr_passes (tests_of (items_of s)) visible (bare_expr e) ≡ true
+      pub first : Fits s one_own visible next
+      pub second : Fits s two_own (visible ++ walk.leaves) (next + length path.declared)
+
+    if_fits : (visible : List Name) (next : ℕ) → Fits s if_own visible next → IfFits visible next
+    if_fits visible next f =
+        let p = and_cases (expr_passes (tests_of (items_of s)) visible (bare_expr e)) (walk.passes visible && part_passes walk2 (visible ++ walk.leaves)) f.passes in
+        let q = and_cases (walk.passes visible) (part_passes walk2 (visible ++ walk.leaves)) p.1 in
+        record {
+          test = p.0;
+          first = record { passes = q.0; declares = next_front s path.declared (declared_if path2) next f.declares };
+          second = record { passes = q.1; declares = next_back s path.declared (declared_if path2) next f.declares };
+        }
 
     module _ (v : NotedExpr × Here) (is : value_judged s.frame e here ≡ Ok v) where
       moved : Moved here v.1
@@ -188,9 +234,10 @@ module _ (s : Setting) (Claimed : Type 0) where
       unfolding side_of
       adds b = subst (λ a. Adds s.frame a (side_of s.frame b v.0 v.1.at)) moved.at (side_adds s.frame v.0 b v.1.at)
 
-      if_condition : (k : ℕ) → IsOn s Claimed here → AreNamed s.frame here.at.facts → IsCondition s here (expr_elaborated s.text s.variables k v.0) yes no
-      if_condition k on named = record {
+      if_condition : (k : ℕ) → Stands s if_own here.seen → IsOn s Claimed here → AreNamed s.frame here.at.facts → IsCondition s note.mode here (expr_elaborated s.text s.variables k v.0) yes no
+      if_condition k st on named = record {
         inside = inside on.claimed;
+        scope = test_stands s (Some e) st.visible st.next here.seen if_own.declared st.scope st.fits.declares (if_fits st.visible st.next st.fits).test;
         fresh = on.fresh;
         counting = on.counts;
         named = named;
@@ -204,19 +251,35 @@ module _ (s : Setting) (Claimed : Type 0) where
         false_side = refl;
       }
 
-      module _ (q : NotedStmt × Here) (first : Next ks nest path.breaks path.continues yes q) where
+      module _ (q : NotedStmt × Here) (first : Next ks nest one_own path.breaks path.continues yes q) where
         abbrev other : Here
         other = record q.1 { at = side_of s.frame false v.0 v.1.at }
 
         seen_first : q.1.seen ≡ here.seen
         seen_first = first.same (is_false nest.declares (and_cases nest.fine (not nest.declares) one_branch).1) ∙ moved.seen
 
-        module _ (r : Option NotedStmt × Here) (second : NextIf js nest2 (breaks_if path2) (continues_if path2) other r) where
+        module _ (r : Option NotedStmt × Here) (second : NextIf js nest2 two_own (breaks_if path2) (continues_if path2) other r) where
           abbrev there : Here
           there = record r.1 { at = joined q.1.at r.1.at }
 
           seen_second : r.1.seen ≡ q.1.seen
           seen_second = second.same other_branch
+
+          first_leads : Leads s one_own here.seen q.1.seen
+          first_leads = subst (λ l. Leads s one_own l q.1.seen) moved.seen first.leads
+
+          if_leads : Leads s if_own here.seen there.seen
+          if_leads visible next f w =
+              let g = if_fits visible next f in
+              leads_both s one_own two_own here.seen q.1.seen r.1.seen first_leads second.leads visible next g.first g.second w
+
+          one_stands : Stands s if_own here.seen → Stands s one_own yes.seen
+          one_stands st = subst (Stands s one_own) (sym moved.seen) (record { visible = st.visible; next = st.next; scope = st.scope; fits = (if_fits st.visible st.next st.fits).first })
+
+          two_stands : Stands s if_own here.seen → Stands s two_own other.seen
+          two_stands st =
+              let g = if_fits st.visible st.next st.fits in
+              record { visible = st.visible ++ walk.leaves; next = st.next + length path.declared; scope = first_leads st.visible st.next g.first st.scope; fits = g.second }
 
           if_stays : Stays s.frame (ks ++ js) here.at (joined q.1.at r.1.at)
           if_stays =
@@ -224,7 +287,7 @@ module _ (s : Setting) (Claimed : Type 0) where
               (stays_front s.frame ks js here.at q.1.at (stays_through s.frame [] ks here.at yes.at q.1.at (stays_adding s.frame here.at yes.at (adds true)) first.stays))
               (stays_back s.frame ks js here.at r.1.at (stays_through s.frame [] js here.at other.at r.1.at (stays_adding s.frame here.at other.at (adds false)) second.stays))
 
-          module _ (on : IsOn s Claimed here) (tame : AreTame s.frame here.at.facts) (k : ℕ) (exits : Exits)
+          module _ (st : Stands s if_own here.seen) (on : IsOn s Claimed here) (tame : AreTame s.frame here.at.facts) (k : ℕ) (exits : Exits)
               (may : MayLeave s.frame (ks ++ js) (path.breaks || breaks_if path2) (path.continues || continues_if path2) here exits) (next : Here) (rest : Code)
               (goes : GoesTo s.frame there next) (behind : Judged s rest exits next) where
             abbrev branches : Branches
@@ -251,35 +314,36 @@ module _ (s : Setting) (Claimed : Type 0) where
             unfolding Judged
             if_judged_code = (
               branches,
-              if_condition k on tame.1,
+              if_condition k st on tame.1,
               closed_code s (stmt_elaborated s.text s.variables s.result (k + literals_of v.0) q.0) (ending exits next) yes q.1 one_ends
-                  (first.code (on_there s here yes moved.onward on) (tame_adding s.frame here.at yes.at (adds true) tame) (k + literals_of v.0) (ending exits next) one_may),
+                  (first.code (one_stands st) (on_there s here yes moved.onward on) (tame_adding s.frame here.at yes.at (adds true) tame) (k + literals_of v.0) (ending exits next) one_may),
               record { known = λ reached. (goes_nowhere no).known reached; seen = λ k c. same_has no.seen q.1.seen (seen_first ∙ sym moved.seen) k c },
               closed_code s (code_if (part_if r.0) s.text s.variables s.result (k + literals_of v.0 + (part_of q.0).literals)) (ending exits next) other r.1 two_ends
-                  (second.code (on_there s here other (onward_through here yes other moved.onward first.onward) on) (tame_adding s.frame here.at other.at (adds false) tame) (k + literals_of v.0 + (part_of q.0).literals) (ending exits next) two_may),
+                  (second.code (two_stands st) (on_there s here other (onward_through here yes other moved.onward first.onward) on) (tame_adding s.frame here.at other.at (adds false) tame) (k + literals_of v.0 + (part_of q.0).literals) (ending exits next) two_may),
               behind,
             )
 
-          if_next : Next (ks ++ js) mine (path.breaks || breaks_if path2) (path.continues || continues_if path2) here (stated at note (act.If v.0 q.0 r.0), there)
+          if_next : Next (ks ++ js) mine if_own (path.breaks || breaks_if path2) (path.continues || continues_if path2) here (stated at note (act.If v.0 q.0 r.0), there)
           if_next = record {
             extends = extends_none here.seen r.1.seen (seen_second ∙ seen_first);
             same = λ d. seen_second ∙ seen_first;
             onward = onward_through here other there (onward_through here yes other moved.onward first.onward) second.onward;
             stays = if_stays;
-            code = λ on tame k exits may. inr (λ next rest goes behind.
+            leads = if_leads;
+            code = λ st on tame k exits may. inr (λ next rest goes behind.
                 subst (λ fs. Judged s (chained fs rest) exits here)
                 (sym (code_is at note (Act-F.If v.0 q.0 r.0) (act.If v.0 q.0 r.0) k (act.rolls-If v.0 q.0 r.0) ∙ if_code at note.mode v.0 q.0 r.0 k))
-                (if_judged_code on tame k exits may next rest goes behind));
+                (if_judged_code st on tame k exits may next rest goes behind));
           }
 
-    pub if_gives : Gives (Next (ks ++ js) mine (path.breaks || breaks_if path2) (path.continues || continues_if path2) here) (if_judged s.frame s.head at note e path path2 here)
+    pub if_gives : Gives (Next (ks ++ js) mine if_own (path.breaks || breaks_if path2) (path.continues || continues_if path2) here) (if_judged s.frame s.head at note e path path2 here)
     if_gives =
-        nested (Next (ks ++ js) mine (path.breaks || breaks_if path2) (path.continues || continues_if path2) here) (value_judged s.frame e here) _ _ (λ v is.
-        through (Next (ks ++ js) mine (path.breaks || breaks_if path2) (path.continues || continues_if path2) here) (path.judged s.frame s.head (yes v is)) _ (λ q one_is.
-        through (Next (ks ++ js) mine (path.breaks || breaks_if path2) (path.continues || continues_if path2) here) (part_judged s.frame s.head path2 (record q.1 { at = side_of s.frame false v.0 v.1.at })) _ (λ r two_is.
-        let first : Next ks nest path.breaks path.continues (yes v is) q = (w.judged (and_cases nest.fine (not nest.declares) one_branch).0 (yes v is)).made q one_is in
+        nested (Next (ks ++ js) mine if_own (path.breaks || breaks_if path2) (path.continues || continues_if path2) here) (value_judged s.frame e here) _ _ (λ v is.
+        through (Next (ks ++ js) mine if_own (path.breaks || breaks_if path2) (path.continues || continues_if path2) here) (path.judged s.frame s.head (yes v is)) _ (λ q one_is.
+        through (Next (ks ++ js) mine if_own (path.breaks || breaks_if path2) (path.continues || continues_if path2) here) (part_judged s.frame s.head path2 (record q.1 { at = side_of s.frame false v.0 v.1.at })) _ (λ r two_is.
+        let first : Next ks nest one_own path.breaks path.continues (yes v is) q = (w.judged (and_cases nest.fine (not nest.declares) one_branch).0 (yes v is)).made q one_is in
         let second = (w2.judged (branch_fine nest2 other_branch) (record q.1 { at = side_of s.frame false v.0 v.1.at })).made r two_is in
-        given (Next (ks ++ js) mine (path.breaks || breaks_if path2) (path.continues || continues_if path2) here)
+        given (Next (ks ++ js) mine if_own (path.breaks || breaks_if path2) (path.continues || continues_if path2) here)
         (stated at note (act.If v.0 q.0 r.0), record r.1 { at = joined q.1.at r.1.at }) (if_next v is q first r second))))
       where
         branch_fine : (n : Option Nesting) → is_branch_if n ≡ true → fine_if n ≡ true

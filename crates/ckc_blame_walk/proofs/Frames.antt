@@ -13,7 +13,7 @@ use Rattle.ckc_bounds_points.specs.declared.frame.HeadBounds.{HeadBounds}
 use Rattle.ckc_bounds_points.specs.declared.frame.Frame.{Frame}
 use Rattle.ckc_bounds_statements.specs.Paths.{Here, path}
 use Rattle.ckc_bounds.specs.Declarations.{local_made, with_all, with_locals, types_in, declared_in, head_bounds}
-use Rattle.ckc_bounds.specs.Frames.{all_of, begin_in, begin_of, needed_from, fresh_needed, with_nameless, locals_frame, first_fresh, function_frame}
+use Rattle.ckc_bounds.specs.Frames.{name_seen, all_of, begin_in, begin_of, needed_from, fresh_needed, with_nameless, locals_frame, first_fresh, function_frame}
 use Rattle.ckc_bounds.specs.Texts.{body_judged}
 use Rattle.ckc_source.specs.Code.{Code, Function}
 use Rattle.ckc_build_elaborate.specs.Functions.{literals_of_head}
@@ -24,7 +24,7 @@ use Rattle.ckc_blame_sound.specs.Judged.{Judged}
 use Rattle.ckc_blame_texts.specs.Judged.{IsJudged, IsBodyJudged, globals_in}
 use Rattle.ckc_blame_texts.proofs.Bodies.{bodies_are_typed, declared_known}
 use Rattle.ckc_blame_texts.proofs.Frames.{variables_moved}
-use Rattle.ckc_blame_texts.proofs.Locals.{variables_declared}
+use Rattle.ckc_blame_texts.proofs.Locals.{names_declared, variables_declared}
 use Rattle.ckc_blame_nested.specs.Nested.{AreNested}
 use Rattle.ckc_blame_walk.specs.Walks.{leaving}
 use Rattle.ckc_blame_walk.proofs.Twins.{Agree, SameHere, bare, Twin}
@@ -32,6 +32,11 @@ use Rattle.ckc_blame_walk.proofs.Acts.{bare_both}
 use Rattle.ckc_blame_walk.proofs.Again.{stmt_again}
 use Rattle.ckc_blame_walk.proofs.Texts.{SameText, text_same}
 use Rattle.ckc_blame_walk.proofs.Functions.{function_goes}
+use Rattle.ckc_blame_scopes.specs.Scopes.{IsScoped}
+use Rattle.ckc_blame_scopes.proofs.Bodies.{body_scoped}
+use Rattle.ckc_blame_texts.specs.Numbered.{AreLocals}
+use Rattle.ckc_blame_texts.proofs.Functions.{numbered}
+use Rattle.std.specs.List.{flat_map}
 
 -- ---- a frame reads no initialiser
 
@@ -93,6 +98,14 @@ body_twin frame h before after judged =
 
 -- ---- the body of a function of a judged text
 
+-- what is declared has the same names
+names_same : (ds es : List NotedDecl) → map bare ds ≡ map bare es → names_declared ds ≡ names_declared es
+names_same ds es e = sym (names_bare ds) ∙ ap names_declared e ∙ names_bare es
+  where
+    names_bare : (ds : List NotedDecl) → names_declared (map bare ds) ≡ names_declared ds
+    names_bare [] = refl
+    names_bare (d ∷ ds) = ap (λ ns. d.name ∷ ns) (names_bare ds)
+
 -- there are as many variables as declarations
 variables_counted : (h : NotedHead) (body : NotedStmt) → first_fresh h body ≡ length (variables_of h body)
 variables_counted h body =
@@ -101,7 +114,7 @@ variables_counted h body =
 
 setting_inside : (p : Typed) (j : IsJudged p) (h : NotedHead) (body : NotedStmt) (b : IsBodyJudged (globals_in p) j.typed h body) → IsInBody (setting_of p h body) b.before
 unfolding setting_of
-setting_inside p j h body b = record { mode = b.mode; looped = false; typed = b.fits; known = declared_known (globals_in p) j.typed h body b; words = λ w. w j.typed h b.before j.has_bounds b.there }
+setting_inside p j h body b = record { mode = b.mode; looped = false; typed = b.fits; known = declared_known (globals_in p) j.typed h body b; words = λ w. w j.typed h b.before j.has_bounds b.there; safe = λ w. w j.typed h b.before j.has_bounds b.there }
 
 setting_fresh : (p : Typed) (h : NotedHead) (body : NotedStmt) → IsNextFresh (setting_of p h body) (first_fresh h body)
 unfolding setting_of
@@ -125,11 +138,16 @@ text_goes p s f j fine is =
     subst (IsNextFresh s) firsts (subst (λ x. IsNextFresh x (first_fresh is.head is.body)) (sym is.judged) (setting_fresh p is.head is.body)) in
     let frame_is : s.frame ≡ function_frame (frame_of_text p) is.head b.before =
     ap (λ (x : Setting). x.frame) is.judged ∙ frame_same (frame_of_text p) is.head is.body b.before twin in
+    let numbers : AreLocals 0 (names_declared (all_of is.head b.before)) =
+    subst (AreLocals 0) (names_same (all_of is.head is.body) (all_of is.head b.before) (declared_bare (frame_of_text p) is.head is.body b.before twin)) (numbered p is.head is.body j is.there) in
+    let many : length s.variables ≡ first_fresh is.head b.before = ap (λ (x : Setting). length x.variables) is.judged ∙ sym (variables_counted is.head is.body) ∙ firsts in
+    let text : s.text ≡ p = ap (λ (x : Setting). x.text) is.judged in
+    let scoped : IsScoped s b.before (flat_map name_seen is.head.params) = body_scoped p j s (frame_of_text p) is.head b.before b.there text frame_is many numbers in
     let head_is : s.head ≡ head_bounds (frame_of_text p) is.head = ap (λ (x : Setting). x.head) is.judged in
     let k : ℕ = is.literals + literals_of_head is.head in
     let code : alone (stmt_elaborated s.text s.variables s.result k is.body) ≡ f.body =
     ap (λ (x : Setting). alone (stmt_elaborated x.text x.variables x.result k is.body)) is.judged ∙ sym (ap (λ (x : Function). x.body) is.runs) in
-    let h = function_goes s (frame_of_text p) is.head b.before is.body k (fine is.head b.before b.there) inside fresh frame_is head_is judged in
+    let h = function_goes s (frame_of_text p) is.head b.before is.body k (fine is.head b.before b.there) inside fresh scoped frame_is head_is judged in
     subst (λ (c : Code). Judged s c leaving (begin_in s.frame false is.head (first_fresh is.head is.body))) code
     (subst (λ n. Judged s (alone (stmt_elaborated s.text s.variables s.result k is.body)) leaving (begin_in s.frame false is.head n))
     (sym firsts) h)

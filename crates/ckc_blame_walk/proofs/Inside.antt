@@ -1,5 +1,5 @@
 -- The parts of a statement in the body of a function stand there too.
-use Rattle.std.proofs.Common.{◌≡◌, refl, ap, subst, ◌∙◌, Bool, true, List, [], ◌∷◌, ◌++◌, map, arith, rules}
+use Rattle.std.proofs.Common.{◌≡◌, refl, sym, ap, subst, ◌∙◌, Bool, true, List, [], ◌∷◌, ◌++◌, map, arith, rules}
 use Rattle.std.specs.Prelude.{Option, None, Some, unwrap_or, IfSome}
 use Rattle.std.specs.List.{AllByRecursion, Contains}
 use Rattle.std.proofs.lemmas.List.Elements.{Contains-append_left, Contains-append_right}
@@ -13,12 +13,13 @@ use Rattle.ckc_typed.specs.declared.typed.Note.{Note}
 use Rattle.ckc_typed.specs.Environment.{variable_declared}
 use Rattle.ckc_typed.specs.Trees.{NotedAct, NotedDecl, NotedExpr, NotedStmt}
 use Rattle.ckc_typed_welltyped.specs.Statements as rows
-use Rattle.ckc_typed_welltyped.specs.Statements.{act_rows, WellTypedStmt}
+use Rattle.ckc_typed_welltyped.specs.Statements.{act_rows, mode_in_form, WellTypedStmt}
 use Rattle.ckc_typed_welltyped.specs.Parts.{StmtByParts}
 use Rattle.ckc_typed_welltyped.proofs.ByParts.{stmt_by_parts}
 use Rattle.ckc_bounds_statements.specs.Paths.{Path, ActPath, act_declared, act_path, stmt_path, path_of_act, path, stated}
 use Rattle.ckc_blame_sound.specs.Settings.{Setting}
 use Rattle.ckc_blame_sound.specs.Words.{HasWords, exprs_of_act, exprs_in, HaveWords}
+use Rattle.ckc_blame_sound.specs.Safe.{IsSafe, AreSafe}
 use Rattle.ckc_blame_sound.specs.Bodies.{globals_of_text, IsInBody, IsTestInBody}
 use Rattle.ckc_blame_sound.proofs.Words.{exprs_inside, exprs_rolled}
 
@@ -38,35 +39,38 @@ act_out x = search (rules, the_lemmas)
 
 module _ (s : Setting) where
   -- what is so of the parts
-  abbrev pub PartsInBody : Layer → Type 0
-  PartsInBody (Act-F.Block m ss) = AllByRecursion (IsInBody s) ss
-  PartsInBody (Act-F.If e u t) = IsTestInBody s (Some e) × IsInBody s u × IfSome t (IsInBody s)
-  PartsInBody (Act-F.While e u) = IsTestInBody s (Some e) × IsInBody s u
-  PartsInBody (Act-F.For u e t b) = IfSome u (IsInBody s) × IsTestInBody s e × IfSome t (IsInBody s) × IsInBody s b
-  PartsInBody a = Unit {0}
+  abbrev pub PartsInBody : Mode → Layer → Type 0
+  PartsInBody mode (Act-F.Block m ss) = AllByRecursion (IsInBody s) ss
+  PartsInBody mode (Act-F.If e u t) = IsTestInBody s mode (Some e) × IsInBody s u × IfSome t (IsInBody s)
+  PartsInBody mode (Act-F.While e u) = IsTestInBody s mode (Some e) × IsInBody s u
+  PartsInBody mode (Act-F.For u e t b) = IfSome u (IsInBody s) × IsTestInBody s mode e × IfSome t (IsInBody s) × IsInBody s b
+  PartsInBody mode a = Unit {0}
 
-  -- What is declared in a part is among the variables, and the literals of its expressions are words.
+  -- What is declared in a part is among the variables, the literals of its expressions are words, and they are safe.
   record Own (ds : List NotedDecl) (es : List NotedExpr) : Type 0 where
     pub known : (d : NotedDecl) → Contains ds d → Contains s.variables (variable_declared d)
     pub words : HaveWords s.text → (e : NotedExpr) → Contains es e → HasWords e
+    pub safe : AreSafe s.text → (e : NotedExpr) → Contains es e → IsSafe e
 
   front : (ds cs : List NotedDecl) (es fs : List NotedExpr) → Own (ds ++ cs) (es ++ fs) → Own ds es
   front ds cs es fs h = record {
     known = λ d c. h.known d (Contains-append_left ds cs d c);
     words = λ w e c. h.words w e (Contains-append_left es fs e c);
+    safe = λ w e c. h.safe w e (Contains-append_left es fs e c);
   }
 
   back : (ds cs : List NotedDecl) (es fs : List NotedExpr) → Own (ds ++ cs) (es ++ fs) → Own cs fs
   back ds cs es fs h = record {
     known = λ d c. h.known d (Contains-append_right ds cs d c);
     words = λ w e c. h.words w e (Contains-append_right es fs e c);
+    safe = λ w e c. h.safe w e (Contains-append_right es fs e c);
   }
 
   abbrev Fits : NotedStmt → Mode → Bool → Type 0
   Fits = WellTypedStmt (globals_of_text s.text) s.variables s.result
 
   own : (st : NotedStmt) (m : Mode) (l : Bool) → Fits st m l → Own (path st).declared (exprs_in st) → IsInBody s st
-  own st m l w k = record { mode = m; looped = l; typed = w; known = k.known; words = k.words }
+  own st m l w k = record { mode = m; looped = l; typed = w; known = k.known; words = k.words; safe = k.safe }
 
   abbrev declared_each : List NotedStmt → List NotedDecl
   declared_each ss = inside_each listed (λ (v : Path). v.declared) (map path ss)
@@ -87,13 +91,13 @@ module _ (s : Setting) where
   abbrev tests_in : Option NotedExpr → List NotedExpr
   tests_in e = inside_if listed (λ (f : NotedExpr). f ∷ []) e
 
-  test : (e : Option NotedExpr) (m : Mode) → IfSome e (rows.IsCondition (globals_of_text s.text) s.variables m) → Own (none_in e) (tests_in e) → IsTestInBody s e
-  test None m w k = record { mode = m; typed = w; words = λ h. tt }
-  test (Some e) m w k = record { mode = m; typed = w; words = λ h. k.words h e (0, omega arith, refl) }
+  test : (e : Option NotedExpr) (m : Mode) → IfSome e (rows.IsCondition (globals_of_text s.text) s.variables m) → Own (none_in e) (tests_in e) → IsTestInBody s m e
+  test None m w k = record { typed = w; words = λ h. tt; safe = λ h. tt }
+  test (Some e) m w k = record { typed = w; words = λ h. k.words h e (0, omega arith, refl); safe = λ h. k.safe h e (0, omega arith, refl) }
 
   -- a condition, and a statement after it
   tested : (e : NotedExpr) (u : NotedStmt) (m n : Mode) (l : Bool) → rows.IsCondition (globals_of_text s.text) s.variables m e → Fits u n l → Own (path u).declared (e ∷ exprs_in u)
-      → IsTestInBody s (Some e) × IsInBody s u
+      → IsTestInBody s m (Some e) × IsInBody s u
   tested e u m n l w v k = (test (Some e) m w (front [] (path u).declared (e ∷ []) (exprs_in u) k), own u n l v (back [] (path u).declared (e ∷ []) (exprs_in u) k))
 
   abbrev path_declared : Option NotedStmt → List NotedDecl
@@ -109,12 +113,12 @@ module _ (s : Setting) where
   maybe (Some u) m l w k = own u m l w k
 
   -- the parts of a `for`
-  abbrev ForParts : Option NotedStmt → Option NotedExpr → Option NotedStmt → NotedStmt → Type 0
-  ForParts u e t b = IfSome u (IsInBody s) × IsTestInBody s e × IfSome t (IsInBody s) × IsInBody s b
+  abbrev ForParts : Mode → Option NotedStmt → Option NotedExpr → Option NotedStmt → NotedStmt → Type 0
+  ForParts m u e t b = IfSome u (IsInBody s) × IsTestInBody s m e × IfSome t (IsInBody s) × IsInBody s b
 
   for_parts : (u : Option NotedStmt) (e : Option NotedExpr) (t : Option NotedStmt) (b : NotedStmt) (m : Mode) (l : Bool) → IfSome u (λ v. Fits v m l)
       → IfSome e (rows.IsCondition (globals_of_text s.text) s.variables m) → IfSome t (λ v. Fits v m l) → Fits b m true
-      → Own (path_declared u ++ (none_in e ++ ((path b).declared ++ path_declared t))) (exprs_there u ++ (tests_in e ++ (exprs_in b ++ exprs_there t))) → ForParts u e t b
+      → Own (path_declared u ++ (none_in e ++ ((path b).declared ++ path_declared t))) (exprs_there u ++ (tests_in e ++ (exprs_in b ++ exprs_there t))) → ForParts m u e t b
   for_parts u e t b m l wu we wt wb k =
       let ds : List NotedDecl = (path b).declared ++ path_declared t in
       let es : List NotedExpr = exprs_in b ++ exprs_there t in
@@ -126,7 +130,7 @@ module _ (s : Setting) where
         own b m true wb (front (path b).declared (path_declared t) (exprs_in b) (exprs_there t) last),
       )
 
-  parts : (x : Layer) (m : Mode) (l : Bool) → act_rows (globals_of_text s.text) s.variables s.result Fits x m l → Own (act_declared (act_inside x)) (exprs_of_act (exprs_inside x)) → PartsInBody x
+  parts : (x : Layer) (m : Mode) (l : Bool) → act_rows (globals_of_text s.text) s.variables s.result Fits x m l → Own (act_declared (act_inside x)) (exprs_of_act (exprs_inside x)) → PartsInBody m x
   parts (Act-F.Block n ss) m l w k = each ss (unwrap_or n m) l w k
   parts (Act-F.If e u None) m l w k =
       let p = tested e u m m l w.0 w.1 (front (path u).declared [] (e ∷ exprs_in u) [] k) in
@@ -149,13 +153,31 @@ module _ (s : Setting) where
   parts (Act-F.Check e) m l w k = tt
   parts (Act-F.Bundle ss) m l w k = tt
 
-  pub parts_inside : (at : Pos) (note : Note) (x : Layer) → IsInBody s (stated at note (roll-Act Name Note x)) → PartsInBody x
+  -- each part that is a condition stands in the mode that the statement notes
+  moded : (x : Layer) (m n : Mode) → n ≡ mode_in_form m x → PartsInBody m x → PartsInBody n x
+  moded (Act-F.If e u t) m n same h = subst (λ k. PartsInBody k (Act-F.If e u t)) (sym same) h
+  moded (Act-F.While e u) m n same h = subst (λ k. PartsInBody k (Act-F.While e u)) (sym same) h
+  moded (Act-F.For u e t b) m n same h = subst (λ k. PartsInBody k (Act-F.For u e t b)) (sym same) h
+  moded (Act-F.Block o ss) m n same h = h
+  moded Act-F.Empty m n same h = tt
+  moded (Act-F.Local d) m n same h = tt
+  moded (Act-F.Assign e f) m n same h = tt
+  moded (Act-F.Call e) m n same h = tt
+  moded (Act-F.Return e) m n same h = tt
+  moded Act-F.Break m n same h = tt
+  moded Act-F.Continue m n same h = tt
+  moded (Act-F.Check e) m n same h = tt
+  moded (Act-F.Bundle ss) m n same h = tt
+
+  pub parts_inside : (at : Pos) (note : Note) (x : Layer) → IsInBody s (stated at note (roll-Act Name Note x)) → PartsInBody note.mode x
   parts_inside at note x h =
       let st : NotedStmt = stated at note (roll-Act Name Note x) in
       let p : StmtByParts (globals_of_text s.text) s.variables s.result st h.mode h.looped = (stmt_by_parts (globals_of_text s.text) s.variables s.result st h.mode h.looped).0 h.typed in
-      parts x h.mode h.looped
+      moded x h.mode note.mode (ap (λ (n : Note). n.mode) p.noted ∙ ap (mode_in_form h.mode) (act_out x))
+      (parts x h.mode h.looped
       (subst (λ y. act_rows (globals_of_text s.text) s.variables s.result Fits y h.mode h.looped) (act_out x) p.row)
       (record {
         known = subst (λ ds. (d : NotedDecl) → Contains ds d → Contains s.variables (variable_declared d)) (declared_is at note x) h.known;
         words = λ w. subst (λ es. (e : NotedExpr) → Contains es e → HasWords e) (exprs_rolled at note x) (h.words w);
-      })
+        safe = λ w. subst (λ es. (e : NotedExpr) → Contains es e → IsSafe e) (exprs_rolled at note x) (h.safe w);
+      }))

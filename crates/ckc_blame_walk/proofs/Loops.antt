@@ -1,6 +1,6 @@
 -- What loops leave, and that their code is judged if that of their parts is.
-use Rattle.std.proofs.Common.{◌≡◌, inr, refl, sym, ap, subst, ◌∙◌, ℕ, Bool, true, false, List, [], ◌++◌, length, append-nil}
-use Rattle.std.specs.Prelude.{◌||◌, ◌+◌, not, Option, None, Some, Ok}
+use Rattle.std.proofs.Common.{◌≡◌, inr, refl, sym, ap, subst, ◌∙◌, ℕ, Bool, true, false, List, [], ◌++◌, length, append-nil, arith}
+use Rattle.std.specs.Prelude.{◌&&◌, ◌||◌, ◌+◌, not, Option, None, Some, Ok}
 use Rattle.std.specs.List.{Contains}
 use Rattle.ckc_base.specs.declared.places.Pos.{Pos}
 use Rattle.ckc_base.specs.declared.arithmetic.Mode.{Mode}
@@ -8,7 +8,7 @@ use Rattle.ckc_base.specs.Outcomes.{Outcome, bind}
 use Rattle.ckc_syntax.specs.declared.tree.Act.{Act-F}
 use Rattle.ckc_syntax.specs.declared.tree.Act.TheVariants as act
 use Rattle.ckc_typed.specs.declared.typed.Note.{Note}
-use Rattle.ckc_typed.specs.Trees.{NotedExpr, NotedStmt}
+use Rattle.ckc_typed.specs.Trees.{NotedDecl, NotedExpr, NotedStmt}
 use Rattle.ckc_bounds_known.proofs.Reaching.{and_cases}
 use Rattle.ckc_bounds_points.specs.declared.frame.Frame.{Frame}
 use Rattle.ckc_bounds_points.specs.Flow.{State}
@@ -32,7 +32,15 @@ use Rattle.ckc_blame_walk.proofs.Onward.{Onward, IsOn, onward_none, onward_throu
 use Rattle.ckc_blame_walk.proofs.Pieces.{Gives, through, nested, given, Moved, value_moves, maybe_moves}
 use Rattle.ckc_blame_walk.proofs.Codes.{goes_nowhere, goes_through, IsCode, both_code, closed_code}
 use Rattle.ckc_blame_walk.proofs.Exits.{known_before, left_back, exit_front, exit_after, exit_end, loop_left, may_not}
-use Rattle.ckc_blame_walk.proofs.Compound.{Extends, extends_none, extends_through, extended_has, extended_front, same_has, part_if, assigned_if, breaks_if, continues_if, fine_if, is_plain_if, Next, NextIf, Whole, WholeIf, is_false, part_act, code_is}
+use Rattle.ckc_blame_walk.proofs.Compound.{Extends, extends_none, extends_through, extended_has, extended_front, same_has, part_if, assigned_if, breaks_if, continues_if, fine_if, is_plain_if, declared_if, own_of, own_if, Next, NextIf, Whole, WholeIf, is_false, part_act, code_is}
+use Rattle.ckc_blame_scopes.specs.Scopes.{tests_of, items_of, IsScope, AreNext}
+use Rattle.ckc_blame_scopes.proofs.Standing.{Scope, Fits, Stands, Leads, scope_later, leads_quiet, next_front, next_back}
+use Rattle.ckc_blame_scopes.proofs.Steps.{test_stands}
+use Rattle.ckc_typed_fit.specs.Tests.{Walked, act_walked, expr_passes, value_passes, left_by_part, part_passes}
+use Rattle.ckc_typed_welltyped.specs.Noteless.{bare_expr}
+use Rattle.ckc_blame_sound.specs.Scopes.{IsTestInScope}
+use Rattle.ckc_syntax.specs.declared.tree.Name.{Name}
+use Rattle.std.specs.Option.{option_map}
 
 -- ---- the sides of a condition that may be left out
 
@@ -67,9 +75,24 @@ module _ (frame : Frame) where
 module _ (s : Setting) (Claimed : Type 0) where
   -- ---- a `while`
 
-  module _ (at : Pos) (note : Note) (e : NotedExpr) (path : Path) (nest : Nesting) (w : Whole s Claimed path nest) (branch : is_branch nest ≡ true) (inside : Claimed → IsTestInBody s (Some e)) (mine : Nesting) (left turned : Bool) (here : Here) where
+  module _ (at : Pos) (note : Note) (e : NotedExpr) (path : Path) (nest : Nesting) (walk : Walked) (w : Whole s Claimed path nest walk) (branch : is_branch nest ≡ true) (inside : Claimed → IsTestInBody s note.mode (Some e)) (mine : Nesting) (left turned : Bool) (here : Here) where
     abbrev ks : List ℕ
     ks = path.assigned
+
+    abbrev body_own : Scope
+    body_own = own_of walk path
+
+    abbrev while_own : Scope
+    while_own = record { walked = act_walked (tests_of (items_of s)) (Act-F.While (bare_expr e) walk); declared = path.declared }
+
+    while_test : (visible : List Name) (next : ℕ) → Fits s while_own visible next → expr_passes (tests_of (items_of s)) visible (bare_expr e) ≡ true
+    while_test visible next f = (and_cases (expr_passes (tests_of (items_of s)) visible (bare_expr e)) (walk.passes visible) f.passes).0
+
+    while_fits : (visible : List Name) (next : ℕ) → Fits s while_own visible next → Fits s body_own visible next
+    while_fits visible next f = record {
+      passes = (and_cases (expr_passes (tests_of (items_of s)) visible (bare_expr e)) (walk.passes visible) f.passes).1;
+      declares = f.declares;
+    }
 
     abbrev head : Here
     head = loop_head s.frame ks here
@@ -87,9 +110,10 @@ module _ (s : Setting) (Claimed : Type 0) where
       yes_adds : Adds s.frame head.at yes.at
       yes_adds = subst (λ a. Adds s.frame a yes.at) moved.at (maybe_adds s.frame true (Some v.0) v.1.at)
 
-      while_condition : (k : ℕ) → IsOn s Claimed here → AreNamed s.frame head.at.facts → IsCondition s head (expr_elaborated s.text s.variables k v.0) yes no
-      while_condition k on named = record {
+      while_condition : (k : ℕ) → Stands s while_own here.seen → IsOn s Claimed here → AreNamed s.frame head.at.facts → IsCondition s note.mode head (expr_elaborated s.text s.variables k v.0) yes no
+      while_condition k st on named = record {
         inside = inside on.claimed;
+        scope = test_stands s (Some e) st.visible st.next here.seen while_own.declared st.scope st.fits.declares (while_test st.visible st.next st.fits);
         fresh = on.fresh;
         counting = on.counts;
         named = named;
@@ -113,14 +137,20 @@ module _ (s : Setting) (Claimed : Type 0) where
         seen = seen;
       }
 
-      module _ (q : NotedStmt × Here) (body : Next s Claimed ks nest path.breaks path.continues yes q) where
+      module _ (q : NotedStmt × Here) (body : Next s Claimed ks nest body_own path.breaks path.continues yes q) where
         abbrev there : Here
         there = record q.1 { at = other_side s.frame path.breaks v.0 v.1.at }
 
         seen_body : q.1.seen ≡ v.1.seen
         seen_body = body.same (is_false s Claimed nest.declares (and_cases nest.fine (not nest.declares) branch).1)
 
-        module _ (on : IsOn s Claimed here) (tame : AreTame s.frame here.at.facts) (k : ℕ) (next : Here) (goes : GoesTo s.frame there next) where
+        while_leads : Leads s while_own here.seen there.seen
+        while_leads visible next f w = (subst (λ l. Leads s body_own l q.1.seen) moved.seen body.leads) visible next (while_fits visible next f) w
+
+        body_stands : Stands s while_own here.seen → Stands s body_own yes.seen
+        body_stands st = subst (Stands s body_own) (sym moved.seen) (record { visible = st.visible; next = st.next; scope = st.scope; fits = while_fits st.visible st.next st.fits })
+
+        module _ (st : Stands s while_own here.seen) (on : IsOn s Claimed here) (tame : AreTame s.frame here.at.facts) (k : ℕ) (next : Here) (goes : GoesTo s.frame there next) where
           abbrev points : Turns
           points = record { head = head; yes = yes; no = no; step = head; behind = next }
 
@@ -146,32 +176,33 @@ module _ (s : Setting) (Claimed : Type 0) where
             points,
             record { known = λ reached. less_known s.frame ks here.at reached; seen = λ k c. c },
             (
-              while_condition k on head_tame.1,
+              while_condition k st on head_tame.1,
               goes_through no there next (record { known = λ reached. side_known s.frame path.breaks (Some v.0) v.1.at reached; seen = λ k c. same_has no.seen q.1.seen seen_body k c }) goes,
               closed_code s (stmt_elaborated s.text s.variables s.result (k + literals_of v.0) q.0) (in_body points) yes q.1
                   (exit_end s.frame ks yes q.1 head yes_tame.0 body.stays (extended_has yes.seen q.1.seen body.extends) to_head)
-                  (body.code (on_there s head yes moved.onward on) yes_tame (k + literals_of v.0) (in_body points) body_may),
+                  (body.code (body_stands st) (on_there s head yes moved.onward on) yes_tame (k + literals_of v.0) (in_body points) body_may),
               λ exits. goes_nowhere head,
             ),
             behind,
           )
 
-        while_next : Next s Claimed ks mine left turned here (stated at note (act.While v.0 q.0), there)
+        while_next : Next s Claimed ks mine while_own left turned here (stated at note (act.While v.0 q.0), there)
         while_next = record {
           extends = extends_none here.seen q.1.seen (seen_body ∙ moved.seen);
           same = λ d. seen_body ∙ moved.seen;
           onward = onward_through here yes there moved.onward body.onward;
           stays = stays_more s.frame ks here.at v.1.at there.at (subst (λ a. Stays s.frame ks here.at a) (sym moved.at) (stays_less s.frame ks here.at)) (other_adds s.frame path.breaks (Some v.0) v.1.at);
-          code = λ on tame k exits may. inr (λ next rest goes behind.
+          leads = while_leads;
+          code = λ st on tame k exits may. inr (λ next rest goes behind.
               subst (λ fs. Judged s (chained fs rest) exits here) (sym (code_is s Claimed at note (Act-F.While v.0 q.0) (act.While v.0 q.0) k (act.rolls-While v.0 q.0)))
-              (while_judged_code on tame k next goes exits rest behind));
+              (while_judged_code st on tame k next goes exits rest behind));
         }
 
-    pub while_gives : Gives (Next s Claimed ks mine left turned here) (while_judged s.frame s.head at note e path here)
+    pub while_gives : Gives (Next s Claimed ks mine while_own left turned here) (while_judged s.frame s.head at note e path here)
     while_gives =
-        nested (Next s Claimed ks mine left turned here) (value_judged s.frame e head) _ _ (λ v is.
-        through (Next s Claimed ks mine left turned here) (path.judged s.frame s.head (yes v is)) _ (λ q body_is.
-        given (Next s Claimed ks mine left turned here) (stated at note (act.While v.0 q.0), record q.1 { at = other_side s.frame path.breaks v.0 v.1.at })
+        nested (Next s Claimed ks mine while_own left turned here) (value_judged s.frame e head) _ _ (λ v is.
+        through (Next s Claimed ks mine while_own left turned here) (path.judged s.frame s.head (yes v is)) _ (λ q body_is.
+        given (Next s Claimed ks mine while_own left turned here) (stated at note (act.While v.0 q.0), record q.1 { at = other_side s.frame path.breaks v.0 v.1.at })
         (while_next v is q ((w.judged (and_cases nest.fine (not nest.declares) branch).0 (yes v is)).made q body_is))))
 
   -- ---- a `for`
@@ -184,9 +215,9 @@ module _ (s : Setting) (Claimed : Type 0) where
   for_code at mode (Some a) c None u k = refl
   for_code at mode (Some a) c (Some t) u k = refl
 
-  module _ (at : Pos) (note : Note) (init : Option Path) (init_nest : Option Nesting) (wi : WholeIf s Claimed init init_nest) (begin : begins init_nest ≡ true) (e : Option NotedExpr)
-      (step : Option Path) (step_nest : Option Nesting) (ws : WholeIf s Claimed step step_nest) (stepping : steps step_nest ≡ true)
-      (path : Path) (nest : Nesting) (w : Whole s Claimed path nest) (branch : is_branch nest ≡ true) (inside : Claimed → IsTestInBody s e) (mine : Nesting) (left turned : Bool) (es : List ℕ) (here : Here) where
+  module _ (at : Pos) (note : Note) (init : Option Path) (init_nest : Option Nesting) (init_walk : Option Walked) (wi : WholeIf s Claimed init init_nest init_walk) (begin : begins init_nest ≡ true) (e : Option NotedExpr)
+      (step : Option Path) (step_nest : Option Nesting) (step_walk : Option Walked) (ws : WholeIf s Claimed step step_nest step_walk) (stepping : steps step_nest ≡ true)
+      (path : Path) (nest : Nesting) (walk : Walked) (w : Whole s Claimed path nest walk) (branch : is_branch nest ≡ true) (inside : Claimed → IsTestInBody s note.mode e) (mine : Nesting) (left turned : Bool) (es : List ℕ) (ds : List NotedDecl) (here : Here) where
     abbrev is : List ℕ
     is = assigned_if init
 
@@ -195,6 +226,45 @@ module _ (s : Setting) (Claimed : Type 0) where
 
     abbrev ts : List ℕ
     ts = assigned_if step
+
+    abbrev init_own : Scope
+    init_own = own_if init_walk init
+
+    abbrev inner_own : Scope
+    inner_own = own_of walk path
+
+    abbrev step_own : Scope
+    step_own = own_if step_walk step
+
+    abbrev begun : List Name → List Name
+    begun visible = visible ++ left_by_part init_walk
+
+    abbrev for_own : Scope
+    for_own = record { walked = act_walked (tests_of (items_of s)) (Act-F.For init_walk (option_map bare_expr e) step_walk walk); declared = declared_if init ++ (ds ++ (path.declared ++ declared_if step)) }
+
+    record ForFits (visible : List Name) (next : ℕ) : Type 0 where
+      pub first : Fits s init_own visible next
+      pub test : value_passes (tests_of (items_of s)) (begun visible) (option_map bare_expr e) ≡ true
+      pub rest : AreNext s (next + length (declared_if init)) (ds ++ (path.declared ++ declared_if step))
+      pub body : Fits s inner_own (begun visible) (next + length (declared_if init) + length ds)
+      pub last : Fits s step_own (begun visible ++ walk.leaves) (next + length (declared_if init) + length ds + length path.declared)
+
+    for_fits : (visible : List Name) (next : ℕ) → Fits s for_own visible next → ForFits visible next
+    for_fits visible next f =
+        let tests = tests_of (items_of s) in
+        let more = begun visible in
+        let p = and_cases (part_passes init_walk visible) (value_passes tests more (option_map bare_expr e) && (walk.passes more && part_passes step_walk (more ++ walk.leaves))) f.passes in
+        let q = and_cases (value_passes tests more (option_map bare_expr e)) (walk.passes more && part_passes step_walk (more ++ walk.leaves)) p.1 in
+        let r = and_cases (walk.passes more) (part_passes step_walk (more ++ walk.leaves)) q.1 in
+        let rest : AreNext s (next + length (declared_if init)) (ds ++ (path.declared ++ declared_if step)) = next_back s (declared_if init) (ds ++ (path.declared ++ declared_if step)) next f.declares in
+        let inner : AreNext s (next + length (declared_if init) + length ds) (path.declared ++ declared_if step) = next_back s ds (path.declared ++ declared_if step) (next + length (declared_if init)) rest in
+        record {
+          first = record { passes = p.0; declares = next_front s (declared_if init) (ds ++ (path.declared ++ declared_if step)) next f.declares };
+          test = q.0;
+          rest = rest;
+          body = record { passes = r.0; declares = next_front s path.declared (declared_if step) (next + length (declared_if init) + length ds) inner };
+          last = record { passes = r.1; declares = next_back s path.declared (declared_if step) (next + length (declared_if init) + length ds) inner };
+        }
 
     begins_plain : (n : Option Nesting) → begins n ≡ true → (fine_if n ≡ true) × (is_plain_if n ≡ true)
     begins_plain None h = (refl, refl)
@@ -208,9 +278,15 @@ module _ (s : Setting) (Claimed : Type 0) where
         by true b h = refl
         by false b h = h
 
-    module _ (p : Option NotedStmt × Here) (first : NextIf s Claimed is init_nest (breaks_if init) (continues_if init) here p) where
+    module _ (p : Option NotedStmt × Here) (first : NextIf s Claimed is init_nest init_own (breaks_if init) (continues_if init) here p) where
       abbrev for_head : Here
       for_head = loop_head s.frame (us ++ ts) p.1
+
+      first_stands : Stands s for_own here.seen → Stands s init_own here.seen
+      first_stands st = record { visible = st.visible; next = st.next; scope = st.scope; fits = (for_fits st.visible st.next st.fits).first }
+
+      head_scope : (st : Stands s for_own here.seen) → IsScope s (begun st.visible) (st.next + length (declared_if init)) for_head.seen
+      head_scope st = first.leads st.visible st.next (for_fits st.visible st.next st.fits).first st.scope
 
       module _ (v : Option NotedExpr × Here) (judged : maybe_judged s.frame e for_head ≡ Ok v) where
         for_moved : Moved for_head v.1
@@ -225,8 +301,26 @@ module _ (s : Setting) (Claimed : Type 0) where
         for_adds : Adds s.frame for_head.at for_yes.at
         for_adds = subst (λ a. Adds s.frame a for_yes.at) for_moved.at (maybe_adds s.frame true v.0 v.1.at)
 
-        for_condition : (k : ℕ) → IsOn s Claimed for_head → AreNamed s.frame for_head.at.facts → IsCondition s for_head (condition s.text s.variables k v.0) for_yes for_no
-        for_condition k on named = record { before = e; after = v.0; literals = k; behind = v.1; inside = inside on.claimed; fresh = on.fresh; counting = on.counts; named = named; judged = judged; becomes = refl; true_side = refl; false_side = refl }
+        for_scope : Stands s for_own here.seen → IsTestInScope s e for_head.seen
+        for_scope st =
+            let f = for_fits st.visible st.next st.fits in
+            test_stands s e (begun st.visible) (st.next + length (declared_if init)) for_head.seen (ds ++ (path.declared ++ declared_if step)) (head_scope st) f.rest f.test
+
+        yes_scope : (st : Stands s for_own here.seen) → IsScope s (begun st.visible) (st.next + length (declared_if init) + length ds) for_yes.seen
+        yes_scope st =
+            let n = st.next + length (declared_if init) in
+            subst (IsScope s (begun st.visible) (n + length ds)) (sym for_moved.seen) (scope_later s (begun st.visible) n (n + length ds) for_head.seen (omega arith) (head_scope st))
+
+        inner_stands : Stands s for_own here.seen → Stands s inner_own for_yes.seen
+        inner_stands st = record {
+          visible = begun st.visible;
+          next = st.next + length (declared_if init) + length ds;
+          scope = yes_scope st;
+          fits = (for_fits st.visible st.next st.fits).body;
+        }
+
+        for_condition : (k : ℕ) → Stands s for_own here.seen → IsOn s Claimed for_head → AreNamed s.frame for_head.at.facts → IsCondition s note.mode for_head (condition s.text s.variables k v.0) for_yes for_no
+        for_condition k st on named = record { before = e; after = v.0; literals = k; behind = v.1; inside = inside on.claimed; scope = for_scope st; fresh = on.fresh; counting = on.counts; named = named; judged = judged; becomes = refl; true_side = refl; false_side = refl }
 
         for_exit : (x exit : Here) → x.at ≡ for_head.at → ((k : ℕ) → Contains x.seen k → Contains for_yes.seen k) → GoesTo s.frame x exit → IsExit s.frame (us ++ ts) for_yes exit
         for_exit x exit same seen goes = record {
@@ -237,7 +331,7 @@ module _ (s : Setting) (Claimed : Type 0) where
           seen = seen;
         }
 
-        module _ (q : NotedStmt × Here) (body : Next s Claimed us nest path.breaks path.continues for_yes q) where
+        module _ (q : NotedStmt × Here) (body : Next s Claimed us nest inner_own path.breaks path.continues for_yes q) where
           for_seen : q.1.seen ≡ v.1.seen
           for_seen = body.same (is_false s Claimed nest.declares (and_cases nest.fine (not nest.declares) branch).1)
 
@@ -248,6 +342,17 @@ module _ (s : Setting) (Claimed : Type 0) where
           step_seen : (b : Bool) → (step_at b).seen ≡ q.1.seen
           step_seen true = refl
           step_seen false = refl
+
+          step_stands : (b : Bool) → Stands s for_own here.seen → Stands s step_own (step_at b).seen
+          step_stands b st =
+              let f = for_fits st.visible st.next st.fits in
+              let n = st.next + length (declared_if init) + length ds in
+              subst (Stands s step_own) (sym (step_seen b)) (record {
+                visible = begun st.visible ++ walk.leaves;
+                next = n + length path.declared;
+                scope = body.leads (begun st.visible) n f.body (yes_scope st);
+                fits = f.last;
+              })
 
           step_onward : (b : Bool) → Onward q.1 (step_at b)
           step_onward true = onward_none q.1
@@ -290,7 +395,7 @@ module _ (s : Setting) (Claimed : Type 0) where
             }
             head_after false = exit_after s.frame us ts for_yes q.1 for_head for_tame.0 body.stays (extended_has for_yes.seen q.1.seen body.extends) head_left
 
-          module _ (x : Option NotedStmt × Here) (last : NextIf s Claimed ts step_nest (breaks_if step) (continues_if step) (step_at path.continues) x) where
+          module _ (x : Option NotedStmt × Here) (last : NextIf s Claimed ts step_nest step_own (breaks_if step) (continues_if step) (step_at path.continues) x) where
             abbrev ended : Here
             ended = record x.1 { at = maybe_other s.frame path.breaks v.0 v.1.at }
 
@@ -306,7 +411,7 @@ module _ (s : Setting) (Claimed : Type 0) where
             seen_closed : for_there.seen ≡ here.seen
             seen_closed = extended_front here.seen x.1.seen seen_last
 
-            module _ (on : IsOn s Claimed here) (tame : AreTame s.frame here.at.facts) (k : ℕ) (next : Here) (goes : GoesTo s.frame for_there next) where
+            module _ (st : Stands s for_own here.seen) (on : IsOn s Claimed here) (tame : AreTame s.frame here.at.facts) (k : ℕ) (next : Here) (goes : GoesTo s.frame for_there next) where
               abbrev for_points : Turns
               for_points = record { head = for_head; yes = for_yes; no = for_no; step = step_at path.continues; behind = next }
 
@@ -340,16 +445,16 @@ module _ (s : Setting) (Claimed : Type 0) where
                 for_points,
                 record { known = λ reached. less_known s.frame (us ++ ts) p.1.at reached; seen = λ k c. c },
                 (
-                  for_condition k head_on (for_head_tame begun_tame).1,
+                  for_condition k st head_on (for_head_tame begun_tame).1,
                   goes_through for_no for_there next (record { known = λ reached. side_known s.frame path.breaks v.0 v.1.at reached; seen = has_closed }) goes,
                   closed_code s (stmt_elaborated s.text s.variables s.result (k + literals_of_value v.0 + literals_if (part_if x.0)) q.0) (in_body for_points) for_yes q.1
                       (to_the_step begun_tame path.continues)
-                      (body.code yes_on (for_tame begun_tame) (k + literals_of_value v.0 + literals_if (part_if x.0)) (in_body for_points) for_may),
+                      (body.code (inner_stands st) yes_on (for_tame begun_tame) (k + literals_of_value v.0 + literals_if (part_if x.0)) (in_body for_points) for_may),
                   λ exits.
                       closed_code s (code_if (part_if x.0) s.text s.variables s.result (k + literals_of_value v.0)) (ending exits for_head) (step_at path.continues) x.1
                       (exit_end s.frame ts (step_at path.continues) x.1 for_head (step_tame begun_tame path.continues).0 last.stays (extended_has (step_at path.continues).seen x.1.seen last.extends)
                       (head_after begun_tame path.continues))
-                      (last.code (on_there s for_yes (step_at path.continues) (to_step_onward path.continues) yes_on) (step_tame begun_tame path.continues) (k + literals_of_value v.0) (ending exits for_head) (step_may exits)),
+                      (last.code (step_stands path.continues st) (on_there s for_yes (step_at path.continues) (to_step_onward path.continues) yes_on) (step_tame begun_tame path.continues) (k + literals_of_value v.0) (ending exits for_head) (step_may exits)),
                 ),
                 behind,
               )
@@ -361,30 +466,31 @@ module _ (s : Setting) (Claimed : Type 0) where
                 (stays_more s.frame (us ++ ts) p.1.at v.1.at for_there.at
                 (subst (λ a. Stays s.frame (us ++ ts) p.1.at a) (sym for_moved.at) (stays_less s.frame (us ++ ts) p.1.at)) (other_adds s.frame path.breaks v.0 v.1.at)))
 
-            for_next : Next s Claimed (is ++ (es ++ (us ++ ts))) mine left turned here (stated at note (act.For p.0 v.0 x.0 q.0), for_there)
+            for_next : Next s Claimed (is ++ (es ++ (us ++ ts))) mine for_own left turned here (stated at note (act.For p.0 v.0 x.0 q.0), for_there)
             for_next = record {
               extends = extends_none here.seen for_there.seen seen_closed;
               same = λ d. seen_closed;
               onward = onward_through here for_yes for_there (onward_through here for_head for_yes first.onward for_moved.onward)
                   (onward_through for_yes (step_at path.continues) for_there (to_step_onward path.continues) last.onward);
               stays = for_stays;
-              code = λ on tame k exits may.
+              leads = leads_quiet s for_own here.seen for_there.seen refl seen_closed;
+              code = λ st on tame k exits may.
                   let n = k + literals_if (part_if p.0) in
                   let plain = wi.plain (begins_plain init_nest begin).1 in
                   subst (λ fs. IsCode s fs exits here for_there)
                   (sym (code_is s Claimed at note (Act-F.For p.0 v.0 x.0 q.0) (act.For p.0 v.0 x.0 q.0) k (act.rolls-For p.0 v.0 x.0 q.0) ∙ for_code at note.mode p.0 v.0 x.0 q.0 k))
                   (both_code s (code_if (part_if p.0) s.text s.variables s.result k) (one (turns s.text s.variables s.result (spot at note.mode) n v.0 (part_if x.0) (part_of q.0))) exits here p.1 for_there
-                  (first.code on tame k exits (may_not s.frame is (breaks_if init) (continues_if init) here exits plain.0 plain.1))
-                  (inr (λ next rest goes behind. for_judged_code on tame n next goes exits rest behind)));
+                  (first.code (first_stands st) on tame k exits (may_not s.frame is (breaks_if init) (continues_if init) here exits plain.0 plain.1))
+                  (inr (λ next rest goes behind. for_judged_code st on tame n next goes exits rest behind)));
             }
 
     abbrev ForNext : NotedStmt × Here → Type 0
-    ForNext = Next s Claimed (is ++ (es ++ (us ++ ts))) mine left turned here
+    ForNext = Next s Claimed (is ++ (es ++ (us ++ ts))) mine for_own left turned here
 
     pub for_gives : Gives ForNext (for_judged s.frame s.head at note init e step path here)
     for_gives =
         through ForNext (part_judged s.frame s.head init here) _ (λ p init_is.
-        let first : NextIf s Claimed is init_nest (breaks_if init) (continues_if init) here p = (wi.judged (begins_plain init_nest begin).0 here).made p init_is in
+        let first : NextIf s Claimed is init_nest init_own (breaks_if init) (continues_if init) here p = (wi.judged (begins_plain init_nest begin).0 here).made p init_is in
         nested ForNext (maybe_judged s.frame e (loop_head s.frame (us ++ ts) p.1)) _ _ (λ v judged.
         through ForNext (path.judged s.frame s.head (record v.1 { at = maybe_side s.frame true v.0 v.1.at })) _ (λ q body_is.
         let body = (w.judged (and_cases nest.fine (not nest.declares) branch).0 (record v.1 { at = maybe_side s.frame true v.0 v.1.at })).made q body_is in

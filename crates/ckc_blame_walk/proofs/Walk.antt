@@ -43,8 +43,14 @@ use Rattle.ckc_blame_walk.proofs.Inside.{PartsInBody, parts_inside}
 use Rattle.ckc_blame_walk.proofs.Pieces.{Gives, through, nested, given, unless_gives, Moved, moved_not, moved_through, value_moves, maybe_moves, init_moves, value_named, locals_of, as_list, named_list, Stored, stores_stay}
 use Rattle.ckc_blame_walk.proofs.Codes.{goes_nowhere, IsWalk, IsCode, GoesOn, step_code, both_code, further_code, started_on, assigned_on}
 use Rattle.ckc_blame_walk.proofs.Exits.{exit_goes, may_first, may_after}
-use Rattle.ckc_blame_walk.proofs.Compound.{Extends, extends_none, extends_through, extended_has, extended_front, same_has, Next, Whole, whole_none, whole_some, code_is, if_gives}
+use Rattle.ckc_blame_walk.proofs.Compound.{Extends, extends_none, extends_through, extended_has, extended_front, same_has, own_of, Next, Whole, whole_none, whole_some, code_is, if_gives}
 use Rattle.ckc_blame_walk.proofs.Loops.{while_gives, for_gives}
+use Rattle.ckc_blame_scopes.specs.Scopes.{items_of, scope_of}
+use Rattle.ckc_blame_scopes.proofs.Layers.{scope_of_act, act_scope, act_scope_rolled, scope_stated}
+use Rattle.ckc_blame_scopes.proofs.Standing.{Scope, Fits, Stands, Leads, leads_quiet, next_front, next_back, leads_both}
+use Rattle.ckc_blame_scopes.proofs.Steps.{IsAssignment, HasAssignments, own_of_act, step_stands, is_local, step_leaves, local_leads}
+use Rattle.ckc_typed_fit.specs.Tests as tests
+use Rattle.ckc_typed_fit.specs.Tests.{left_by, pass_in_turn}
 
 gives_weaker : {A : Type 0} (P Q : A → Type 0) (o : Outcome A) → ((a : A) → P a → Q a) → Gives P o → Gives Q o
 gives_weaker P Q o f h = record { made = λ a e. f a (h.made a e) }
@@ -72,33 +78,36 @@ start_named frame t (init.One e) facts = in_type_named frame facts t ((view fram
 start_named frame t (init.Many es) facts = tt
 
 module _ (s : Setting) (Claimed : Type 0) where
-  pub record PartNext (ks : List ℕ) (here : Here) (p : NotedStmt × Here) : Type 0 where
+  pub record PartNext (ks : List ℕ) (st : NotedStmt) (here : Here) (p : NotedStmt × Here) : Type 0 where
     pub moved : Moved here p.1
+    pub assigns : IsAssignment st
     pub stores : (rest : List NotedStmt) → locals_of s.frame (stores_of (p.0 ∷ rest)) ≡ ks ++ locals_of s.frame (stores_of rest)
 
-  record AllParts (ks : List ℕ) (here : Here) (p : List NotedStmt × Here) : Type 0 where
+  record AllParts (ks : List ℕ) (ss : List NotedStmt) (here : Here) (p : List NotedStmt × Here) : Type 0 where
     pub moved : Moved here p.1
+    pub assign : AllByRecursion IsAssignment ss
     pub stores : locals_of s.frame (stores_of p.0) ≡ ks
 
-  record AllNext (ks : List ℕ) (left turned : Bool) (here : Here) (p : List NotedStmt × Here) : Type 0 where
+  record AllNext (ks : List ℕ) (own : Scope) (left turned : Bool) (here : Here) (p : List NotedStmt × Here) : Type 0 where
     pub extends : Extends here.seen p.1.seen
     pub onward : Onward here p.1
     pub stays : Stays s.frame ks here.at p.1.at
-    pub code : IsOn s Claimed here → AreTame s.frame here.at.facts → (k : ℕ) (exits : Exits) → MayLeave s.frame ks left turned here exits
+    pub leads : Leads s own here.seen p.1.seen
+    pub code : Stands s own here.seen → IsOn s Claimed here → AreTame s.frame here.at.facts → (k : ℕ) (exits : Exits) → MayLeave s.frame ks left turned here exits
         → IsCode s (all_code (map part_of p.0) s.text s.variables s.result k) exits here p.1
 
-  record ActHolds (path : ActPath) (nest : Nesting) (a : NotedAct) : Type 0 where
+  record ActHolds (path : ActPath) (nest : Nesting) (w : tests.Walked) (a : NotedAct) : Type 0 where
     pub judged : nest.fine ≡ true → (at : Pos) (note : Note) → (Claimed → IsInBody s (stated at note a)) → (here : Here)
-        → Gives (λ p. IsWalk s (stated at note a) here p → Next s Claimed path.assigned nest path.breaks path.continues here p) (path.judged s.frame s.head at note here)
-    pub part : (bundle at : Pos) (note : Note) (here : Here) → Gives (PartNext path.assigned here) (path.part s.frame bundle at note here)
+        → Gives (λ p. IsWalk s (stated at note a) here p → Next s Claimed path.assigned nest (record { walked = w; declared = path.declared }) path.breaks path.continues here p) (path.judged s.frame s.head at note here)
+    pub part : (bundle at : Pos) (note : Note) (here : Here) → Gives (PartNext path.assigned (stated at note a) here) (path.part s.frame bundle at note here)
     pub plain : (nest.declares || nest.assigns) ≡ true → (path.breaks ≡ false) × (path.continues ≡ false)
 
   record AnyAct (a : NotedAct) : Type 0 where
-    pub holds : ActHolds (path_of_act a) (nesting_of_act a) a
+    pub holds : ActHolds (path_of_act a) (nesting_of_act a) (scope_of_act (items_of s) a) a
 
   pub record StmtHolds (st : NotedStmt) : Type 0 where
-    pub whole : (Claimed → IsInBody s st) → Whole s Claimed (path st) (nesting_of st)
-    pub part : (bundle : Pos) (here : Here) → Gives (PartNext (path st).assigned here) ((path st).part s.frame bundle here)
+    pub whole : (Claimed → IsInBody s st) → Whole s Claimed (path st) (nesting_of st) (scope_of (items_of s) st)
+    pub part : (bundle : Pos) (here : Here) → Gives (PartNext (path st).assigned st here) ((path st).part s.frame bundle here)
 
   abbrev KeptAct : Type 0
   KeptAct = (a : NotedAct) × AnyAct a
@@ -135,6 +144,15 @@ module _ (s : Setting) (Claimed : Type 0) where
   abbrev assigned_in : List KeptStmt → List ℕ
   assigned_in ks = inside_each listed (λ (v : Path). v.assigned) (paths_of ks)
 
+  abbrev firsts : List KeptStmt → List NotedStmt
+  firsts ks = map (λ (k : KeptStmt). k.0) ks
+
+  abbrev scopes_in : List KeptStmt → List tests.Walked
+  scopes_in ks = map (scope_of (items_of s)) (firsts ks)
+
+  abbrev own_in : List KeptStmt → Scope
+  own_in ks = record { walked = record { leaves = left_by (scopes_in ks); passes = pass_in_turn (scopes_in ks) }; declared = inside_each listed (λ (v : Path). v.declared) (paths_of ks) }
+
   abbrev breaks_in : List KeptStmt → Bool
   breaks_in ks = inside_each one_has (λ (v : Path). v.breaks) (paths_of ks)
 
@@ -144,93 +162,118 @@ module _ (s : Setting) (Claimed : Type 0) where
   abbrev fine_in : List KeptStmt → Bool
   fine_in ks = inside_each all_have (λ (v : Nesting). v.fine) (map nesting_of (map (λ (k : KeptStmt). k.0) ks))
 
-  all_gives : (ks : List KeptStmt) → fine_in ks ≡ true → (Claimed → AllByRecursion (IsInBody s) (map (λ (k : KeptStmt). k.0) ks)) → (here : Here) → Gives (AllNext (assigned_in ks) (breaks_in ks) (continues_in ks) here) (all_judged s.frame s.head (paths_of ks) here)
+  record ListFits (k : KeptStmt) (ks : List KeptStmt) (visible : List Name) (next : ℕ) : Type 0 where
+    pub first : Fits s (own_of (scope_of (items_of s) k.0) (path k.0)) visible next
+    pub rest : Fits s (own_in ks) (visible ++ (scope_of (items_of s) k.0).leaves) (next + length (path k.0).declared)
+
+  list_fits : (k : KeptStmt) (ks : List KeptStmt) (visible : List Name) (next : ℕ) → Fits s (own_in (k ∷ ks)) visible next → ListFits k ks visible next
+  list_fits k ks visible next f =
+      let w : tests.Walked = scope_of (items_of s) k.0 in
+      let ds : List NotedDecl = inside_each listed (λ (v : Path). v.declared) (paths_of ks) in
+      let p = and_cases (w.passes visible) (pass_in_turn (scopes_in ks) (visible ++ w.leaves)) f.passes in
+      record {
+        first = record { passes = p.0; declares = next_front s (path k.0).declared ds next f.declares };
+        rest = record { passes = p.1; declares = next_back s (path k.0).declared ds next f.declares };
+      }
+
+  all_gives : (ks : List KeptStmt) → fine_in ks ≡ true → (Claimed → AllByRecursion (IsInBody s) (map (λ (k : KeptStmt). k.0) ks)) → (here : Here) → Gives (AllNext (assigned_in ks) (own_in ks) (breaks_in ks) (continues_in ks) here) (all_judged s.frame s.head (paths_of ks) here)
   unfolding all_judged
-  all_gives [] fine inside here = given (AllNext [] false false here) ([], here) (record {
+  all_gives [] fine inside here = given (AllNext [] (own_in []) false false here) ([], here) (record {
     extends = extends_none here.seen here.seen refl;
     onward = onward_none here;
     stays = stays_none s.frame [] here.at;
-    code = λ on tame k exits may. inl (refl, refl);
+    leads = leads_quiet s (own_in []) here.seen here.seen refl refl;
+    code = λ stands on tame k exits may. inl (refl, refl);
   })
   all_gives (k ∷ ks) fine inside here =
       let fines = and_cases (nesting_of k.0).fine (fine_in ks) fine in
-      through (AllNext (assigned_in (k ∷ ks)) (breaks_in (k ∷ ks)) (continues_in (k ∷ ks)) here) ((path k.0).judged s.frame s.head here) _ (λ p is.
-      through (AllNext (assigned_in (k ∷ ks)) (breaks_in (k ∷ ks)) (continues_in (k ∷ ks)) here) (all_judged s.frame s.head (paths_of ks) p.1) _ (λ q rest_is.
-      let one : Next s Claimed (path k.0).assigned (nesting_of k.0) (path k.0).breaks (path k.0).continues here p = ((k.1.whole (λ a. (inside a).0)).judged fines.0 here).made p is in
-      let rest : AllNext (assigned_in ks) (breaks_in ks) (continues_in ks) p.1 q = (all_gives ks fines.1 (λ a. (inside a).1) p.1).made q rest_is in
-      given (AllNext (assigned_in (k ∷ ks)) (breaks_in (k ∷ ks)) (continues_in (k ∷ ks)) here) (p.0 ∷ q.0, q.1) (record {
+      through (AllNext (assigned_in (k ∷ ks)) (own_in (k ∷ ks)) (breaks_in (k ∷ ks)) (continues_in (k ∷ ks)) here) ((path k.0).judged s.frame s.head here) _ (λ p is.
+      through (AllNext (assigned_in (k ∷ ks)) (own_in (k ∷ ks)) (breaks_in (k ∷ ks)) (continues_in (k ∷ ks)) here) (all_judged s.frame s.head (paths_of ks) p.1) _ (λ q rest_is.
+      let one : Next s Claimed (path k.0).assigned (nesting_of k.0) (own_of (scope_of (items_of s) k.0) (path k.0)) (path k.0).breaks (path k.0).continues here p = ((k.1.whole (λ a. (inside a).0)).judged fines.0 here).made p is in
+      let rest : AllNext (assigned_in ks) (own_in ks) (breaks_in ks) (continues_in ks) p.1 q = (all_gives ks fines.1 (λ a. (inside a).1) p.1).made q rest_is in
+      given (AllNext (assigned_in (k ∷ ks)) (own_in (k ∷ ks)) (breaks_in (k ∷ ks)) (continues_in (k ∷ ks)) here) (p.0 ∷ q.0, q.1) (record {
         extends = extends_through here.seen p.1.seen q.1.seen one.extends rest.extends;
         onward = onward_through here p.1 q.1 one.onward rest.onward;
         stays = stays_through s.frame (path k.0).assigned (assigned_in ks) here.at p.1.at q.1.at one.stays rest.stays;
-        code = λ on tame n exits may.
+        leads = λ visible next f w.
+            let g : ListFits k ks visible next = list_fits k ks visible next f in
+            leads_both s (own_of (scope_of (items_of s) k.0) (path k.0)) (own_in ks) here.seen p.1.seen q.1.seen one.leads rest.leads visible next g.first g.rest w;
+        code = λ st on tame n exits may.
+            let g : ListFits k ks st.visible st.next = list_fits k ks st.visible st.next st.fits in
             both_code s (stmt_elaborated s.text s.variables s.result n p.0) (all_code (map part_of q.0) s.text s.variables s.result (n + (part_of p.0).literals)) exits here p.1 q.1
-            (one.code on tame n exits (may_first s.frame (path k.0).assigned (assigned_in ks) (path k.0).breaks (breaks_in ks) (path k.0).continues (continues_in ks) here exits may))
-            (rest.code (on_there s here p.1 one.onward on) (tame_there s.frame (path k.0).assigned here.at p.1.at one.stays tame) (n + (part_of p.0).literals) exits
+            (one.code (record { visible = st.visible; next = st.next; scope = st.scope; fits = g.first }) on tame n exits (may_first s.frame (path k.0).assigned (assigned_in ks) (path k.0).breaks (breaks_in ks) (path k.0).continues (continues_in ks) here exits may))
+            (rest.code (record { visible = st.visible ++ (scope_of (items_of s) k.0).leaves; next = st.next + length (path k.0).declared; scope = one.leads st.visible st.next g.first st.scope; fits = g.rest })
+            (on_there s here p.1 one.onward on) (tame_there s.frame (path k.0).assigned here.at p.1.at one.stays tame) (n + (part_of p.0).literals) exits
             (may_after s.frame (path k.0).assigned (assigned_in ks) (path k.0).breaks (breaks_in ks) (path k.0).continues (continues_in ks) here p.1 exits tame.0 one.stays
             (extended_has here.seen p.1.seen one.extends) may));
       })))
 
-  parts_give : (bundle : Pos) (ks : List KeptStmt) (here : Here) → Gives (AllParts (assigned_in ks) here) (parts_judged s.frame bundle (paths_of ks) here)
+  parts_give : (bundle : Pos) (ks : List KeptStmt) (here : Here) → Gives (AllParts (assigned_in ks) (firsts ks) here) (parts_judged s.frame bundle (paths_of ks) here)
   unfolding parts_judged
-  parts_give bundle [] here = given (AllParts [] here) ([], here) (record { moved = moved_not here; stores = refl })
+  parts_give bundle [] here = given (AllParts [] [] here) ([], here) (record { moved = moved_not here; assign = tt; stores = refl })
   parts_give bundle (k ∷ ks) here =
-      through (AllParts (assigned_in (k ∷ ks)) here) ((path k.0).part s.frame bundle here) _ (λ p is.
-      through (AllParts (assigned_in (k ∷ ks)) here) (parts_judged s.frame bundle (paths_of ks) p.1) _ (λ q rest_is.
-      let one : PartNext (path k.0).assigned here p = (k.1.part bundle here).made p is in
-      let rest : AllParts (assigned_in ks) p.1 q = (parts_give bundle ks p.1).made q rest_is in
-      given (AllParts (assigned_in (k ∷ ks)) here) (p.0 ∷ q.0, q.1) (record {
+      through (AllParts (assigned_in (k ∷ ks)) (firsts (k ∷ ks)) here) ((path k.0).part s.frame bundle here) _ (λ p is.
+      through (AllParts (assigned_in (k ∷ ks)) (firsts (k ∷ ks)) here) (parts_judged s.frame bundle (paths_of ks) p.1) _ (λ q rest_is.
+      let one : PartNext (path k.0).assigned k.0 here p = (k.1.part bundle here).made p is in
+      let rest : AllParts (assigned_in ks) (firsts ks) p.1 q = (parts_give bundle ks p.1).made q rest_is in
+      given (AllParts (assigned_in (k ∷ ks)) (firsts (k ∷ ks)) here) (p.0 ∷ q.0, q.1) (record {
         moved = moved_through here p.1 q.1 one.moved rest.moved;
+        assign = (one.assigns, rest.assign);
         stores = one.stores q.0 ∙ ap (λ x. (path k.0).assigned ++ x) rest.stores;
       })))
 
   -- ---- a block
 
   block_gives : (m : _) (ks : List KeptStmt) → fine_in ks ≡ true → (Claimed → AllByRecursion (IsInBody s) (map (λ (k : KeptStmt). k.0) ks)) → (mine : Nesting) (at : Pos) (note : Note) (here : Here)
-      → Gives (Next s Claimed (assigned_in ks) mine (breaks_in ks) (continues_in ks) here) (block_judged s.frame s.head at note m (paths_of ks) here)
+      → Gives (Next s Claimed (assigned_in ks) mine (own_of_act s (Act-F.Block m (firsts ks))) (breaks_in ks) (continues_in ks) here) (block_judged s.frame s.head at note m (paths_of ks) here)
   block_gives m ks fine inside mine at note here =
-      through (Next s Claimed (assigned_in ks) mine (breaks_in ks) (continues_in ks) here) (all_judged s.frame s.head (paths_of ks) here) _ (λ p is.
-      let all : AllNext (assigned_in ks) (breaks_in ks) (continues_in ks) here p = (all_gives ks fine inside here).made p is in
+      through (Next s Claimed (assigned_in ks) mine (own_of_act s (Act-F.Block m (firsts ks))) (breaks_in ks) (continues_in ks) here) (all_judged s.frame s.head (paths_of ks) here) _ (λ p is.
+      let all : AllNext (assigned_in ks) (own_in ks) (breaks_in ks) (continues_in ks) here p = (all_gives ks fine inside here).made p is in
       let there : Here = closed (length here.seen) p.1 in
       let front : there.seen ≡ here.seen = extended_front here.seen p.1.seen all.extends in
-      given (Next s Claimed (assigned_in ks) mine (breaks_in ks) (continues_in ks) here) (stated at note (act.Block m p.0), there) (record {
+      given (Next s Claimed (assigned_in ks) mine (own_of_act s (Act-F.Block m (firsts ks))) (breaks_in ks) (continues_in ks) here) (stated at note (act.Block m p.0), there) (record {
         extends = extends_none here.seen there.seen front;
         same = λ d. front;
         onward = all.onward;
         stays = all.stays;
-        code = λ on tame k exits may.
+        leads = leads_quiet s (own_of_act s (Act-F.Block m (firsts ks))) here.seen there.seen refl front;
+        code = λ st on tame k exits may.
             subst (λ fs. IsCode s fs exits here there) (sym (code_is s Claimed at note (Act-F.Block m p.0) (act.Block m p.0) k (act.rolls-Block m p.0)))
             (further_code s (all_code (map part_of p.0) s.text s.variables s.result k) exits here p.1 there
             (record { known = (goes_nowhere p.1).known; seen = λ n c. extended_has here.seen p.1.seen all.extends n (same_has here.seen there.seen front n c) })
             (λ e. ap (λ (h : Here). record h { seen = take (length here.seen) h.seen }) e ∙ ap (λ x. record here { seen = x }) (extended_front here.seen here.seen (extends_none here.seen here.seen refl)))
-            (all.code on tame k exits may));
+            (all.code (record { visible = st.visible; next = st.next; scope = st.scope; fits = record { passes = st.fits.passes; declares = st.fits.declares } }) on tame k exits may));
       }))
 
   -- ---- statements that are a step
 
-  module _ (a : NotedAct) (x : Act-F Name Note NotedAct NotedStmt) (same : out-Act Name Note a ≡ x) (simple : is_simple x ≡ true) (at : Pos) (note : Note) (inside : Claimed → IsInBody s (stated at note a)) (ks : List ℕ) (mine : Nesting) (left turned : Bool) (here : Here) where
+  module _ (a : NotedAct) (x : Act-F Name Note NotedAct NotedStmt) (same : out-Act Name Note a ≡ x) (simple : is_simple x ≡ true) (assigns : HasAssignments x) (at : Pos) (note : Note) (inside : Claimed → IsInBody s (stated at note a)) (ks : List ℕ) (mine : Nesting) (left turned : Bool) (here : Here) where
     abbrev before : NotedStmt
     before = stated at note a
 
     abbrev Simple : NotedStmt × Here → Type 0
-    Simple p = IsWalk s before here p → Next s Claimed ks mine left turned here p
+    Simple p = IsWalk s before here p → Next s Claimed ks mine (own_of_act s x) left turned here p
 
     -- a step to a point with more in scope
-    step_next : (b : NotedAct) (there : Here) → Extends here.seen there.seen → (mine.declares ≡ false → there.seen ≡ here.seen) → Onward here there → Stays s.frame ks here.at there.at
+    step_next : (b : NotedAct) (there : Here) → Extends here.seen there.seen → (mine.declares ≡ false → there.seen ≡ here.seen) → Onward here there → Stays s.frame ks here.at there.at → Leads s (own_of_act s x) here.seen there.seen
         → ((k : ℕ) → (f : Code → Code) × (stmt_elaborated s.text s.variables s.result k (stated at note b) ≡ f ∷ []) × GoesOn s f) → Simple (stated at note b, there)
-    step_next b there extends plain onward stays becomes walk = record {
+    step_next b there extends plain onward stays leads becomes walk = record {
       extends = extends;
       same = plain;
       onward = onward;
       stays = stays;
-      code = λ on tame k exits may.
+      leads = leads;
+      code = λ st on tame k exits may.
           let f = becomes k in
-          step_code s before (stated at note b) here there k exits f.0 (ap is_simple same ∙ simple) inside on tame.1 walk f.1 f.2;
+          step_code s before (stated at note b) here there k exits f.0 (ap is_simple same ∙ simple) inside (step_stands s before x same simple assigns here.seen st) on tame.1 walk f.1 f.2;
     }
 
     -- a step in the same scope
-    in_scope : (b : NotedAct) (there : Here) → there.seen ≡ here.seen → Onward here there → Stays s.frame ks here.at there.at
+    in_scope : is_local s x ≡ false → (b : NotedAct) (there : Here) → there.seen ≡ here.seen → Onward here there → Stays s.frame ks here.at there.at
         → ((k : ℕ) → (f : Code → Code) × (stmt_elaborated s.text s.variables s.result k (stated at note b) ≡ f ∷ []) × GoesOn s f) → Simple (stated at note b, there)
-    in_scope b there seen onward stays becomes = step_next b there (extends_none here.seen there.seen seen) (λ d. seen) onward stays becomes
+    in_scope other b there seen onward stays becomes =
+        step_next b there (extends_none here.seen there.seen seen) (λ d. seen) onward stays
+        (leads_quiet s (own_of_act s x) here.seen there.seen (step_leaves s x assigns simple other) seen) becomes
 
   out_assign : (a b : NotedExpr) → out-Act Name Note (act.Assign a b) ≡ Act-F.Assign a b
   out_assign a b = search (rules, the_lemmas)
@@ -244,18 +287,19 @@ module _ (s : Setting) (Claimed : Type 0) where
       ∙ ap (λ l. l ++ locals_of s.frame (stores_of rest)) (named_list s.frame e)
 
   module _ (e f : NotedExpr) (at : Pos) (note : Note) (here : Here) where
-    part_gives : Gives (PartNext (target_in e) here) (sides_judged s.frame at note e f here)
-    part_gives =
-        through (PartNext (target_in e) here) (value_judged s.frame e here) _ (λ p is.
-        through (PartNext (target_in e) here) (value_judged s.frame f p.1) _ (λ q right_is.
-        given (PartNext (target_in e) here) (stated at note (act.Assign p.0 q.0), q.1) (record {
+    part_gives : (st : NotedStmt) → IsAssignment st → Gives (PartNext (target_in e) st here) (sides_judged s.frame at note e f here)
+    part_gives st is_one =
+        through (PartNext (target_in e) st here) (value_judged s.frame e here) _ (λ p is.
+        through (PartNext (target_in e) st here) (value_judged s.frame f p.1) _ (λ q right_is.
+        given (PartNext (target_in e) st here) (stated at note (act.Assign p.0 q.0), q.1) (record {
           moved = moved_through here p.1 q.1 ((value_moves s.frame e here).made p is) ((value_moves s.frame f p.1).made q right_is);
+          assigns = is_one;
           stores = assigns_first at note p.0 q.0 e ((value_named s.frame e here).made p is);
         })))
 
     module _ (a : NotedAct) (same : out-Act Name Note a ≡ Act-F.Assign e f) (inside : Claimed → IsInBody s (stated at note a)) (mine : Nesting) (left turned : Bool) where
       abbrev Assigned : NotedStmt × Here → Type 0
-      Assigned p = IsWalk s (stated at note a) here p → Next s Claimed (target_in e) mine left turned here p
+      Assigned p = IsWalk s (stated at note a) here p → Next s Claimed (target_in e) mine (own_of_act s (Act-F.Assign e f)) left turned here p
 
       assign_gives : Gives Assigned (assign_judged s.frame s.head at note e f here)
       assign_gives =
@@ -268,7 +312,7 @@ module _ (s : Setting) (Claimed : Type 0) where
           through Assigned (behind_stores s.frame s.head (st ∷ []) here.next q.1) _ (λ h stored.
           let left_there : Stored s.frame (locals_of s.frame (stores_of (st ∷ []))) q.1 h = (stores_stay s.frame s.head (st ∷ []) here.next q.1).made h stored in
           given Assigned (st, h)
-          (in_scope a (Act-F.Assign e f) same refl at note inside (target_in e) mine left turned here (act.Assign p.0 q.0) h (left_there.seen ∙ moved.seen) (onward_through here q.1 h moved.onward left_there.onward)
+          (in_scope a (Act-F.Assign e f) same refl tt at note inside (target_in e) mine left turned here refl (act.Assign p.0 q.0) h (left_there.seen ∙ moved.seen) (onward_through here q.1 h moved.onward left_there.onward)
           (subst (λ ks. Stays s.frame ks here.at h.at) ks_is (subst (λ x. Stays s.frame (locals_of s.frame (stores_of (st ∷ []))) x h.at) moved.at left_there.stays))
           (λ k. (
             assigned s.text s.variables (spot at note.mode) (destination_of s.text s.variables k p.0) (k + literals_of p.0) q.0,
@@ -286,34 +330,35 @@ module _ (s : Setting) (Claimed : Type 0) where
       by n = stays_none s.frame [] at
 
   module _ (a : NotedAct) (at : Pos) (note : Note) (inside : Claimed → IsInBody s (stated at note a)) (here : Here) where
-    abbrev Walked : List ℕ → Nesting → Bool → Bool → NotedStmt × Here → Type 0
-    Walked ks mine left turned p = IsWalk s (stated at note a) here p → Next s Claimed ks mine left turned here p
+    abbrev Walked : List ℕ → Nesting → Scope → Bool → Bool → NotedStmt × Here → Type 0
+    Walked ks mine own left turned p = IsWalk s (stated at note a) here p → Next s Claimed ks mine own left turned here p
 
     local_gives : (d : NotedDecl) → out-Act Name Note a ≡ Act-F.Local d → (mine : Nesting) → mine.declares ≡ true → (left turned : Bool)
-        → Gives (Walked (local_in d.name) mine left turned) (local_judged s.frame at note d here)
+        → Gives (Walked (local_in d.name) mine (own_of_act s (Act-F.Local d)) left turned) (local_judged s.frame at note d here)
     local_gives d same mine declares left turned =
-        nested (Walked (local_in d.name) mine left turned) (bounds_judged s.frame d here) _ _ (λ b bounds_is.
-        nested (Walked (local_in d.name) mine left turned) (init_judged s.frame d.init here) _ _ (λ i init_is.
-        unless_nested (Walked (local_in d.name) mine left turned) (not (starts_within s.frame d.name i.0 here.next i.1)) not_contained d.pos (Ok (record d { init = i.0 }, declared_here s.frame d i.0 i.1)) _
+        nested (Walked (local_in d.name) mine (own_of_act s (Act-F.Local d)) left turned) (bounds_judged s.frame d here) _ _ (λ b bounds_is.
+        nested (Walked (local_in d.name) mine (own_of_act s (Act-F.Local d)) left turned) (init_judged s.frame d.init here) _ _ (λ i init_is.
+        unless_nested (Walked (local_in d.name) mine (own_of_act s (Act-F.Local d)) left turned) (not (starts_within s.frame d.name i.0 here.next i.1)) not_contained d.pos (Ok (record d { init = i.0 }, declared_here s.frame d i.0 i.1)) _
         (let moved : Moved here i.1 = (init_moves s.frame d.init here).made i init_is in
         let e : NotedDecl = record d { init = i.0 } in
         let there : Here = declared_here s.frame d i.0 i.1 in
-        given (Walked (local_in d.name) mine left turned) (stated at note (act.Local e), there)
-        (step_next a (Act-F.Local d) same refl at note inside (local_in d.name) mine left turned here (act.Local e) there
+        given (Walked (local_in d.name) mine (own_of_act s (Act-F.Local d)) left turned) (stated at note (act.Local e), there)
+        (step_next a (Act-F.Local d) same refl tt at note inside (local_in d.name) mine left turned here (act.Local e) there
         (record { more = local_in d.name; is = ap (λ l. l ++ local_in d.name) moved.seen }) (λ n. absurd (cc)) moved.onward
         (subst (λ x. Stays s.frame (local_in d.name) x there.at) moved.at (stays_declared d i.0 i.1.at))
+        (subst (λ l. Leads s (own_of_act s (Act-F.Local d)) here.seen (l ++ local_in d.name)) (sym moved.seen) (local_leads s d here.seen))
         (λ k. (
           declared s.text s.variables (spot at note.mode) k e,
           code_is s Claimed at note (Act-F.Local e) (act.Local e) k (act.rolls-Local e),
           started_on s (spot at note.mode) (destination_for s.text (type_written d.ctype) d.name) (k + literals_of_bounds d.bounds) i.0,
         ))))))
 
-    call_gives : (e : NotedExpr) → out-Act Name Note a ≡ Act-F.Call e → (mine : Nesting) (left turned : Bool) → Gives (Walked [] mine left turned) (call_judged s.frame at note e here)
+    call_gives : (e : NotedExpr) → out-Act Name Note a ≡ Act-F.Call e → (mine : Nesting) (left turned : Bool) → Gives (Walked [] mine (own_of_act s (Act-F.Call e)) left turned) (call_judged s.frame at note e here)
     call_gives e same mine left turned =
-        through (Walked [] mine left turned) (value_judged s.frame e here) _ (λ p is.
+        through (Walked [] mine (own_of_act s (Act-F.Call e)) left turned) (value_judged s.frame e here) _ (λ p is.
         let moved : Moved here p.1 = (value_moves s.frame e here).made p is in
-        given (Walked [] mine left turned) (stated at note (act.Call p.0), p.1)
-        (in_scope a (Act-F.Call e) same refl at note inside [] mine left turned here (act.Call p.0) p.1 moved.seen moved.onward
+        given (Walked [] mine (own_of_act s (Act-F.Call e)) left turned) (stated at note (act.Call p.0), p.1)
+        (in_scope a (Act-F.Call e) same refl tt at note inside [] mine left turned here refl (act.Call p.0) p.1 moved.seen moved.onward
         (subst (λ x. Stays s.frame [] here.at x) (sym moved.at) (stays_none s.frame [] here.at))
         (λ k. (
           assigned s.text s.variables (spot p.0.pos note.mode) nowhere k p.0,
@@ -321,28 +366,28 @@ module _ (s : Setting) (Claimed : Type 0) where
           assigned_on s (spot p.0.pos note.mode) nowhere k p.0,
         ))))
 
-    return_gives : (e : Option NotedExpr) → out-Act Name Note a ≡ Act-F.Return e → (ks : List ℕ) (mine : Nesting) (left turned : Bool) → Gives (Walked ks mine left turned) (return_judged s.frame s.head at note e here)
+    return_gives : (e : Option NotedExpr) → out-Act Name Note a ≡ Act-F.Return e → (ks : List ℕ) (mine : Nesting) (left turned : Bool) → Gives (Walked ks mine (own_of_act s (Act-F.Return e)) left turned) (return_judged s.frame s.head at note e here)
     unfolding Judged
     return_gives e same ks mine left turned =
-        through (Walked ks mine left turned) (maybe_judged s.frame e here) _ (λ p is.
+        through (Walked ks mine (own_of_act s (Act-F.Return e)) left turned) (maybe_judged s.frame e here) _ (λ p is.
         let moved : Moved here p.1 = (maybe_moves s.frame e here).made p is in
-        unless_gives (Walked ks mine left turned) (not (is_returned s.frame s.head p.0 here.next p.1)) not_contained at (Ok (stated at note (act.Return p.0), gone s.frame p.1))
-        (given (Walked ks mine left turned) (stated at note (act.Return p.0), gone s.frame p.1)
-        (in_scope a (Act-F.Return e) same refl at note inside ks mine left turned here (act.Return p.0) (gone s.frame p.1) moved.seen moved.onward (stays_gone s.frame ks here.at)
+        unless_gives (Walked ks mine (own_of_act s (Act-F.Return e)) left turned) (not (is_returned s.frame s.head p.0 here.next p.1)) not_contained at (Ok (stated at note (act.Return p.0), gone s.frame p.1))
+        (given (Walked ks mine (own_of_act s (Act-F.Return e)) left turned) (stated at note (act.Return p.0), gone s.frame p.1)
+        (in_scope a (Act-F.Return e) same refl tt at note inside ks mine left turned here refl (act.Return p.0) (gone s.frame p.1) moved.seen moved.onward (stays_gone s.frame ks here.at)
         (λ k. (
           Return (spot at note.mode) (returned s.text s.variables s.result k p.0),
           code_is s Claimed at note (Act-F.Return p.0) (act.Return p.0) k (act.rolls-Return p.0),
           (λ rest exits h j. j),
         )))))
 
-    check_gives : (e : NotedExpr) → out-Act Name Note a ≡ Act-F.Check e → (mine : Nesting) (left turned : Bool) → Gives (Walked [] mine left turned) (check_judged s.frame at note e here)
+    check_gives : (e : NotedExpr) → out-Act Name Note a ≡ Act-F.Check e → (mine : Nesting) (left turned : Bool) → Gives (Walked [] mine (own_of_act s (Act-F.Check e)) left turned) (check_judged s.frame at note e here)
     unfolding Judged side_of
     check_gives e same mine left turned =
-        through (Walked [] mine left turned) (value_judged s.frame e here) _ (λ p is.
+        through (Walked [] mine (own_of_act s (Act-F.Check e)) left turned) (value_judged s.frame e here) _ (λ p is.
         let moved : Moved here p.1 = (value_moves s.frame e here).made p is in
         let there : Here = record p.1 { at = side_of s.frame true p.0 p.1.at } in
-        given (Walked [] mine left turned) (stated at note (act.Check p.0), there)
-        (in_scope a (Act-F.Check e) same refl at note inside [] mine left turned here (act.Check p.0) there moved.seen moved.onward
+        given (Walked [] mine (own_of_act s (Act-F.Check e)) left turned) (stated at note (act.Check p.0), there)
+        (in_scope a (Act-F.Check e) same refl tt at note inside [] mine left turned here refl (act.Check p.0) there moved.seen moved.onward
         (stays_adding s.frame here.at there.at (subst (λ x. Adds s.frame x there.at) moved.at (side_adds s.frame p.0 true p.1.at)))
         (λ k. (
           Check (spot at note.mode) (expr_elaborated s.text s.variables k p.0),
@@ -351,17 +396,17 @@ module _ (s : Setting) (Claimed : Type 0) where
         ))))
 
     bundle_gives : (ks : List KeptStmt) → out-Act Name Note a ≡ Act-F.Bundle (map (λ (k : KeptStmt). k.0) ks) → (mine : Nesting) (left turned : Bool)
-        → Gives (Walked (assigned_in ks) mine left turned) (bundle_judged s.frame s.head at note (paths_of ks) here)
+        → Gives (Walked (assigned_in ks) mine (own_of_act s (Act-F.Bundle (firsts ks))) left turned) (bundle_judged s.frame s.head at note (paths_of ks) here)
     unfolding Judged bundle_judged
     bundle_gives ks same mine left turned =
-        through (Walked (assigned_in ks) mine left turned) (parts_judged s.frame at (paths_of ks) here) _ (λ p is.
-        let all : AllParts (assigned_in ks) here p = (parts_give at ks here).made p is in
-        unless_gives (Walked (assigned_in ks) mine left turned) (not (is_good p.1 p.0)) bad_bundle at
+        through (Walked (assigned_in ks) mine (own_of_act s (Act-F.Bundle (firsts ks))) left turned) (parts_judged s.frame at (paths_of ks) here) _ (λ p is.
+        let all : AllParts (assigned_in ks) (firsts ks) here p = (parts_give at ks here).made p is in
+        unless_gives (Walked (assigned_in ks) mine (own_of_act s (Act-F.Bundle (firsts ks))) left turned) (not (is_good p.1 p.0)) bad_bundle at
         (bind (behind_stores s.frame s.head p.0 here.next p.1) (λ h. Ok (stated at note (act.Bundle p.0), h)))
-        (through (Walked (assigned_in ks) mine left turned) (behind_stores s.frame s.head p.0 here.next p.1) _ (λ h stored.
+        (through (Walked (assigned_in ks) mine (own_of_act s (Act-F.Bundle (firsts ks))) left turned) (behind_stores s.frame s.head p.0 here.next p.1) _ (λ h stored.
         let there : Stored s.frame (locals_of s.frame (stores_of p.0)) p.1 h = (stores_stay s.frame s.head p.0 here.next p.1).made h stored in
-        given (Walked (assigned_in ks) mine left turned) (stated at note (act.Bundle p.0), h)
-        (in_scope a (Act-F.Bundle (map (λ (k : KeptStmt). k.0) ks)) same refl at note inside (assigned_in ks) mine left turned here (act.Bundle p.0) h
+        given (Walked (assigned_in ks) mine (own_of_act s (Act-F.Bundle (firsts ks))) left turned) (stated at note (act.Bundle p.0), h)
+        (in_scope a (Act-F.Bundle (map (λ (k : KeptStmt). k.0) ks)) same refl all.assign at note inside (assigned_in ks) mine left turned here refl (act.Bundle p.0) h
         (there.seen ∙ all.moved.seen) (onward_through here p.1 h all.moved.onward there.onward)
         (subst (λ ks. Stays s.frame ks here.at h.at) all.stores (subst (λ x. Stays s.frame (locals_of s.frame (stores_of p.0)) x h.at) all.moved.at there.stays))
         (λ k. (
@@ -374,17 +419,17 @@ module _ (s : Setting) (Claimed : Type 0) where
   through_parts : (before : NotedStmt) (here : Here) (P : NotedStmt × Here → Type 0) (o : Outcome (NotedStmt × Here)) → Gives P o → Gives (λ p. IsWalk s before here p → P p) o
   through_parts before here P o h = gives_weaker P (λ p. IsWalk s before here p → P p) o (λ p n walk. n) h
 
-  no_part : (ks : List ℕ) (here : Here) (bundle : Pos) → Gives (PartNext ks here) (refused bad_bundle bundle)
-  no_part ks here bundle = record { made = λ p e. absurd (cc) }
+  no_part : (ks : List ℕ) (st : NotedStmt) (here : Here) (bundle : Pos) → Gives (PartNext ks st here) (refused bad_bundle bundle)
+  no_part ks st here bundle = record { made = λ p e. absurd (cc) }
 
   abbrev ActStep : Act-F Name Note KeptAct KeptStmt → Type 0
-  ActStep y = ActHolds (act_path (act_inside (inner_act y))) (nesting_by (act_nested (inner_act y))) (roll-Act Name Note (inner_act y))
+  ActStep y = ActHolds (act_path (act_inside (inner_act y))) (nesting_by (act_nested (inner_act y))) (act_scope (items_of s) (inner_act y)) (roll-Act Name Note (inner_act y))
 
   act_step : (y : Act-F Name Note KeptAct KeptStmt) → ActStep y
   unfolding Judged
   act_step (Act-F.Block m ks) = record {
     judged = λ fine at note inside here. through_parts _ here _ _ (block_gives m ks fine (λ a. parts_inside s at note (inner_act (Act-F.Block m ks)) (inside a)) (nesting_by (act_nested (inner_act (Act-F.Block m ks)))) at note here);
-    part = λ bundle at note here. no_part _ here bundle;
+    part = λ bundle at note here. no_part _ _ here bundle;
     plain = λ e. absurd (cc);
   }
   act_step Act-F.Empty = record {
@@ -393,64 +438,65 @@ module _ (s : Setting) (Claimed : Type 0) where
       same = λ d. refl;
       onward = onward_none here;
       stays = stays_none s.frame [] here.at;
-      code = λ on tame k exits may. inl (code_is s Claimed at note Act-F.Empty act.Empty k act.rolls-Empty, refl);
+      leads = leads_quiet s (own_of_act s Act-F.Empty) here.seen here.seen refl refl;
+      code = λ st on tame k exits may. inl (code_is s Claimed at note Act-F.Empty act.Empty k act.rolls-Empty, refl);
     });
-    part = λ bundle at note here. no_part _ here bundle;
+    part = λ bundle at note here. no_part _ _ here bundle;
     plain = λ e. absurd (cc);
   }
   act_step (Act-F.Local d) = record {
     judged = λ fine at note inside here. local_gives (roll-Act Name Note (Act-F.Local d)) at note inside here d (act_out (Act-F.Local d)) (nesting_by (Act-F.Local d)) refl false false;
-    part = λ bundle at note here. no_part _ here bundle;
+    part = λ bundle at note here. no_part _ _ here bundle;
     plain = λ e. (refl, refl);
   }
   act_step (Act-F.Assign e f) = record {
     judged = λ fine at note inside here. assign_gives e f at note here (roll-Act Name Note (Act-F.Assign e f)) (act_out (Act-F.Assign e f)) inside (nesting_by (Act-F.Assign e f)) false false;
-    part = λ bundle at note here. part_gives e f at note here;
+    part = λ bundle at note here. part_gives e f at note here (stated at note (roll-Act Name Note (Act-F.Assign e f))) (e, f, act_out (Act-F.Assign e f));
     plain = λ e. (refl, refl);
   }
   act_step (Act-F.Call e) = record {
     judged = λ fine at note inside here. call_gives (roll-Act Name Note (Act-F.Call e)) at note inside here e (act_out (Act-F.Call e)) (nesting_by (Act-F.Call e)) false false;
-    part = λ bundle at note here. no_part _ here bundle;
+    part = λ bundle at note here. no_part _ _ here bundle;
     plain = λ e. absurd (cc);
   }
   act_step (Act-F.If e k None) = record {
     judged = λ fine at note inside here.
         let b = and_cases (is_branch (nesting_of k.0)) true fine in
-        let i : Claimed → PartsInBody s (inner_act (Act-F.If e k None)) = λ a. parts_inside s at note (inner_act (Act-F.If e k None)) (inside a) in
-        through_parts _ here _ _ (if_gives s Claimed at note e (path k.0) (nesting_of k.0) (k.1.whole (λ a. (i a).1)) None None (whole_none s Claimed) b.0 refl (λ a. (i a).0) (nesting_by (act_nested (inner_act (Act-F.If e k None)))) here);
-    part = λ bundle at note here. no_part _ here bundle;
+        let i : Claimed → PartsInBody s note.mode (inner_act (Act-F.If e k None)) = λ a. parts_inside s at note (inner_act (Act-F.If e k None)) (inside a) in
+        through_parts _ here _ _ (if_gives s Claimed at note e (path k.0) (nesting_of k.0) (scope_of (items_of s) k.0) (k.1.whole (λ a. (i a).1)) None None None (whole_none s Claimed) b.0 refl (λ a. (i a).0) (nesting_by (act_nested (inner_act (Act-F.If e k None)))) here);
+    part = λ bundle at note here. no_part _ _ here bundle;
     plain = λ e. absurd (cc);
   }
   act_step (Act-F.If e k (Some j)) = record {
     judged = λ fine at note inside here.
         let b = and_cases (is_branch (nesting_of k.0)) (is_branch (nesting_of j.0)) fine in
-        let i : Claimed → PartsInBody s (inner_act (Act-F.If e k (Some j))) = λ a. parts_inside s at note (inner_act (Act-F.If e k (Some j))) (inside a) in
-        through_parts _ here _ _ (if_gives s Claimed at note e (path k.0) (nesting_of k.0) (k.1.whole (λ a. (i a).1)) (Some (path j.0)) (Some (nesting_of j.0)) (whole_some s Claimed (path j.0) (nesting_of j.0) (j.1.whole (λ a. (i a).2))) b.0 b.1 (λ a. (i a).0)
+        let i : Claimed → PartsInBody s note.mode (inner_act (Act-F.If e k (Some j))) = λ a. parts_inside s at note (inner_act (Act-F.If e k (Some j))) (inside a) in
+        through_parts _ here _ _ (if_gives s Claimed at note e (path k.0) (nesting_of k.0) (scope_of (items_of s) k.0) (k.1.whole (λ a. (i a).1)) (Some (path j.0)) (Some (nesting_of j.0)) (Some (scope_of (items_of s) j.0)) (whole_some s Claimed (path j.0) (nesting_of j.0) (scope_of (items_of s) j.0) (j.1.whole (λ a. (i a).2))) b.0 b.1 (λ a. (i a).0)
         (nesting_by (act_nested (inner_act (Act-F.If e k (Some j))))) here);
-    part = λ bundle at note here. no_part _ here bundle;
+    part = λ bundle at note here. no_part _ _ here bundle;
     plain = λ e. absurd (cc);
   }
   act_step (Act-F.While e k) = record {
     judged = λ fine at note inside here.
-        let i : Claimed → PartsInBody s (inner_act (Act-F.While e k)) = λ a. parts_inside s at note (inner_act (Act-F.While e k)) (inside a) in
-        through_parts _ here _ _ (while_gives s Claimed at note e (path k.0) (nesting_of k.0) (k.1.whole (λ a. (i a).1)) fine (λ a. (i a).0) (nesting_by (act_nested (inner_act (Act-F.While e k)))) false false here);
-    part = λ bundle at note here. no_part _ here bundle;
+        let i : Claimed → PartsInBody s note.mode (inner_act (Act-F.While e k)) = λ a. parts_inside s at note (inner_act (Act-F.While e k)) (inside a) in
+        through_parts _ here _ _ (while_gives s Claimed at note e (path k.0) (nesting_of k.0) (scope_of (items_of s) k.0) (k.1.whole (λ a. (i a).1)) fine (λ a. (i a).0) (nesting_by (act_nested (inner_act (Act-F.While e k)))) false false here);
+    part = λ bundle at note here. no_part _ _ here bundle;
     plain = λ e. absurd (cc);
   }
   act_step (Act-F.Return e) = record {
     judged = λ fine at note inside here. return_gives (roll-Act Name Note (Act-F.Return e)) at note inside here e (act_out (Act-F.Return e)) _ (nesting_by (Act-F.Return e)) _ _;
-    part = λ bundle at note here. no_part _ here bundle;
+    part = λ bundle at note here. no_part _ _ here bundle;
     plain = λ e. absurd (cc);
   }
   act_step (Act-F.Check e) = record {
     judged = λ fine at note inside here. check_gives (roll-Act Name Note (Act-F.Check e)) at note inside here e (act_out (Act-F.Check e)) (nesting_by (Act-F.Check e)) false false;
-    part = λ bundle at note here. no_part _ here bundle;
+    part = λ bundle at note here. no_part _ _ here bundle;
     plain = λ e. absurd (cc);
   }
   act_step (Act-F.Bundle ks) = record {
     judged = λ fine at note inside here. bundle_gives (roll-Act Name Note (inner_act (Act-F.Bundle ks))) at note inside here ks (act_out (inner_act (Act-F.Bundle ks)))
         (nesting_by (act_nested (inner_act (Act-F.Bundle ks)))) (breaks_in ks) (continues_in ks);
-    part = λ bundle at note here. no_part _ here bundle;
+    part = λ bundle at note here. no_part _ _ here bundle;
     plain = λ e. absurd (cc);
   }
   act_step Act-F.Break = record {
@@ -459,10 +505,11 @@ module _ (s : Setting) (Claimed : Type 0) where
       same = λ d. refl;
       onward = onward_none here;
       stays = stays_gone s.frame [] here.at;
-      code = λ on tame k exits may. inr (λ next rest goes j.
+      leads = leads_quiet s (own_of_act s Act-F.Break) here.seen here.seen refl refl;
+      code = λ st on tame k exits may. inr (λ next rest goes j.
           subst (λ fs. Judged s (chained fs rest) exits here) (sym (code_is s Claimed at note Act-F.Break act.Break k act.rolls-Break)) (exit_goes s.frame [] here exits.breaks (may.breaks refl)));
     });
-    part = λ bundle at note here. no_part _ here bundle;
+    part = λ bundle at note here. no_part _ _ here bundle;
     plain = λ e. absurd (cc);
   }
   act_step Act-F.Continue = record {
@@ -471,54 +518,55 @@ module _ (s : Setting) (Claimed : Type 0) where
       same = λ d. refl;
       onward = onward_none here;
       stays = stays_gone s.frame [] here.at;
-      code = λ on tame k exits may. inr (λ next rest goes j.
+      leads = leads_quiet s (own_of_act s Act-F.Continue) here.seen here.seen refl refl;
+      code = λ st on tame k exits may. inr (λ next rest goes j.
           subst (λ fs. Judged s (chained fs rest) exits here) (sym (code_is s Claimed at note Act-F.Continue act.Continue k act.rolls-Continue)) (exit_goes s.frame [] here exits.continues (may.continues refl)));
     });
-    part = λ bundle at note here. no_part _ here bundle;
+    part = λ bundle at note here. no_part _ _ here bundle;
     plain = λ e. absurd (cc);
   }
   act_step (Act-F.For None e None k) = record {
     judged = λ fine at note inside here.
-        let i : Claimed → PartsInBody s (inner_act (Act-F.For None e None k)) = λ a. parts_inside s at note (inner_act (Act-F.For None e None k)) (inside a) in
+        let i : Claimed → PartsInBody s note.mode (inner_act (Act-F.For None e None k)) = λ a. parts_inside s at note (inner_act (Act-F.For None e None k)) (inside a) in
         let b = and_cases true (true && is_branch (nesting_of k.0)) fine in
         let c = and_cases true (is_branch (nesting_of k.0)) b.1 in
-        through_parts _ here _ _ (for_gives s Claimed at note None None (whole_none s Claimed) b.0 e
-        None None (whole_none s Claimed) c.0 (path k.0) (nesting_of k.0) (k.1.whole (λ a. (i a).3)) c.1 (λ a. (i a).1)
-        (nesting_by (act_nested (inner_act (Act-F.For None e None k)))) false false (inside_if listed (λ e. []) e) here);
-    part = λ bundle at note here. no_part _ here bundle;
+        through_parts _ here _ _ (for_gives s Claimed at note None None None (whole_none s Claimed) b.0 e
+        None None None (whole_none s Claimed) c.0 (path k.0) (nesting_of k.0) (scope_of (items_of s) k.0) (k.1.whole (λ a. (i a).3)) c.1 (λ a. (i a).1)
+        (nesting_by (act_nested (inner_act (Act-F.For None e None k)))) false false (inside_if listed (λ e. []) e) (inside_if listed (λ e. []) e) here);
+    part = λ bundle at note here. no_part _ _ here bundle;
     plain = λ e. absurd (cc);
   }
   act_step (Act-F.For None e (Some j) k) = record {
     judged = λ fine at note inside here.
-        let i : Claimed → PartsInBody s (inner_act (Act-F.For None e (Some j) k)) = λ a. parts_inside s at note (inner_act (Act-F.For None e (Some j) k)) (inside a) in
+        let i : Claimed → PartsInBody s note.mode (inner_act (Act-F.For None e (Some j) k)) = λ a. parts_inside s at note (inner_act (Act-F.For None e (Some j) k)) (inside a) in
         let b = and_cases true ((steps (Some (nesting_of j.0))) && is_branch (nesting_of k.0)) fine in
         let c = and_cases (steps (Some (nesting_of j.0))) (is_branch (nesting_of k.0)) b.1 in
-        through_parts _ here _ _ (for_gives s Claimed at note None None (whole_none s Claimed) b.0 e
-        (Some (path j.0)) (Some (nesting_of j.0)) (whole_some s Claimed (path j.0) (nesting_of j.0) (j.1.whole (λ a. (i a).2))) c.0 (path k.0) (nesting_of k.0) (k.1.whole (λ a. (i a).3)) c.1 (λ a. (i a).1)
-        (nesting_by (act_nested (inner_act (Act-F.For None e (Some j) k)))) false false (inside_if listed (λ e. []) e) here);
-    part = λ bundle at note here. no_part _ here bundle;
+        through_parts _ here _ _ (for_gives s Claimed at note None None None (whole_none s Claimed) b.0 e
+        (Some (path j.0)) (Some (nesting_of j.0)) (Some (scope_of (items_of s) j.0)) (whole_some s Claimed (path j.0) (nesting_of j.0) (scope_of (items_of s) j.0) (j.1.whole (λ a. (i a).2))) c.0 (path k.0) (nesting_of k.0) (scope_of (items_of s) k.0) (k.1.whole (λ a. (i a).3)) c.1 (λ a. (i a).1)
+        (nesting_by (act_nested (inner_act (Act-F.For None e (Some j) k)))) false false (inside_if listed (λ e. []) e) (inside_if listed (λ e. []) e) here);
+    part = λ bundle at note here. no_part _ _ here bundle;
     plain = λ e. absurd (cc);
   }
   act_step (Act-F.For (Some l) e None k) = record {
     judged = λ fine at note inside here.
-        let i : Claimed → PartsInBody s (inner_act (Act-F.For (Some l) e None k)) = λ a. parts_inside s at note (inner_act (Act-F.For (Some l) e None k)) (inside a) in
+        let i : Claimed → PartsInBody s note.mode (inner_act (Act-F.For (Some l) e None k)) = λ a. parts_inside s at note (inner_act (Act-F.For (Some l) e None k)) (inside a) in
         let b = and_cases (begins (Some (nesting_of l.0))) (true && is_branch (nesting_of k.0)) fine in
         let c = and_cases true (is_branch (nesting_of k.0)) b.1 in
-        through_parts _ here _ _ (for_gives s Claimed at note (Some (path l.0)) (Some (nesting_of l.0)) (whole_some s Claimed (path l.0) (nesting_of l.0) (l.1.whole (λ a. (i a).0))) b.0 e
-        None None (whole_none s Claimed) c.0 (path k.0) (nesting_of k.0) (k.1.whole (λ a. (i a).3)) c.1 (λ a. (i a).1)
-        (nesting_by (act_nested (inner_act (Act-F.For (Some l) e None k)))) false false (inside_if listed (λ e. []) e) here);
-    part = λ bundle at note here. no_part _ here bundle;
+        through_parts _ here _ _ (for_gives s Claimed at note (Some (path l.0)) (Some (nesting_of l.0)) (Some (scope_of (items_of s) l.0)) (whole_some s Claimed (path l.0) (nesting_of l.0) (scope_of (items_of s) l.0) (l.1.whole (λ a. (i a).0))) b.0 e
+        None None None (whole_none s Claimed) c.0 (path k.0) (nesting_of k.0) (scope_of (items_of s) k.0) (k.1.whole (λ a. (i a).3)) c.1 (λ a. (i a).1)
+        (nesting_by (act_nested (inner_act (Act-F.For (Some l) e None k)))) false false (inside_if listed (λ e. []) e) (inside_if listed (λ e. []) e) here);
+    part = λ bundle at note here. no_part _ _ here bundle;
     plain = λ e. absurd (cc);
   }
   act_step (Act-F.For (Some l) e (Some j) k) = record {
     judged = λ fine at note inside here.
-        let i : Claimed → PartsInBody s (inner_act (Act-F.For (Some l) e (Some j) k)) = λ a. parts_inside s at note (inner_act (Act-F.For (Some l) e (Some j) k)) (inside a) in
+        let i : Claimed → PartsInBody s note.mode (inner_act (Act-F.For (Some l) e (Some j) k)) = λ a. parts_inside s at note (inner_act (Act-F.For (Some l) e (Some j) k)) (inside a) in
         let b = and_cases (begins (Some (nesting_of l.0))) ((steps (Some (nesting_of j.0))) && is_branch (nesting_of k.0)) fine in
         let c = and_cases (steps (Some (nesting_of j.0))) (is_branch (nesting_of k.0)) b.1 in
-        through_parts _ here _ _ (for_gives s Claimed at note (Some (path l.0)) (Some (nesting_of l.0)) (whole_some s Claimed (path l.0) (nesting_of l.0) (l.1.whole (λ a. (i a).0))) b.0 e
-        (Some (path j.0)) (Some (nesting_of j.0)) (whole_some s Claimed (path j.0) (nesting_of j.0) (j.1.whole (λ a. (i a).2))) c.0 (path k.0) (nesting_of k.0) (k.1.whole (λ a. (i a).3)) c.1 (λ a. (i a).1)
-        (nesting_by (act_nested (inner_act (Act-F.For (Some l) e (Some j) k)))) false false (inside_if listed (λ e. []) e) here);
-    part = λ bundle at note here. no_part _ here bundle;
+        through_parts _ here _ _ (for_gives s Claimed at note (Some (path l.0)) (Some (nesting_of l.0)) (Some (scope_of (items_of s) l.0)) (whole_some s Claimed (path l.0) (nesting_of l.0) (scope_of (items_of s) l.0) (l.1.whole (λ a. (i a).0))) b.0 e
+        (Some (path j.0)) (Some (nesting_of j.0)) (Some (scope_of (items_of s) j.0)) (whole_some s Claimed (path j.0) (nesting_of j.0) (scope_of (items_of s) j.0) (j.1.whole (λ a. (i a).2))) c.0 (path k.0) (nesting_of k.0) (scope_of (items_of s) k.0) (k.1.whole (λ a. (i a).3)) c.1 (λ a. (i a).1)
+        (nesting_by (act_nested (inner_act (Act-F.For (Some l) e (Some j) k)))) false false (inside_if listed (λ e. []) e) (inside_if listed (λ e. []) e) here);
+    part = λ bundle at note here. no_part _ _ here bundle;
     plain = λ e. absurd (cc);
   }
 
@@ -527,29 +575,33 @@ module _ (s : Setting) (Claimed : Type 0) where
       let a : NotedAct = roll-Act Name Note x in
       let paths : act_path (act_inside (inner_act y)) ≡ path_of_act a = sym (fold-roll-Act Name Note ActPath Path act_path stmt_path x ∙ ap (λ z. act_path (act_inside z)) (sym is)) in
       let nests : nesting_by (act_nested (inner_act y)) ≡ nesting_of_act a = sym (fold-roll-Act Name Note Nesting Nesting nesting_by nesting_in x ∙ ap (λ z. nesting_by (act_nested z)) (sym is)) in
+      let scopes : act_scope (items_of s) (inner_act y) ≡ scope_of_act (items_of s) a = sym (act_scope_rolled (items_of s) x ∙ ap (act_scope (items_of s)) (sym is)) in
       record {
-        holds = subst (λ p. ActHolds p (nesting_of_act a) a) paths
-            (subst (λ n. ActHolds (act_path (act_inside (inner_act y))) n a) nests
-            (subst (λ b. ActHolds (act_path (act_inside (inner_act y))) (nesting_by (act_nested (inner_act y))) b) (ap (roll-Act Name Note) is) (act_step y)));
+        holds = subst (λ p. ActHolds p (nesting_of_act a) (scope_of_act (items_of s) a) a) paths
+            (subst (λ n. ActHolds (act_path (act_inside (inner_act y))) n (scope_of_act (items_of s) a) a) nests
+            (subst (λ w. ActHolds (act_path (act_inside (inner_act y))) (nesting_by (act_nested (inner_act y))) w a) scopes
+            (subst (λ b. ActHolds (act_path (act_inside (inner_act y))) (nesting_by (act_nested (inner_act y))) (act_scope (items_of s) (inner_act y)) b) (ap (roll-Act Name Note) is) (act_step y))));
       }
 
   stmt_by : (x : Stmt-F Name Note NotedAct NotedStmt) (y : Stmt-F Name Note KeptAct KeptStmt) → inner_stmt y ≡ x → StmtHolds (roll-Stmt Name Note x)
   stmt_by x y is = subst StmtHolds (ap (roll-Stmt Name Note) is) (by y.body.0 y.body.1.holds y.pos y.note)
     where
-      by : (a : NotedAct) → ActHolds (path_of_act a) (nesting_of_act a) a → (at : Pos) (note : Note) → StmtHolds (stated at note a)
+      by : (a : NotedAct) → ActHolds (path_of_act a) (nesting_of_act a) (scope_of_act (items_of s) a) a → (at : Pos) (note : Note) → StmtHolds (stated at note a)
       by a h at note =
           let z : Stmt-F Name Note NotedAct NotedStmt = record { body = a; pos = at; note = note } in
           let paths : path (stated at note a) ≡ stmt_path (stmt_inside z) = fold-roll-Stmt Name Note ActPath Path act_path stmt_path z in
           let nests : nesting_of (stated at note a) ≡ nesting_of_act a = fold-roll-Stmt Name Note Nesting Nesting nesting_by nesting_in z in
+          let scopes : scope_of (items_of s) (stated at note a) ≡ scope_of_act (items_of s) a = scope_stated (items_of s) at note a in
           record {
-            whole = λ inside. subst (λ p. Whole s Claimed p (nesting_of (stated at note a))) (sym paths)
-                (subst (λ n. Whole s Claimed (stmt_path (stmt_inside z)) n) (sym nests) (record {
+            whole = λ inside. subst (λ p. Whole s Claimed p (nesting_of (stated at note a)) (scope_of (items_of s) (stated at note a))) (sym paths)
+                (subst (λ n. Whole s Claimed (stmt_path (stmt_inside z)) n (scope_of (items_of s) (stated at note a))) (sym nests)
+                (subst (λ w. Whole s Claimed (stmt_path (stmt_inside z)) (nesting_of_act a) w) (sym scopes) (record {
                   judged = λ fine here. record {
                     made = λ p walk. (h.judged fine at note inside here).made p walk (ap (λ (q : Path). q.judged s.frame s.head here) paths ∙ walk);
                   };
                   plain = h.plain;
-                }));
-            part = λ bundle here. subst (λ (p : Path). Gives (PartNext p.assigned here) (p.part s.frame bundle here)) (sym paths) (h.part bundle at note here);
+                })));
+            part = λ bundle here. subst (λ (p : Path). Gives (PartNext p.assigned (stated at note a) here) (p.part s.frame bundle here)) (sym paths) (h.part bundle at note here);
           }
 
   pub all_hold : (st : NotedStmt) → StmtHolds st

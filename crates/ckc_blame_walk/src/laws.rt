@@ -17,6 +17,7 @@ ghost use Rattle.ckc_blame_sound.specs.Settings.{Setting, IsFunction, frame_of_t
 ghost use Rattle.ckc_blame_sound.specs.Bodies.{IsInBody, IsNextFresh};
 ghost use Rattle.ckc_blame_sound.specs.Judged.{Exits, Judged};
 ghost use Rattle.ckc_blame_texts.specs.Judged.{IsJudged};
+ghost use Rattle.ckc_blame_scopes.specs.Scopes.{IsScoped};
 ghost use Rattle.ckc_blame_nested.specs.Nested.{nesting_of, AreNested};
 ghost use Rattle.ckc_blame_walk.specs.Walks.{AreSmall, AreNamed, IsLeft, Stays, MayLeave, leaving};
 
@@ -31,12 +32,13 @@ pub fn loops_keep_their_heads()
 {}
 
 /// The code of a statement of a function that the walk has judged is judged from the point where the walk came to it, if
-/// the code after it is judged from the point where the walk left it, and each `break` and `continue` that leaves it may leave it there.
+/// its names are visible there, the code after it is judged from the point where the walk left it, and each `break` and
+/// `continue` that leaves it may leave it there.
 pub fn walks_are_judged()
     ensures { (s : Setting) (st after : NotedStmt) (here there : Here) (literals : ℕ)
         (exits : Exits) (rest : Code) → (nesting_of st).fine ≡ true → IsInBody s st
         → IsNextFresh s here.next → here.counting ≡ false → AreSmall here.at.facts
-        → AreNamed s.frame here.at.facts
+        → AreNamed s.frame here.at.facts → IsScoped s st here.seen
         → (path st).judged s.frame s.head here ≡ Ok (after, there)
         → MayLeave s.frame (path st).assigned (path st).breaks (path st).continues here exits
         → Judged s rest exits there

@@ -12,7 +12,7 @@ use Rattle.ckc_parser.specs.Phase.{parsing}
 use Rattle.ckc_typed.specs.declared.typed.Note.{Note}
 use Rattle.ckc_typed.specs.declared.typed.Typed.{Typed}
 use Rattle.ckc_typed_welltyped.specs.Texts.{TypedAs}
-use Rattle.ckc_blame_words.specs.Literals.{HoldsWord, HoldWords, SignsHoldWords, tree_has_words}
+use Rattle.ckc_blame_words.specs.Literals.{HoldsWord, TokensHoldWords, SignsHoldWords, tree_has_words}
 use Rattle.ckc_blame_words.proofs.Grammar.{tree_words}
 use Rattle.ckc_blame_words.proofs.Noteless.{of_tree}
 
@@ -22,15 +22,15 @@ TokenHolds t = HoldsWord t.kind
 abbrev SignHolds : Sign → Type 0
 SignHolds x = HoldsWord x.token.kind
 
-signs_after_hold : (x : Spelled) (ys : List Spelled) → HoldWords ys → SignsHoldWords (signs_after x ys)
+signs_after_hold : (x : Spelled) (ys : List Spelled) → TokensHoldWords ys → SignsHoldWords (signs_after x ys)
 signs_after_hold x [] h = All-nil SignHolds
 signs_after_hold x (y ∷ ys) h = All-cons SignHolds _ _ (All-head TokenHolds y ys h) (signs_after_hold y ys (All-tail TokenHolds y ys h))
 
-signs_hold : (xs : List Spelled) → HoldWords xs → SignsHoldWords (signs xs)
+signs_hold : (xs : List Spelled) → TokensHoldWords xs → SignsHoldWords (signs xs)
 signs_hold [] h = All-nil SignHolds
 signs_hold (x ∷ xs) h = All-cons SignHolds _ _ (All-head TokenHolds x xs h) (signs_after_hold x xs (All-tail TokenHolds x xs h))
 
-pub parsed_words : (tokens : Tokens) (whole : Tree) → HoldWords tokens.list → parsing.Makes tokens whole → tree_has_words whole ≡ true
+pub parsed_words : (tokens : Tokens) (whole : Tree) → TokensHoldWords tokens.list → parsing.Makes tokens whole → tree_has_words whole ≡ true
 parsed_words tokens whole h parsed = tree_words (signs tokens.list) kind.End whole (signs_hold tokens.list h) parsed
 
 pub types_keep_words : (named : NamedText) (typed : Typed) → TypedAs named typed → tree_has_words typed.tree ≡ tree_has_words named.tree

@@ -25,7 +25,7 @@ use Rattle.ckc_lexer.specs.declared.bytes.Class.TheVariants as class
 use Rattle.ckc_lexer.specs.declared.items.Context.{Context}
 use Rattle.ckc_lexer.specs.declared.items.Item.{Item}
 use Rattle.ckc_lexer.specs.declared.items.Item.TheVariants.{Gap, Token, Broken}
-use Rattle.ckc_blame_words.specs.Literals.{HoldsWord, HoldWords}
+use Rattle.ckc_blame_words.specs.Literals.{HoldsWord, TokensHoldWords}
 
 -- ---- characters
 
@@ -123,16 +123,16 @@ abbrev Holds : Spelled → Type 0
 Holds t = HoldsWord t.kind
 
 module _ (text : List ℕ) (tokens : List Spelled) (lexes : Lexes text tokens) where
-  part_words : (context : Context) (before bytes : List ℕ) (item : Item) (rest : List Spelled) → Spells context bytes item → HoldWords rest → HoldWords (token_at before bytes item ++ rest)
+  part_words : (context : Context) (before bytes : List ℕ) (item : Item) (rest : List Spelled) → Spells context bytes item → TokensHoldWords rest → TokensHoldWords (token_at before bytes item ++ rest)
   part_words context before bytes Gap rest s h = h
   part_words context before bytes (Token k) rest s h = All-cons Holds _ rest (token_word context bytes k s) h
   part_words context before bytes (Broken code) rest s h = h
 
-  words_from : (front rest : List Part) (before : List ℕ) → lexes.parts ≡ front ++ rest → HoldWords (tokens_from before rest)
+  words_from : (front rest : List Part) (before : List ℕ) → lexes.parts ≡ front ++ rest → TokensHoldWords (tokens_from before rest)
   words_from front [] before e = All-nil Holds
   words_from front (part ∷ rest) before e =
       part_words _ before part.bytes part.item (tokens_from (before ++ part.bytes) rest) (lexes.cut.each front part rest e).spells
       (words_from (front ++ part ∷ []) rest (before ++ part.bytes) (e ∙ sym (append_assoc front (part ∷ []) rest)))
 
-pub tokens_hold_words : (text : List ℕ) (tokens : Tokens) → lexing.Makes text tokens → HoldWords tokens.list
-tokens_hold_words text tokens made = subst HoldWords (sym made.1.tokens_are) (words_from text tokens.list made.1 [] made.1.parts [] refl)
+pub tokens_hold_words : (text : List ℕ) (tokens : Tokens) → lexing.Makes text tokens → TokensHoldWords tokens.list
+tokens_hold_words text tokens made = subst TokensHoldWords (sym made.1.tokens_are) (words_from text tokens.list made.1 [] made.1.parts [] refl)

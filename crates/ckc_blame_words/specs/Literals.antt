@@ -26,8 +26,8 @@ HoldsWord (kinds.Character byte) = byte < 2 ^ 32
 HoldsWord _ = Unit {0}
 
 -- this of each token
-abbrev pub HoldWords : List Spelled → Type 0
-HoldWords tokens = All (λ t. HoldsWord t.kind) tokens
+abbrev pub TokensHoldWords : List Spelled → Type 0
+TokensHoldWords tokens = All (λ t. HoldsWord t.kind) tokens
 
 -- this of tokens with their kinds
 abbrev pub SignsHoldWords : List Sign → Type 0
@@ -39,14 +39,16 @@ SignsHoldWords xs = All (λ x. HoldsWord x.token.kind) xs
 abbrev pub is_word : ℕ → Bool
 is_word n = nat_lt n (2 ^ 32)
 
--- whether each literal of a level is a word, by whether its parts have words alone
+-- whether a level of bounds has only words as literals, by whether each of its parts has
 abbrev pub limits_by_parts : {N A : Type 0} → Limits-F N A Bool Bool Bool → Bool
 limits_by_parts = inside_limits all_have (λ e. e)
 
+-- the same of a level of an expression, which may be a literal itself
 abbrev pub node_by_parts : {N A : Type 0} → Node-F N A Bool Bool Bool → Bool
 node_by_parts (Node-F.Number n unsigned) = is_word n
 node_by_parts n = inside_node all_have (λ l. l) (λ e. e) n
 
+-- an expression has what its node has
 abbrev pub expr_by_parts : {N A : Type 0} → Expr-F N A Bool Bool Bool → Bool
 expr_by_parts e = e.node
 
@@ -66,9 +68,11 @@ init_has_words = inside_init all_have expr_has_words
 abbrev pub decl_has_words : {N A : Type 0} → Decl N A → Bool
 decl_has_words d = inside_if all_have limits_have_words d.bounds && init_has_words d.init
 
+-- the same of what a statement does, by whether each statement in it has only words
 abbrev pub act_by_parts : {N A : Type 0} → Act-F N A Bool Bool → Bool
 act_by_parts = inside_act all_have expr_has_words decl_has_words (λ s. s)
 
+-- a statement has what it does
 abbrev pub stmt_by_parts : {N A : Type 0} → Stmt-F N A Bool Bool → Bool
 stmt_by_parts s = s.body
 
@@ -80,6 +84,7 @@ stmt_has_words {N} {A} = fold-Stmt N A Bool Bool act_by_parts stmt_by_parts
 abbrev pub head_has_words : {N A : Type 0} → Head N A → Bool
 head_has_words h = list_all decl_has_words h.params && inside_if all_have limits_have_words h.bounds
 
+-- the same of an item of a text
 abbrev pub item_has_words : {N A : Type 0} → Item N A → Bool
 item_has_words = inside_item all_have decl_has_words head_has_words stmt_has_words
 

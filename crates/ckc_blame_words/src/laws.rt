@@ -18,34 +18,35 @@ ghost use Rattle.ckc_bounds.specs.Phase.{bounding};
 ghost use Rattle.ckc_typed.specs.declared.typed.Typed.{Typed};
 ghost use Rattle.ckc_typed_welltyped.specs.Texts.{TypedAs};
 ghost use Rattle.ckc_blame_sound.specs.Words.{HaveWords};
-ghost use Rattle.ckc_blame_words.specs.Literals.{HoldWords, SignsHoldWords, tree_has_words};
+ghost use Rattle.ckc_blame_words.specs.Literals.{TokensHoldWords, SignsHoldWords, tree_has_words};
 
 /// The tokens of a text hold words: the lexer refuses a larger number, and a character is a byte.
 pub fn tokens_hold_words()
-    ensures { (text : List ℕ) (tokens : Tokens) → lexing.Makes text tokens → HoldWords tokens.list }
+    ensures { (text : List ℕ) (tokens : Tokens) → lexing.Makes text tokens
+        → TokensHoldWords tokens.list }
 {}
 
 /// In the tree that such tokens derive each literal number is a word.
 pub fn trees_have_words()
     ensures derived { (xs : List Sign) (next : Kind) (whole : Tree) → SignsHoldWords xs
         → Derives (n g.text ∷ []) xs next (tree whole ∷ []) → tree_has_words whole ≡ true }
-    ensures parsed { (tokens : Tokens) (whole : Tree) → HoldWords tokens.list
+    ensures parsed { (tokens : Tokens) (whole : Tree) → TokensHoldWords tokens.list
         → parsing.Makes tokens whole → tree_has_words whole ≡ true }
 {}
 
-/// The literals of a tree stay if its names are resolved.
+/// A tree with its names has only words as literals exactly when the tree of the spellings has.
 pub fn names_keep_words()
     ensures { (whole : Tree) (named : NamedText) → naming.Makes whole named
         → tree_has_words named.tree ≡ tree_has_words whole }
 {}
 
-/// They stay if it gets its types.
+/// So has a typed text, exactly when the text before it had types has.
 pub fn types_keep_words()
     ensures { (named : NamedText) (typed : Typed) → TypedAs named typed
         → tree_has_words typed.tree ≡ tree_has_words named.tree }
 {}
 
-/// They stay if its bounds are judged.
+/// So has a text whose bounds are judged, exactly when the typed text has.
 pub fn judging_keeps_words()
     ensures { (typed p : Typed) → bounding.Makes typed p
         → tree_has_words p.tree ≡ tree_has_words typed.tree }

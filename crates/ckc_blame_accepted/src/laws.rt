@@ -1,0 +1,11 @@
+//! What follows from the definitions alone, each the contract of a function that does nothing.
+
+ghost use Rattle.ckc_typed.specs.declared.typed.Typed.{Typed};
+ghost use Rattle.ckc_blame_texts.specs.Judged.{IsJudged};
+ghost use Rattle.ckc_blame_targets.specs.Targets.{KeepRunsFree};
+
+/// Pointers with known limits point into no static object of a judged text that is declared with
+/// bounds.
+pub fn runs_are_free()
+    ensures { (p : Typed) → IsJudged p → KeepRunsFree p }
+{}

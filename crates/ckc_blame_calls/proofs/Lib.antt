@@ -1,0 +1,15 @@
+pub mod Views
+pub mod Looser
+pub mod Converted
+pub mod Taken
+pub mod Numbering
+pub mod Passed
+pub mod Evaluated
+pub mod Calls
+pub mod Stepping
+pub mod Entering
+pub mod Returning
+pub mod Results
+pub mod Handing
+pub mod Known
+pub mod Returned

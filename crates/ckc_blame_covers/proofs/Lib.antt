@@ -1,0 +1,11 @@
+mod Down
+mod Spots
+mod Fine
+mod Scoped
+mod Modes
+mod Checked
+mod Ranges
+mod Few
+mod Cover
+mod Judged
+mod Layouts

@@ -1,0 +1,62 @@
+-- The expressions of checked statements, in which there is no unchecked pointer and no `_Assume_bounds_cast`.
+use Rattle.std.specs.Prelude.{◌≡◌, false, IfSome}
+use Rattle.std.specs.List.{AllByRecursion}
+use Rattle.ckc_base.specs.declared.arithmetic.Mode.{Mode}
+use Rattle.ckc_base.specs.declared.arithmetic.Mode.TheVariants.{Unchecked}
+use Rattle.ckc_syntax.specs.declared.tree.Name.{Name}
+use Rattle.ckc_syntax.specs.declared.tree.Init.TheVariants as init
+use Rattle.ckc_syntax.specs.declared.tree.Act.{Act-F, out-Act}
+use Rattle.ckc_syntax.specs.declared.tree.Node.{out-Node}
+use Rattle.ckc_syntax.specs.declared.tree.Expr.{Expr-F, every-Expr}
+use Rattle.ckc_typed.specs.declared.typed.Note.{Note}
+use Rattle.ckc_typed.specs.Raw.{has_raw}
+use Rattle.ckc_typed.specs.Trees.{NotedLimits, NotedNode, NotedExpr, NotedInit, NotedAct, NotedStmt}
+use Rattle.ckc_typed_welltyped.specs.Expressions.{AnyLimits, AnyNode}
+use Rattle.ckc_source.specs.Code.{Code, Assign, Bundle, Get, Put, Call, If, Loop, Return, Check}
+use Rattle.ckc_blame_sound.specs.Safe.{is_assumed}
+
+-- An expression has a type with no unchecked pointer in it, and is no `_Assume_bounds_cast`.
+pub record IsCheckedPart (e : Expr-F Name Note NotedLimits NotedNode NotedExpr) : Type 0 where
+  pub type : has_raw e.note.ctype ≡ false
+  pub node : is_assumed (out-Node Name Note e.node) ≡ false
+
+-- this of an expression and each expression in it, however deep
+abbrev pub IsChecked : NotedExpr → Type 0
+IsChecked = every-Expr Name Note AnyLimits AnyNode IsCheckedPart
+
+-- this of an initialiser
+abbrev pub IsCheckedInit : NotedInit → Type 0
+IsCheckedInit init.Nothing = Unit {0}
+IsCheckedInit (init.One e) = IsChecked e
+IsCheckedInit (init.Many es) = Unit {0}
+
+-- this of the two sides of an assignment
+abbrev pub AreCheckedSides : Act-F Name Note NotedAct NotedStmt → Type 0
+AreCheckedSides (Act-F.Assign e f) = IsChecked e × IsChecked f
+AreCheckedSides a = Unit {0}
+
+-- this of the expressions of a statement that is a step by itself
+abbrev pub IsCheckedAct : Act-F Name Note NotedAct NotedStmt → Type 0
+IsCheckedAct (Act-F.Local d) = IsCheckedInit d.init
+IsCheckedAct (Act-F.Call e) = IsChecked e
+IsCheckedAct (Act-F.Return e) = IfSome e IsChecked
+IsCheckedAct (Act-F.Check e) = IsChecked e
+IsCheckedAct (Act-F.Bundle ss) = AllByRecursion (λ (st : NotedStmt). AreCheckedSides (out-Act Name Note st.body)) ss
+IsCheckedAct a = AreCheckedSides a
+
+-- the same of a statement
+abbrev pub IsCheckedStmt : NotedStmt → Type 0
+IsCheckedStmt st = IsCheckedAct (out-Act Name Note st.body)
+
+-- the mode of the first step of some code
+abbrev pub mode_of : Code → Mode
+mode_of (Assign spot target right rest) = spot.mode
+mode_of (Bundle spot assigns rest) = spot.mode
+mode_of (Get spot target rest) = spot.mode
+mode_of (Put spot target e rest) = spot.mode
+mode_of (Call spot target callee es rest) = spot.mode
+mode_of (If spot e one two rest) = spot.mode
+mode_of (Loop spot e body step rest) = spot.mode
+mode_of (Return spot e rest) = spot.mode
+mode_of (Check spot e rest) = spot.mode
+mode_of code = Unchecked

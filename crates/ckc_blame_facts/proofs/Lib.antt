@@ -1,0 +1,13 @@
+pub mod Plain
+pub mod SameHeads
+pub mod Callees
+pub mod Statics
+pub mod StaticBounds
+pub mod Told
+pub mod StaticKinds
+pub mod Small
+pub mod Tallies
+pub mod Values
+pub mod StaticTargets
+pub mod Pointees
+pub mod Few

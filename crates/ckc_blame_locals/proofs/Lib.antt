@@ -1,0 +1,12 @@
+pub mod Named
+pub mod Apart
+pub mod Written
+pub mod Given
+pub mod Facts
+pub mod Assigned
+pub mod Points
+pub mod Declared
+pub mod Calls
+pub mod Stored
+pub mod Fitting
+pub mod Plans

@@ -1,0 +1,13 @@
+pub mod Layers
+pub mod Reached
+pub mod Hits
+pub mod Places
+pub mod Statics
+pub mod Pointers
+pub mod Aims
+pub mod Kept
+pub mod Runs
+pub mod Members
+pub mod Later
+pub mod Filled
+pub mod Bundles
