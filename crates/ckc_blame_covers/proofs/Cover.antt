@@ -27,7 +27,7 @@ use Rattle.ckc_source.specs.Eval.{Store}
 use Rattle.ckc_blame_sound.specs.Settings.{Setting}
 use Rattle.ckc_blame_sound.specs.Safe.{is_assumed}
 use Rattle.ckc_blame_numbers.specs.Typed.{HasRow, IsTyped}
-use Rattle.ckc_blame_pointers.specs.Covered.{DeclareOnes, IsElement, IsSingle, IsThrough, IsStructureTarget, IsStructureElement, IsArrow, IsPointerArrow, IsStructureNode, IsDot, IsCoveredUnary, IsCoveredNode, IsCoveredExpr, AreCovered}
+use Rattle.ckc_blame_pointers.specs.Covered.{DeclareOnes, IsElement, IsSingle, IsThrough, IsStructureTarget, IsPointerTarget, IsStructureElement, IsArrow, IsPointerArrow, IsStructureNode, IsDot, IsCoveredUnary, IsCoveredNode, IsCoveredExpr, AreCovered}
 use Rattle.ckc_blame_texts.proofs.Every.{ExprLayer, EachExpr, EachLimits, each_follows}
 use Rattle.ckc_blame_texts.proofs.Sizes.{sizes_are_words}
 use Rattle.ckc_blame_covers.specs.Checked.{IsCheckedPart, IsChecked}
@@ -137,21 +137,24 @@ module _ (globals : Globals) (s : Setting) (store : Store) (seen : List ℕ) (to
   through e (inl one) other = inr (one, told.ones)
   through e (inr many) other = inl (array_is (kind_of e.note.ctype) many other)
 
-  deref : (e : NotedExpr) (t : CType) → IsKnown e → target_type e.note.ctype ≡ Some t → IsReadElement e → IsElement e ⊎ (IsSingle s e ⊎ IsStructureTarget s e)
+  deref : (e : NotedExpr) (t : CType) → IsKnown e → target_type e.note.ctype ≡ Some t → IsReadElement e
+      → IsElement e ⊎ (IsSingle s e ⊎ (IsStructureTarget s e ⊎ IsPointerTarget s store e))
   deref e t known row spoken = by spoken (kind_is e.note.ctype (first_of (is_pointer e.note.ctype) (not (is_void (element_of e.note.ctype))) (held _ (element_of e.note.ctype) t row)) (operand_checked e known))
     where
-      by : IsReadElement e → IsCheckedKind (kind_of e.note.ctype) → IsElement e ⊎ (IsSingle s e ⊎ IsStructureTarget s e)
+      by : IsReadElement e → IsCheckedKind (kind_of e.note.ctype) → IsElement e ⊎ (IsSingle s e ⊎ (IsStructureTarget s e ⊎ IsPointerTarget s store e))
       by (inl integer) (inl one) = inr (inl (record { single = one; integer = integer; declared = told.ones }))
       by (inl integer) (inr many) = inl (record { counted = many; integer = integer })
-      by (inr w) k = inr (inr (record { tag = w.tag; struct = w.struct; through = through e k w.other }))
+      by (inr w) k = inr (inr (inl (record { tag = w.tag; struct = w.struct; through = through e k w.other })))
 
-  indexed : (e f : NotedExpr) (t : CType) → IsKnown e → index_type e.note.ctype f.note.ctype ≡ Some t → IsReadElement e → IsElement e ⊎ IsStructureElement e
+  indexed : (e f : NotedExpr) (t : CType) → IsKnown e → index_type e.note.ctype f.note.ctype ≡ Some t → IsReadElement e
+      → IsElement e ⊎ (IsStructureElement e ⊎ (IsPointerTarget s store e × (kind_of e.note.ctype ≡ Some kind.Arr)))
   indexed e f t known row spoken =
       by spoken (moved_counted (kind_of e.note.ctype) (first_of (is_moved e.note.ctype) (is_integer f.note.ctype) (held _ (element_of e.note.ctype) t row)) (operand_checked e known))
     where
-      by : IsReadElement e → is_counted_kind (kind_of e.note.ctype) ≡ true → IsElement e ⊎ IsStructureElement e
+      by : IsReadElement e → is_counted_kind (kind_of e.note.ctype) ≡ true
+          → IsElement e ⊎ (IsStructureElement e ⊎ (IsPointerTarget s store e × (kind_of e.note.ctype ≡ Some kind.Arr)))
       by (inl integer) many = inl (record { counted = many; integer = integer })
-      by (inr w) many = inr (record { tag = w.tag; struct = w.struct; array = array_is (kind_of e.note.ctype) many w.other })
+      by (inr w) many = inr (inl (record { tag = w.tag; struct = w.struct; array = array_is (kind_of e.note.ctype) many w.other }))
 
   arrowed : (e : NotedExpr) (n : Name) (t : CType) → IsKnown e → arrow_type globals.structs e.note.ctype n ≡ Some t → is_terminated_kind (kind_of e.note.ctype) ≡ false
       → IsArrow s e n t ⊎ IsPointerArrow s store e n t
@@ -170,7 +173,7 @@ module _ (globals : Globals) (s : Setting) (store : Store) (seen : List ℕ) (to
       let form = struct_form s.text.layout n t (out-CType e.note.ctype) here in
       record { operand = operand; tag = form.0; struct = form.1; member = told.members e.note.ctype t n here }
 
-  unary : (mode : Mode) (t : CType) (o : TreeOp) (e : NotedExpr) → IsKnown e → unary_row globals mode o e ≡ Some t → IsSpokenNode s (Node-F.Un o e) → IsCoveredUnary s o e
+  unary : (mode : Mode) (t : CType) (o : TreeOp) (e : NotedExpr) → IsKnown e → unary_row globals mode o e ≡ Some t → IsSpokenNode s (Node-F.Un o e) → IsCoveredUnary s store o e
   unary mode t op.Deref e known row spoken = deref e t known row spoken
   unary mode t op.Address e known row spoken = spoken
   unary mode t op.Minus e known row spoken = tt

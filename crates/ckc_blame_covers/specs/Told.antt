@@ -18,7 +18,7 @@ use Rattle.ckc_typed_welltyped.specs.Expressions.{AnyLimits, AnyNode}
 use Rattle.ckc_bounds_views.specs.Judged.{is_declared_object}
 use Rattle.ckc_source.specs.Eval.{Store}
 use Rattle.ckc_blame_sound.specs.Settings.{Setting}
-use Rattle.ckc_blame_pointers.specs.Covered.{DeclareOnes, IsInScope, IsStaticInteger, IsStaticArray, IsStaticPointer, IsStaticStructure, IsIntegerMember, IsPointerMember, IsStructureNode, IsAddressed}
+use Rattle.ckc_blame_pointers.specs.Covered.{DeclareOnes, IsInScope, IsStaticInteger, IsStaticArray, IsStaticPointer, IsStaticBounded, IsStaticStructure, IsIntegerMember, IsPointerMember, IsStructureNode, IsAddressed}
 
 -- ---- the text
 
@@ -28,7 +28,8 @@ pub record IsTold (globals : Globals) (s : Setting) (store : Store) : Type 0 whe
   pub ones : DeclareOnes s
   pub statics : (k : ℕ) (t : CType) → type_of_name globals s.variables (name.Static k) ≡ Some t
       → is_raw_kind (kind_of t) ≡ false → is_declared_object (slice_get s.frame.objects k) ≡ false
-      → IsStaticInteger s t k ⊎ (IsStaticArray s t k ⊎ (IsStaticPointer s store t k ⊎ IsStaticStructure s t k))
+      → IsStaticInteger s t k
+      ⊎ (IsStaticArray s t k ⊎ (IsStaticPointer s store t k ⊎ (IsStaticBounded s store t k ⊎ IsStaticStructure s t k)))
   pub members : (u t : CType) (n : Name) → dot_type s.text.layout u n ≡ Some t
       → IsIntegerMember s u t n ⊎ IsPointerMember s store u t n
 
@@ -67,7 +68,7 @@ IsSpokenNode s (Node-F.Name (name.Local k)) = Unit {0}
 IsSpokenNode s (Node-F.Name (name.Static k)) = is_declared_object (slice_get s.frame.objects k) ≡ false
 IsSpokenNode s (Node-F.Name n) = ⊥
 IsSpokenNode s (Node-F.Un op.Deref e) = IsReadElement e
-IsSpokenNode s (Node-F.Un op.Address e) = IsAddressed (out-Node Name Note e.node)
+IsSpokenNode s (Node-F.Un op.Address e) = IsAddressed s e.note.ctype (out-Node Name Note e.node)
 IsSpokenNode s (Node-F.Index e f) = IsReadElement e
 IsSpokenNode s (Node-F.Dot e n spot) = IsStructureNode (out-Node Name Note e.node)
 IsSpokenNode s (Node-F.Arrow e n spot) = is_terminated_kind (kind_of e.note.ctype) ≡ false
