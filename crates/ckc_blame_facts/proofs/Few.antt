@@ -15,7 +15,7 @@ use Rattle.ckc_bounds_points.specs.declared.frame.Frame.{Frame}
 use Rattle.ckc_bounds_views.specs.Views.{view}
 use Rattle.ckc_blame_texts.proofs.Every.{EachLimits, EachNode, EachExpr}
 use Rattle.ckc_blame_facts.specs.Values.{HasFewValues}
-use Rattle.ckc_blame_facts.proofs.Tallies.{tally, is_tally, tally-append}
+use Rattle.ckc_blame_sound.proofs.Tallies.{tally, is_tally, tally-append}
 use Rattle.ckc_blame_facts.proofs.Values.{values_are_few}
 
 module _ (frame : Frame) where

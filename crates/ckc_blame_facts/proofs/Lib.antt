@@ -6,7 +6,6 @@ pub mod StaticBounds
 pub mod Told
 pub mod StaticKinds
 pub mod Small
-pub mod Tallies
 pub mod Values
 pub mod StaticTargets
 pub mod Pointees

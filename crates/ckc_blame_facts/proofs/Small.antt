@@ -21,7 +21,7 @@ use Rattle.ckc_blame_sound.specs.Settings.{Setting, IsFunction, setting_of}
 use Rattle.ckc_blame_texts.specs.Judged.{IsJudged}
 use Rattle.ckc_blame_texts.proofs.Functions.{item_is}
 use Rattle.ckc_blame_texts.proofs.Locals.{stmt_declares}
-use Rattle.ckc_blame_facts.proofs.Tallies.{tally, is_tally, tally-append}
+use Rattle.ckc_blame_sound.proofs.Tallies.{tally, is_tally, tally-append}
 
 -- variables are no more than the locals among marks
 record IsFew (vs : List Variable) (ms : List Mark) : Type 0 where

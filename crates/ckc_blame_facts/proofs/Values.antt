@@ -15,7 +15,7 @@ use Rattle.ckc_bounds_points.specs.declared.frame.Frame.{Frame}
 use Rattle.ckc_bounds_views.specs.Parts.{LimitsView, NodeView, View, NodeOfViews, LimitsOfViews, capped}
 use Rattle.ckc_bounds_views.specs.Places.{values_after, values_of_node, with_own}
 use Rattle.ckc_bounds_views.specs.Views.{limits_values, limits_view, node_view, expr_view, view_of_limits, view_of_node, view}
-use Rattle.ckc_blame_facts.proofs.Tallies.{tally, is_tally, tally-append}
+use Rattle.ckc_blame_sound.proofs.Tallies.{tally, is_tally, tally-append}
 
 -- a capped sum is at most the sum
 capped_most : (a b m n : ℕ) → a ≤ m → b ≤ n → capped a b ≤ m + n

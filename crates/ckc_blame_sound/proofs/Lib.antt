@@ -3,4 +3,5 @@ pub mod Flow
 pub mod Kept
 pub mod Joined
 pub mod Words
+pub mod Tallies
 pub mod Typed

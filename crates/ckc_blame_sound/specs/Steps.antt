@@ -14,6 +14,7 @@ use Rattle.ckc_blame_sound.specs.Settings.{Setting}
 use Rattle.ckc_blame_sound.specs.Values.{NamesIntegers}
 use Rattle.ckc_blame_sound.specs.Points.{GoesTo}
 use Rattle.ckc_blame_sound.specs.Bodies.{IsInBody, IsTestInBody, IsNextFresh}
+use Rattle.ckc_blame_sound.specs.Few.{HasRoom, nodes_in, nodes_of_value}
 use Rattle.ckc_blame_sound.specs.Scopes.{StandsInScope, IsTestInScope}
 
 -- a statement that is a step by itself: no block, no `if` and no loop
@@ -27,8 +28,8 @@ is_simple (Act-F.Bundle ss) = true
 is_simple a = false
 
 -- A statement of the function is judged at a point, and not only counted, and each fact there names the number zero and
--- integer locals alone; it stands in the scope of the locals there; what becomes of it is this one step, and control
--- goes from there to another point.
+-- integer locals alone; it stands in the scope of the locals there, and there is room for its fresh variables; what
+-- becomes of it is this one step, and control goes from there to another point.
 pub record IsStep (s : Setting) (here : Here) (step : Code → Code) (there : Here) : Type 0 where
   pub before : NotedStmt
   pub after : NotedStmt
@@ -41,11 +42,13 @@ pub record IsStep (s : Setting) (here : Here) (step : Code → Code) (there : He
   pub counting : here.counting ≡ false
   pub named : All (NamesIntegers s.frame) here.at.facts.list
   pub judged : (path before).judged s.frame s.head here ≡ Ok (after, behind)
+  pub room : HasRoom s here.next (nodes_in before)
   pub becomes : stmt_elaborated s.text s.variables s.result literals after ≡ step ∷ []
   pub goes : GoesTo s.frame behind there
 
--- A condition of a statement of a mode in the function is judged at such a point, and becomes this expression; if it is true control is at a
--- second point, and if it is false at a third. One that is left out is true.
+-- A condition of a statement of a mode in the function is judged at such a point, with room for its fresh variables, and
+-- becomes this expression; if it is true control is at a second point, and if it is false at a third. One that is left
+-- out is true.
 pub record IsCondition (s : Setting) (mode : Mode) (here : Here) (e : Expr) (yes no : Here) : Type 0 where
   pub before : Option NotedExpr
   pub after : Option NotedExpr
@@ -57,6 +60,7 @@ pub record IsCondition (s : Setting) (mode : Mode) (here : Here) (e : Expr) (yes
   pub counting : here.counting ≡ false
   pub named : All (NamesIntegers s.frame) here.at.facts.list
   pub judged : maybe_judged s.frame before here ≡ Ok (after, behind)
+  pub room : HasRoom s here.next (nodes_of_value before)
   pub becomes : e ≡ condition s.text s.variables literals after
   pub true_side : yes ≡ record behind { at = maybe_side s.frame true after behind.at }
   pub false_side : no ≡ record behind { at = maybe_side s.frame false after behind.at }

@@ -20,9 +20,11 @@ use Rattle.ckc_blame_sound.specs.Points.{IsKnown, GoesTo}
 use Rattle.ckc_blame_sound.specs.Steps.{is_simple, IsStep}
 use Rattle.ckc_blame_sound.specs.Bodies.{IsInBody}
 use Rattle.ckc_blame_sound.specs.Scopes.{StandsInScope}
+use Rattle.ckc_blame_sound.specs.Few.{nodes_in, HasRoom}
 use Rattle.ckc_blame_sound.specs.Judged.{Exits, Then, Judged}
 use Rattle.ckc_blame_walk.specs.Walks.{AreNamed}
 use Rattle.ckc_blame_walk.proofs.Onward.{IsOn}
+use Rattle.ckc_blame_walk.proofs.Rooms.{statement_nodes}
 
 -- ---- control
 
@@ -85,11 +87,11 @@ module _ (s : Setting) where
 
   -- a statement that is a step by itself
   pub step_code : {Claimed : Type 0} (before after : NotedStmt) (here there : Here) (k : ℕ) (exits : Exits) (f : Code → Code) → is_simple (out-Act Name Note before.body) ≡ true
-      → (Claimed → IsInBody s before) → StandsInScope s before here.seen → IsOn s Claimed here → AreNamed s.frame here.at.facts → IsWalk before here (after, there) → stmt_elaborated s.text s.variables s.result k after ≡ f ∷ [] → GoesOn f → IsCode (stmt_elaborated s.text s.variables s.result k after) exits here there
-  step_code before after here there k exits f simple inside scope on named walk becomes goes_on =
+      → (Claimed → IsInBody s before) → StandsInScope s before here.seen → IsOn s Claimed here → AreNamed s.frame here.at.facts → IsWalk before here (after, there) → HasRoom s here.next (nodes_in after) → stmt_elaborated s.text s.variables s.result k after ≡ f ∷ [] → GoesOn f → IsCode (stmt_elaborated s.text s.variables s.result k after) exits here there
+  step_code before after here there k exits f simple inside scope on named walk room becomes goes_on =
       inr (λ next rest goes h.
       let step : IsStep s here f next =
-      record { before = before; after = after; literals = k; behind = there; simple = simple; inside = inside on.claimed; scope = scope; fresh = on.fresh; counting = on.counts; named = named; judged = walk; becomes = becomes; goes = goes } in
+      record { before = before; after = after; literals = k; behind = there; simple = simple; inside = inside on.claimed; scope = scope; fresh = on.fresh; counting = on.counts; named = named; judged = walk; room = subst (HasRoom s here.next) (statement_nodes s.frame s.head before here (after, there) walk) room; becomes = becomes; goes = goes } in
       subst (λ fs. Judged s (chained fs rest) exits here) (sym becomes) (goes_on rest exits here (next, step, h)))
 
   chained_both : (fs gs : List (Code → Code)) (rest : Code) → chained (fs ++ gs) rest ≡ chained fs (chained gs rest)

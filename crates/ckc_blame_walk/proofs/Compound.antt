@@ -1,6 +1,6 @@
 -- What statements with parts leave, and that their code is judged if that of their parts is.
-use Rattle.std.proofs.Common.{◌≡◌, inl, inr, refl, sym, ap, subst, ◌∙◌, ℕ, Bool, true, false, List, [], ◌++◌, length, take, append-nil, append_assoc, rules}
-use Rattle.std.specs.Prelude.{◌&&◌, ◌||◌, ◌+◌, not, Option, None, Some, Ok}
+use Rattle.std.proofs.Common.{◌≡◌, inl, inr, refl, sym, ap, subst, ◌∙◌, ℕ, Bool, true, false, List, [], ◌++◌, length, take, append-nil, append_assoc, rules, arith}
+use Rattle.std.specs.Prelude.{◌&&◌, ◌||◌, ◌+◌, ◌≤◌, not, Option, None, Some, Ok}
 use Rattle.std.specs.List.{Contains}
 use Rattle.std.proofs.Math.Seq.{take-append_seam}
 use Rattle.std.proofs.lemmas.List.Elements.{Contains-append_left}
@@ -24,6 +24,7 @@ use Rattle.ckc_build_elaborate.specs.Statements.{Part, ActPart, one, alone, code
 use Rattle.ckc_blame_sound.specs.Settings.{Setting}
 use Rattle.ckc_blame_sound.specs.Points.{GoesTo}
 use Rattle.ckc_blame_sound.specs.Bodies.{IsTestInBody}
+use Rattle.ckc_blame_sound.specs.Few.{nodes_of, nodes_in, HasRoom}
 use Rattle.ckc_blame_sound.specs.Steps.{IsCondition}
 use Rattle.ckc_blame_sound.specs.Judged.{Exits, ending, Branches, Judged}
 use Rattle.ckc_blame_sound.proofs.Joined.{first_known, second_known}
@@ -34,6 +35,7 @@ use Rattle.ckc_blame_walk.proofs.Flow.{AreTame, tame_adding, stays_none, stays_a
 use Rattle.ckc_blame_walk.proofs.Heads.{stays_joined}
 use Rattle.ckc_blame_walk.proofs.Onward.{Onward, IsOn, onward_none, onward_through, on_there}
 use Rattle.ckc_blame_walk.proofs.Pieces.{Gives, through, nested, given, Moved, value_moves}
+use Rattle.ckc_blame_walk.proofs.Rooms.{Grows, grows_none, grows_through, room_after, room_less, value_nodes, value_grows, nodes_if, if_nodes}
 use Rattle.ckc_blame_walk.proofs.Codes.{goes_nowhere, goes_through, IsCode, closed_code}
 use Rattle.ckc_blame_walk.proofs.Exits.{may_first, may_second, may_adding}
 use Rattle.ckc_blame_scopes.specs.Scopes.{tests_of, items_of}
@@ -106,7 +108,8 @@ module _ (s : Setting) (Claimed : Type 0) where
     pub onward : Onward here p.1
     pub stays : Stays s.frame ks here.at p.1.at
     pub leads : Leads s own here.seen p.1.seen
-    pub code : Stands s own here.seen → IsOn s Claimed here → AreTame s.frame here.at.facts → (k : ℕ) (exits : Exits) → MayLeave s.frame ks left turned here exits
+    pub grows : Grows here p.1 (nodes_in p.0)
+    pub code : Stands s own here.seen → IsOn s Claimed here → AreTame s.frame here.at.facts → HasRoom s here.next (nodes_in p.0) → (k : ℕ) (exits : Exits) → MayLeave s.frame ks left turned here exits
         → IsCode s (stmt_elaborated s.text s.variables s.result k p.0) exits here p.1
 
   -- the same of a statement that may be left out
@@ -116,7 +119,8 @@ module _ (s : Setting) (Claimed : Type 0) where
     pub onward : Onward here p.1
     pub stays : Stays s.frame ks here.at p.1.at
     pub leads : Leads s own here.seen p.1.seen
-    pub code : Stands s own here.seen → IsOn s Claimed here → AreTame s.frame here.at.facts → (k : ℕ) (exits : Exits) → MayLeave s.frame ks left turned here exits
+    pub grows : Grows here p.1 (nodes_if p.0)
+    pub code : Stands s own here.seen → IsOn s Claimed here → AreTame s.frame here.at.facts → HasRoom s here.next (nodes_if p.0) → (k : ℕ) (exits : Exits) → MayLeave s.frame ks left turned here exits
         → IsCode s (code_if (part_if p.0) s.text s.variables s.result k) exits here p.1
 
   pub record Whole (path : Path) (nest : Nesting) (w : Walked) : Type 0 where
@@ -136,7 +140,8 @@ module _ (s : Setting) (Claimed : Type 0) where
       onward = onward_none here;
       stays = stays_none s.frame [] here.at;
       leads = leads_quiet s (own_if None None) here.seen here.seen refl refl;
-      code = λ stands on tame k exits may. inl (refl, refl);
+      grows = grows_none here.next _;
+      code = λ stands on tame room k exits may. inl (refl, refl);
     });
     plain = λ e. (refl, refl);
   }
@@ -159,6 +164,7 @@ module _ (s : Setting) (Claimed : Type 0) where
           onward = n.onward;
           stays = n.stays;
           leads = λ visible next f. n.leads visible next (same_fits v path visible next f);
+          grows = n.grows;
           code = λ st. n.code (record { visible = st.visible; next = st.next; scope = st.scope; fits = same_fits v path st.visible st.next st.fits });
         }));
     plain = w.plain;
@@ -234,8 +240,8 @@ module _ (s : Setting) (Claimed : Type 0) where
       unfolding side_of
       adds b = subst (λ a. Adds s.frame a (side_of s.frame b v.0 v.1.at)) moved.at (side_adds s.frame v.0 b v.1.at)
 
-      if_condition : (k : ℕ) → Stands s if_own here.seen → IsOn s Claimed here → AreNamed s.frame here.at.facts → IsCondition s note.mode here (expr_elaborated s.text s.variables k v.0) yes no
-      if_condition k st on named = record {
+      if_condition : (k : ℕ) → Stands s if_own here.seen → IsOn s Claimed here → AreNamed s.frame here.at.facts → HasRoom s here.next (nodes_of v.0) → IsCondition s note.mode here (expr_elaborated s.text s.variables k v.0) yes no
+      if_condition k st on named room = record {
         inside = inside on.claimed;
         scope = test_stands s (Some e) st.visible st.next here.seen if_own.declared st.scope st.fits.declares (if_fits st.visible st.next st.fits).test;
         fresh = on.fresh;
@@ -246,6 +252,7 @@ module _ (s : Setting) (Claimed : Type 0) where
         literals = k;
         behind = v.1;
         judged = ap (λ (o : Outcome (NotedExpr × Here)). bind o (λ p. Ok (Some p.0, p.1))) is;
+        room = subst (HasRoom s here.next) (value_nodes s.frame e here v is) room;
         becomes = refl;
         true_side = refl;
         false_side = refl;
@@ -287,7 +294,16 @@ module _ (s : Setting) (Claimed : Type 0) where
               (stays_front s.frame ks js here.at q.1.at (stays_through s.frame [] ks here.at yes.at q.1.at (stays_adding s.frame here.at yes.at (adds true)) first.stays))
               (stays_back s.frame ks js here.at r.1.at (stays_through s.frame [] js here.at other.at r.1.at (stays_adding s.frame here.at other.at (adds false)) second.stays))
 
-          module _ (st : Stands s if_own here.seen) (on : IsOn s Claimed here) (tame : AreTame s.frame here.at.facts) (k : ℕ) (exits : Exits)
+          few : nodes_of v.0 + nodes_in q.0 + nodes_if r.0 ≤ nodes_in (stated at note (act.If v.0 q.0 r.0))
+          few = if_nodes at note (act.If v.0 q.0 r.0) v.0 q.0 r.0 (act.rolls-If v.0 q.0 r.0)
+
+          grown : Grows here v.1 (nodes_of v.0)
+          grown = (value_grows s.frame e here).made v is
+
+          both_grown : Grows yes q.1 (nodes_in q.0) → Grows here q.1 (nodes_of v.0 + nodes_in q.0)
+          both_grown h = grows_through here.next v.1.next q.1.next (nodes_of v.0) (nodes_in q.0) (nodes_of v.0 + nodes_in q.0) (omega arith) grown h
+
+          module _ (st : Stands s if_own here.seen) (on : IsOn s Claimed here) (tame : AreTame s.frame here.at.facts) (room : HasRoom s here.next (nodes_in (stated at note (act.If v.0 q.0 r.0)))) (k : ℕ) (exits : Exits)
               (may : MayLeave s.frame (ks ++ js) (path.breaks || breaks_if path2) (path.continues || continues_if path2) here exits) (next : Here) (rest : Code)
               (goes : GoesTo s.frame there next) (behind : Judged s rest exits next) where
             abbrev branches : Branches
@@ -314,12 +330,14 @@ module _ (s : Setting) (Claimed : Type 0) where
             unfolding Judged
             if_judged_code = (
               branches,
-              if_condition k st on tame.1,
+              if_condition k st on tame.1 (room_less s here.next (nodes_of v.0) (nodes_in (stated at note (act.If v.0 q.0 r.0))) (omega (arith, few)) room),
               closed_code s (stmt_elaborated s.text s.variables s.result (k + literals_of v.0) q.0) (ending exits next) yes q.1 one_ends
-                  (first.code (one_stands st) (on_there s here yes moved.onward on) (tame_adding s.frame here.at yes.at (adds true) tame) (k + literals_of v.0) (ending exits next) one_may),
+                  (first.code (one_stands st) (on_there s here yes moved.onward on) (tame_adding s.frame here.at yes.at (adds true) tame)
+                  (room_after s here.next v.1.next (nodes_of v.0) (nodes_in q.0) (nodes_in (stated at note (act.If v.0 q.0 r.0))) (omega (arith, few)) grown room) (k + literals_of v.0) (ending exits next) one_may),
               record { known = λ reached. (goes_nowhere no).known reached; seen = λ k c. same_has no.seen q.1.seen (seen_first ∙ sym moved.seen) k c },
               closed_code s (code_if (part_if r.0) s.text s.variables s.result (k + literals_of v.0 + (part_of q.0).literals)) (ending exits next) other r.1 two_ends
-                  (second.code (two_stands st) (on_there s here other (onward_through here yes other moved.onward first.onward) on) (tame_adding s.frame here.at other.at (adds false) tame) (k + literals_of v.0 + (part_of q.0).literals) (ending exits next) two_may),
+                  (second.code (two_stands st) (on_there s here other (onward_through here yes other moved.onward first.onward) on) (tame_adding s.frame here.at other.at (adds false) tame)
+                  (room_after s here.next q.1.next (nodes_of v.0 + nodes_in q.0) (nodes_if r.0) (nodes_in (stated at note (act.If v.0 q.0 r.0))) few (both_grown first.grows) room) (k + literals_of v.0 + (part_of q.0).literals) (ending exits next) two_may),
               behind,
             )
 
@@ -330,10 +348,11 @@ module _ (s : Setting) (Claimed : Type 0) where
             onward = onward_through here other there (onward_through here yes other moved.onward first.onward) second.onward;
             stays = if_stays;
             leads = if_leads;
-            code = λ st on tame k exits may. inr (λ next rest goes behind.
+            grows = grows_through here.next q.1.next r.1.next (nodes_of v.0 + nodes_in q.0) (nodes_if r.0) (nodes_in (stated at note (act.If v.0 q.0 r.0))) few (both_grown first.grows) second.grows;
+            code = λ st on tame room k exits may. inr (λ next rest goes behind.
                 subst (λ fs. Judged s (chained fs rest) exits here)
                 (sym (code_is at note (Act-F.If v.0 q.0 r.0) (act.If v.0 q.0 r.0) k (act.rolls-If v.0 q.0 r.0) ∙ if_code at note.mode v.0 q.0 r.0 k))
-                (if_judged_code st on tame k exits may next rest goes behind));
+                (if_judged_code st on tame room k exits may next rest goes behind));
           }
 
     pub if_gives : Gives (Next (ks ++ js) mine if_own (path.breaks || breaks_if path2) (path.continues || continues_if path2) here) (if_judged s.frame s.head at note e path path2 here)

@@ -20,6 +20,7 @@ use Rattle.ckc_build_elaborate.specs.Functions.{literals_of_head}
 use Rattle.ckc_build_elaborate.specs.Statements.{alone, stmt_elaborated}
 use Rattle.ckc_blame_sound.specs.Settings.{Setting, frame_of_text, setting_of, IsFunction}
 use Rattle.ckc_blame_sound.specs.Bodies.{IsInBody, IsNextFresh}
+use Rattle.ckc_blame_sound.specs.Few.{nodes_in, AreFew, HasRoom}
 use Rattle.ckc_blame_sound.specs.Judged.{Judged}
 use Rattle.ckc_blame_texts.specs.Judged.{IsJudged, IsBodyJudged, globals_in}
 use Rattle.ckc_blame_texts.proofs.Bodies.{bodies_are_typed, declared_known}
@@ -31,6 +32,7 @@ use Rattle.ckc_blame_walk.proofs.Twins.{Agree, SameHere, bare, Twin}
 use Rattle.ckc_blame_walk.proofs.Acts.{bare_both}
 use Rattle.ckc_blame_walk.proofs.Again.{stmt_again}
 use Rattle.ckc_blame_walk.proofs.Texts.{SameText, text_same}
+use Rattle.ckc_blame_walk.proofs.Rooms.{statement_nodes}
 use Rattle.ckc_blame_walk.proofs.Functions.{function_goes}
 use Rattle.ckc_blame_scopes.specs.Scopes.{IsScoped}
 use Rattle.ckc_blame_scopes.proofs.Bodies.{body_scoped}
@@ -123,6 +125,19 @@ setting_fresh p h body few =
     let n = length (variables_of h body) in
     subst (λ m. (n ≤ m) × (m < 2 ^ 32)) (sym same) (omega arith, few)
 
+-- There is room for the fresh variables of a whole body, if the bodies of the text are so.
+body_room : (p : Typed) (s : Setting) (f : Function) (is : IsFunction p s f) (before : NotedStmt) → first_fresh is.head is.body ≡ first_fresh is.head before → body_judged (frame_of_text p) is.head before ≡ Ok is.body
+    → HasRoom s (first_fresh is.head before) (nodes_in before)
+unfolding setting_of
+body_room p s f is before firsts judged few =
+    let walk = made_of ((path before).judged (function_frame (frame_of_text p) is.head before) (head_bounds (frame_of_text p) is.head) (begin_of (frame_of_text p) is.head before)) (λ p. Ok p.0) is.body judged in
+    let same : walk.0.0 ≡ is.body = cc in
+    let nodes : nodes_in is.body ≡ nodes_in before =
+    ap nodes_in (sym same) ∙ statement_nodes (function_frame (frame_of_text p) is.head before) (head_bounds (frame_of_text p) is.head) before (begin_of (frame_of_text p) is.head before) walk.0 walk.1 in
+    let variables : length s.variables ≡ length (variables_of is.head is.body) = ap (λ (x : Setting). length x.variables) is.judged in
+    let text : AreFew p = subst AreFew (ap (λ (x : Setting). x.text) is.judged) few in
+    omega (arith, nodes, variables, text is.head is.body is.there, firsts, variables_counted is.head is.body)
+
 -- the code of a function of a judged text
 pub text_goes : (p : Typed) (s : Setting) (f : Function) (j : IsJudged p) → AreNested j.typed.tree.items → (is : IsFunction p s f)
     → Judged s f.body leaving (begin_in s.frame false is.head (first_fresh is.head is.body))
@@ -136,6 +151,7 @@ text_goes p s f j fine is =
     let inside : IsInBody s b.before = subst (λ x. IsInBody x b.before) (sym is.judged) (setting_inside p j is.head is.body b) in
     let fresh : IsNextFresh s (first_fresh is.head b.before) =
     subst (IsNextFresh s) firsts (subst (λ x. IsNextFresh x (first_fresh is.head is.body)) (sym is.judged) (setting_fresh p is.head is.body)) in
+    let room : HasRoom s (first_fresh is.head b.before) (nodes_in b.before) = body_room p s f is b.before firsts judged in
     let frame_is : s.frame ≡ function_frame (frame_of_text p) is.head b.before =
     ap (λ (x : Setting). x.frame) is.judged ∙ frame_same (frame_of_text p) is.head is.body b.before twin in
     let numbers : AreLocals 0 (names_declared (all_of is.head b.before)) =
@@ -147,7 +163,7 @@ text_goes p s f j fine is =
     let k : ℕ = is.literals + literals_of_head is.head in
     let code : alone (stmt_elaborated s.text s.variables s.result k is.body) ≡ f.body =
     ap (λ (x : Setting). alone (stmt_elaborated x.text x.variables x.result k is.body)) is.judged ∙ sym (ap (λ (x : Function). x.body) is.runs) in
-    let h = function_goes s (frame_of_text p) is.head b.before is.body k (fine is.head b.before b.there) inside fresh scoped frame_is head_is judged in
+    let h = function_goes s (frame_of_text p) is.head b.before is.body k (fine is.head b.before b.there) inside fresh room scoped frame_is head_is judged in
     subst (λ (c : Code). Judged s c leaving (begin_in s.frame false is.head (first_fresh is.head is.body))) code
     (subst (λ n. Judged s (alone (stmt_elaborated s.text s.variables s.result k is.body)) leaving (begin_in s.frame false is.head n))
     (sym firsts) h)

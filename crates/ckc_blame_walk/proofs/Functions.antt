@@ -16,6 +16,7 @@ use Rattle.ckc_blame_sound.specs.Values.{value}
 use Rattle.ckc_linear.specs.Facts.{Satisfies}
 use Rattle.ckc_blame_sound.specs.Points.{GoesTo}
 use Rattle.ckc_blame_sound.specs.Bodies.{IsInBody, IsNextFresh}
+use Rattle.ckc_blame_sound.specs.Few.{nodes_in, HasRoom}
 use Rattle.ckc_blame_sound.specs.Judged.{Judged}
 use Rattle.ckc_blame_nested.specs.Nested.{nesting_of}
 use Rattle.ckc_blame_walk.specs.Walks.{IsExit, empty_point, leaving}
@@ -47,12 +48,12 @@ empty_exit frame ks here = record {
   seen = λ k c. absurd (none_in k c);
 }
 
-pub body_goes : (s : Setting) (head : NotedHead) (n : ℕ) (body after : NotedStmt) (there : Here) (k : ℕ) → (nesting_of body).fine ≡ true → IsInBody s body → IsNextFresh s n
+pub body_goes : (s : Setting) (head : NotedHead) (n : ℕ) (body after : NotedStmt) (there : Here) (k : ℕ) → (nesting_of body).fine ≡ true → IsInBody s body → IsNextFresh s n → HasRoom s n (nodes_in body)
     → IsScoped s body (begin_in s.frame false head n).seen → (path body).judged s.frame s.head (begin_in s.frame false head n) ≡ Ok (after, there)
     → Judged s (alone (stmt_elaborated s.text s.variables s.result k after)) leaving (begin_in s.frame false head n)
 unfolding Judged
-body_goes s head n body after there k fine inside fresh scoped walk =
-    statement_judged s body after (begin_in s.frame false head n) there k leaving _ fine inside fresh refl (entry_small s.frame) (entry_named s.frame) scoped walk
+body_goes s head n body after there k fine inside fresh room scoped walk =
+    statement_judged s body after (begin_in s.frame false head n) there k leaving _ fine inside fresh refl (entry_small s.frame) (entry_named s.frame) scoped room walk
     (record {
       breaks = λ b. empty_exit s.frame (path body).assigned (begin_in s.frame false head n);
       continues = λ c. empty_exit s.frame (path body).assigned (begin_in s.frame false head n);
@@ -60,10 +61,10 @@ body_goes s head n body after there k fine inside fresh scoped walk =
     (to_empty s.frame there)
 
 -- The code of a judged body is judged in the frame that it was judged in.
-pub function_goes : (s : Setting) (frame : Frame) (head : NotedHead) (body after : NotedStmt) (k : ℕ) → (nesting_of body).fine ≡ true → IsInBody s body → IsNextFresh s (first_fresh head body) → IsScoped s body (flat_map name_seen head.params) → s.frame ≡ function_frame frame head body
+pub function_goes : (s : Setting) (frame : Frame) (head : NotedHead) (body after : NotedStmt) (k : ℕ) → (nesting_of body).fine ≡ true → IsInBody s body → IsNextFresh s (first_fresh head body) → HasRoom s (first_fresh head body) (nodes_in body) → IsScoped s body (flat_map name_seen head.params) → s.frame ≡ function_frame frame head body
     → s.head ≡ head_bounds frame head → body_judged frame head body ≡ Ok after
     → Judged s (alone (stmt_elaborated s.text s.variables s.result k after)) leaving (begin_in s.frame false head (first_fresh head body))
-function_goes s frame head body after k fine inside fresh scoped frame_is head_is judged =
+function_goes s frame head body after k fine inside fresh room scoped frame_is head_is judged =
     let walk = made_of ((path body).judged (function_frame frame head body) (head_bounds frame head) (begin_of frame head body)) (λ p. Ok p.0) after judged in
     let there : Here = walk.0.1 in
     let same : walk.0.0 ≡ after = cc in
@@ -71,4 +72,4 @@ function_goes s frame head body after k fine inside fresh scoped frame_is head_i
     ap (λ f. (path body).judged f s.head (begin_in f false head (first_fresh head body))) frame_is
     ∙ ap (λ h. (path body).judged (function_frame frame head body) h (begin_of frame head body)) head_is
     ∙ walk.1 ∙ ap (λ (x : NotedStmt). Ok (x, there)) same in
-    body_goes s head (first_fresh head body) body after there k fine inside fresh scoped moved
+    body_goes s head (first_fresh head body) body after there k fine inside fresh room scoped moved

@@ -4,7 +4,9 @@ pub mod Flow
 pub mod Heads
 pub mod Onward
 pub mod Inside
+pub mod Fresh
 pub mod Pieces
+pub mod Rooms
 pub mod Codes
 pub mod Exits
 pub mod Compound

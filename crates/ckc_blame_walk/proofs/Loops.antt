@@ -1,6 +1,6 @@
 -- What loops leave, and that their code is judged if that of their parts is.
 use Rattle.std.proofs.Common.{◌≡◌, inr, refl, sym, ap, subst, ◌∙◌, ℕ, Bool, true, false, List, [], ◌++◌, length, append-nil, arith}
-use Rattle.std.specs.Prelude.{◌&&◌, ◌||◌, ◌+◌, not, Option, None, Some, Ok}
+use Rattle.std.specs.Prelude.{◌&&◌, ◌||◌, ◌+◌, ◌≤◌, not, Option, None, Some, Ok}
 use Rattle.std.specs.List.{Contains}
 use Rattle.ckc_base.specs.declared.places.Pos.{Pos}
 use Rattle.ckc_base.specs.declared.arithmetic.Mode.{Mode}
@@ -21,6 +21,7 @@ use Rattle.ckc_build_elaborate.specs.Statements.{one, alone, code_if, literals_i
 use Rattle.ckc_blame_sound.specs.Settings.{Setting}
 use Rattle.ckc_blame_sound.specs.Points.{IsKnown, GoesTo}
 use Rattle.ckc_blame_sound.specs.Bodies.{IsTestInBody}
+use Rattle.ckc_blame_sound.specs.Few.{nodes_of, nodes_of_value, nodes_in, HasRoom}
 use Rattle.ckc_blame_sound.specs.Steps.{IsCondition}
 use Rattle.ckc_blame_sound.specs.Judged.{Exits, ending, Turns, in_body, Judged}
 use Rattle.ckc_blame_sound.proofs.Joined.{less_known}
@@ -30,6 +31,7 @@ use Rattle.ckc_blame_walk.proofs.Adds.{Adds, adds_none, side_adds}
 use Rattle.ckc_blame_walk.proofs.Flow.{AreTame, tame_there, tame_adding, stays_adding, stays_through, stays_back, stays_less}
 use Rattle.ckc_blame_walk.proofs.Onward.{Onward, IsOn, onward_none, onward_through, on_there}
 use Rattle.ckc_blame_walk.proofs.Pieces.{Gives, through, nested, given, Moved, value_moves, maybe_moves}
+use Rattle.ckc_blame_walk.proofs.Rooms.{Grows, grows_through, room_after, room_less, value_nodes, value_grows, maybe_nodes, maybe_grows, nodes_if, while_nodes, for_nodes}
 use Rattle.ckc_blame_walk.proofs.Codes.{goes_nowhere, goes_through, IsCode, both_code, closed_code}
 use Rattle.ckc_blame_walk.proofs.Exits.{known_before, left_back, exit_front, exit_after, exit_end, loop_left, may_not}
 use Rattle.ckc_blame_walk.proofs.Compound.{Extends, extends_none, extends_through, extended_has, extended_front, same_has, part_if, assigned_if, breaks_if, continues_if, fine_if, is_plain_if, declared_if, own_of, own_if, Next, NextIf, Whole, WholeIf, is_false, part_act, code_is}
@@ -110,8 +112,8 @@ module _ (s : Setting) (Claimed : Type 0) where
       yes_adds : Adds s.frame head.at yes.at
       yes_adds = subst (λ a. Adds s.frame a yes.at) moved.at (maybe_adds s.frame true (Some v.0) v.1.at)
 
-      while_condition : (k : ℕ) → Stands s while_own here.seen → IsOn s Claimed here → AreNamed s.frame head.at.facts → IsCondition s note.mode head (expr_elaborated s.text s.variables k v.0) yes no
-      while_condition k st on named = record {
+      while_condition : (k : ℕ) → Stands s while_own here.seen → IsOn s Claimed here → AreNamed s.frame head.at.facts → HasRoom s here.next (nodes_of v.0) → IsCondition s note.mode head (expr_elaborated s.text s.variables k v.0) yes no
+      while_condition k st on named room = record {
         inside = inside on.claimed;
         scope = test_stands s (Some e) st.visible st.next here.seen while_own.declared st.scope st.fits.declares (while_test st.visible st.next st.fits);
         fresh = on.fresh;
@@ -122,6 +124,7 @@ module _ (s : Setting) (Claimed : Type 0) where
         literals = k;
         behind = v.1;
         judged = ap (λ (o : Outcome (NotedExpr × Here)). bind o (λ p. Ok (Some p.0, p.1))) is;
+        room = subst (HasRoom s here.next) (value_nodes s.frame e head v is) room;
         becomes = refl;
         true_side = refl;
         false_side = refl;
@@ -150,7 +153,13 @@ module _ (s : Setting) (Claimed : Type 0) where
         body_stands : Stands s while_own here.seen → Stands s body_own yes.seen
         body_stands st = subst (Stands s body_own) (sym moved.seen) (record { visible = st.visible; next = st.next; scope = st.scope; fits = while_fits st.visible st.next st.fits })
 
-        module _ (st : Stands s while_own here.seen) (on : IsOn s Claimed here) (tame : AreTame s.frame here.at.facts) (k : ℕ) (next : Here) (goes : GoesTo s.frame there next) where
+        few : nodes_of v.0 + nodes_in q.0 ≤ nodes_in (stated at note (act.While v.0 q.0))
+        few = while_nodes at note (act.While v.0 q.0) v.0 q.0 (act.rolls-While v.0 q.0)
+
+        grown : Grows here v.1 (nodes_of v.0)
+        grown = (value_grows s.frame e head).made v is
+
+        module _ (st : Stands s while_own here.seen) (on : IsOn s Claimed here) (tame : AreTame s.frame here.at.facts) (room : HasRoom s here.next (nodes_in (stated at note (act.While v.0 q.0)))) (k : ℕ) (next : Here) (goes : GoesTo s.frame there next) where
           abbrev points : Turns
           points = record { head = head; yes = yes; no = no; step = head; behind = next }
 
@@ -176,11 +185,12 @@ module _ (s : Setting) (Claimed : Type 0) where
             points,
             record { known = λ reached. less_known s.frame ks here.at reached; seen = λ k c. c },
             (
-              while_condition k st on head_tame.1,
+              while_condition k st on head_tame.1 (room_less s here.next (nodes_of v.0) (nodes_in (stated at note (act.While v.0 q.0))) (omega (arith, few)) room),
               goes_through no there next (record { known = λ reached. side_known s.frame path.breaks (Some v.0) v.1.at reached; seen = λ k c. same_has no.seen q.1.seen seen_body k c }) goes,
               closed_code s (stmt_elaborated s.text s.variables s.result (k + literals_of v.0) q.0) (in_body points) yes q.1
                   (exit_end s.frame ks yes q.1 head yes_tame.0 body.stays (extended_has yes.seen q.1.seen body.extends) to_head)
-                  (body.code (body_stands st) (on_there s head yes moved.onward on) yes_tame (k + literals_of v.0) (in_body points) body_may),
+                  (body.code (body_stands st) (on_there s head yes moved.onward on) yes_tame
+                  (room_after s here.next v.1.next (nodes_of v.0) (nodes_in q.0) (nodes_in (stated at note (act.While v.0 q.0))) few grown room) (k + literals_of v.0) (in_body points) body_may),
               λ exits. goes_nowhere head,
             ),
             behind,
@@ -193,9 +203,10 @@ module _ (s : Setting) (Claimed : Type 0) where
           onward = onward_through here yes there moved.onward body.onward;
           stays = stays_more s.frame ks here.at v.1.at there.at (subst (λ a. Stays s.frame ks here.at a) (sym moved.at) (stays_less s.frame ks here.at)) (other_adds s.frame path.breaks (Some v.0) v.1.at);
           leads = while_leads;
-          code = λ st on tame k exits may. inr (λ next rest goes behind.
+          grows = grows_through here.next v.1.next q.1.next (nodes_of v.0) (nodes_in q.0) (nodes_in (stated at note (act.While v.0 q.0))) few grown body.grows;
+          code = λ st on tame room k exits may. inr (λ next rest goes behind.
               subst (λ fs. Judged s (chained fs rest) exits here) (sym (code_is s Claimed at note (Act-F.While v.0 q.0) (act.While v.0 q.0) k (act.rolls-While v.0 q.0)))
-              (while_judged_code st on tame k next goes exits rest behind));
+              (while_judged_code st on tame room k next goes exits rest behind));
         }
 
     pub while_gives : Gives (Next s Claimed ks mine while_own left turned here) (while_judged s.frame s.head at note e path here)
@@ -319,8 +330,8 @@ module _ (s : Setting) (Claimed : Type 0) where
           fits = (for_fits st.visible st.next st.fits).body;
         }
 
-        for_condition : (k : ℕ) → Stands s for_own here.seen → IsOn s Claimed for_head → AreNamed s.frame for_head.at.facts → IsCondition s note.mode for_head (condition s.text s.variables k v.0) for_yes for_no
-        for_condition k st on named = record { before = e; after = v.0; literals = k; behind = v.1; inside = inside on.claimed; scope = for_scope st; fresh = on.fresh; counting = on.counts; named = named; judged = judged; becomes = refl; true_side = refl; false_side = refl }
+        for_condition : (k : ℕ) → Stands s for_own here.seen → IsOn s Claimed for_head → AreNamed s.frame for_head.at.facts → HasRoom s p.1.next (nodes_of_value v.0) → IsCondition s note.mode for_head (condition s.text s.variables k v.0) for_yes for_no
+        for_condition k st on named room = record { room = subst (HasRoom s p.1.next) ((maybe_nodes s.frame e for_head).made v judged) room; before = e; after = v.0; literals = k; behind = v.1; inside = inside on.claimed; scope = for_scope st; fresh = on.fresh; counting = on.counts; named = named; judged = judged; becomes = refl; true_side = refl; false_side = refl }
 
         for_exit : (x exit : Here) → x.at ≡ for_head.at → ((k : ℕ) → Contains x.seen k → Contains for_yes.seen k) → GoesTo s.frame x exit → IsExit s.frame (us ++ ts) for_yes exit
         for_exit x exit same seen goes = record {
@@ -411,7 +422,23 @@ module _ (s : Setting) (Claimed : Type 0) where
             seen_closed : for_there.seen ≡ here.seen
             seen_closed = extended_front here.seen x.1.seen seen_last
 
-            module _ (st : Stands s for_own here.seen) (on : IsOn s Claimed here) (tame : AreTame s.frame here.at.facts) (k : ℕ) (next : Here) (goes : GoesTo s.frame for_there next) where
+            abbrev for_whole : ℕ
+            for_whole = nodes_in (stated at note (act.For p.0 v.0 x.0 q.0))
+
+            for_few : nodes_if p.0 + nodes_of_value v.0 + nodes_in q.0 + nodes_if x.0 ≤ for_whole
+            for_few = for_nodes at note (act.For p.0 v.0 x.0 q.0) p.0 v.0 x.0 q.0 (act.rolls-For p.0 v.0 x.0 q.0)
+
+            for_grown : Grows here v.1 (nodes_if p.0 + nodes_of_value v.0)
+            for_grown = grows_through here.next p.1.next v.1.next (nodes_if p.0) (nodes_of_value v.0) (nodes_if p.0 + nodes_of_value v.0) (omega arith) first.grows ((maybe_grows s.frame e for_head).made v judged)
+
+            body_grown : Grows here q.1 (nodes_if p.0 + nodes_of_value v.0 + nodes_in q.0)
+            body_grown = grows_through here.next v.1.next q.1.next (nodes_if p.0 + nodes_of_value v.0) (nodes_in q.0) (nodes_if p.0 + nodes_of_value v.0 + nodes_in q.0) (omega arith) for_grown body.grows
+
+            to_step_grown : (b : Bool) → Grows here (step_at b) (nodes_if p.0 + nodes_of_value v.0 + nodes_in q.0)
+            to_step_grown true = body_grown
+            to_step_grown false = body_grown
+
+            module _ (st : Stands s for_own here.seen) (on : IsOn s Claimed here) (tame : AreTame s.frame here.at.facts) (room : HasRoom s here.next for_whole) (k : ℕ) (next : Here) (goes : GoesTo s.frame for_there next) where
               abbrev for_points : Turns
               for_points = record { head = for_head; yes = for_yes; no = for_no; step = step_at path.continues; behind = next }
 
@@ -445,16 +472,19 @@ module _ (s : Setting) (Claimed : Type 0) where
                 for_points,
                 record { known = λ reached. less_known s.frame (us ++ ts) p.1.at reached; seen = λ k c. c },
                 (
-                  for_condition k st head_on (for_head_tame begun_tame).1,
+                  for_condition k st head_on (for_head_tame begun_tame).1 (room_after s here.next p.1.next (nodes_if p.0) (nodes_of_value v.0) for_whole (omega (arith, for_few)) first.grows room),
                   goes_through for_no for_there next (record { known = λ reached. side_known s.frame path.breaks v.0 v.1.at reached; seen = has_closed }) goes,
                   closed_code s (stmt_elaborated s.text s.variables s.result (k + literals_of_value v.0 + literals_if (part_if x.0)) q.0) (in_body for_points) for_yes q.1
                       (to_the_step begun_tame path.continues)
-                      (body.code (inner_stands st) yes_on (for_tame begun_tame) (k + literals_of_value v.0 + literals_if (part_if x.0)) (in_body for_points) for_may),
+                      (body.code (inner_stands st) yes_on (for_tame begun_tame)
+                      (room_after s here.next v.1.next (nodes_if p.0 + nodes_of_value v.0) (nodes_in q.0) for_whole (omega (arith, for_few)) for_grown room) (k + literals_of_value v.0 + literals_if (part_if x.0)) (in_body for_points) for_may),
                   λ exits.
                       closed_code s (code_if (part_if x.0) s.text s.variables s.result (k + literals_of_value v.0)) (ending exits for_head) (step_at path.continues) x.1
                       (exit_end s.frame ts (step_at path.continues) x.1 for_head (step_tame begun_tame path.continues).0 last.stays (extended_has (step_at path.continues).seen x.1.seen last.extends)
                       (head_after begun_tame path.continues))
-                      (last.code (step_stands path.continues st) (on_there s for_yes (step_at path.continues) (to_step_onward path.continues) yes_on) (step_tame begun_tame path.continues) (k + literals_of_value v.0) (ending exits for_head) (step_may exits)),
+                      (last.code (step_stands path.continues st) (on_there s for_yes (step_at path.continues) (to_step_onward path.continues) yes_on) (step_tame begun_tame path.continues)
+                      (room_after s here.next (step_at path.continues).next (nodes_if p.0 + nodes_of_value v.0 + nodes_in q.0) (nodes_if x.0) for_whole for_few (to_step_grown path.continues) room)
+                      (k + literals_of_value v.0) (ending exits for_head) (step_may exits)),
                 ),
                 behind,
               )
@@ -474,14 +504,15 @@ module _ (s : Setting) (Claimed : Type 0) where
                   (onward_through for_yes (step_at path.continues) for_there (to_step_onward path.continues) last.onward);
               stays = for_stays;
               leads = leads_quiet s for_own here.seen for_there.seen refl seen_closed;
-              code = λ st on tame k exits may.
+              grows = grows_through here.next (step_at path.continues).next x.1.next (nodes_if p.0 + nodes_of_value v.0 + nodes_in q.0) (nodes_if x.0) for_whole for_few (to_step_grown path.continues) last.grows;
+              code = λ st on tame room k exits may.
                   let n = k + literals_if (part_if p.0) in
                   let plain = wi.plain (begins_plain init_nest begin).1 in
                   subst (λ fs. IsCode s fs exits here for_there)
                   (sym (code_is s Claimed at note (Act-F.For p.0 v.0 x.0 q.0) (act.For p.0 v.0 x.0 q.0) k (act.rolls-For p.0 v.0 x.0 q.0) ∙ for_code at note.mode p.0 v.0 x.0 q.0 k))
                   (both_code s (code_if (part_if p.0) s.text s.variables s.result k) (one (turns s.text s.variables s.result (spot at note.mode) n v.0 (part_if x.0) (part_of q.0))) exits here p.1 for_there
-                  (first.code (first_stands st) on tame k exits (may_not s.frame is (breaks_if init) (continues_if init) here exits plain.0 plain.1))
-                  (inr (λ next rest goes behind. for_judged_code st on tame n next goes exits rest behind)));
+                  (first.code (first_stands st) on tame (room_less s here.next (nodes_if p.0) for_whole (omega (arith, for_few)) room) k exits (may_not s.frame is (breaks_if init) (continues_if init) here exits plain.0 plain.1))
+                  (inr (λ next rest goes behind. for_judged_code st on tame room n next goes exits rest behind)));
             }
 
     abbrev ForNext : NotedStmt × Here → Type 0

@@ -248,9 +248,10 @@ module _ (frame : Frame) where
   pub record Stored (ks : List ℕ) (here there : Here) : Type 0 where
     pub seen : there.seen ≡ here.seen
     pub onward : Onward here there
+    pub next : there.next ≡ here.next
     pub stays : Stays frame ks here.at there.at
 
   pub stores_stay : (head : HeadBounds) (ss : List NotedStmt) (first : ℕ) (here : Here) → Gives (Stored (locals_of (stores_of ss)) here) (behind_stores frame head ss first here)
   stores_stay head ss first here =
       through (Stored (locals_of (stores_of ss)) here) _ _ (λ at is.
-      given (Stored (locals_of (stores_of ss)) here) (record here { at = at }) (record { seen = refl; onward = onward_none here; stays = (stored_stays head ss first here).made at is }))
+      given (Stored (locals_of (stores_of ss)) here) (record here { at = at }) (record { seen = refl; onward = onward_none here; next = refl; stays = (stored_stays head ss first here).made at is }))

@@ -1,11 +1,13 @@
 -- The code of each statement is judged, by induction.
-use Rattle.std.proofs.Common.{◌≡◌, inl, inr, refl, sym, ap, subst, ◌∙◌, ℕ, Bool, true, false, List, [], ◌∷◌, ◌++◌, length, take, map, append-nil, rules}
+use Rattle.std.proofs.Common.{◌≡◌, inl, inr, refl, sym, ap, subst, ◌∙◌, ℕ, Bool, true, false, List, [], ◌∷◌, ◌++◌, length, take, map, append-nil, rules, arith}
 use Rattle.std.specs.Prelude.{◌&&◌, ◌||◌, ◌+◌, not, Option, None, Some, Ok}
 use Rattle.std.specs.List.{AllByRecursion}
 use Rattle.ckc_base.specs.declared.places.Pos.{Pos}
 use Rattle.ckc_base.specs.Outcomes.{Outcome, bind, unless, refused}
 use Rattle.ckc_syntax.specs.Inside.{listed, one_has, all_have, inside_each, inside_if}
 use Rattle.ckc_types.specs.declared.types.CType.{CType}
+use Rattle.ckc_syntax_limits.specs.Marks.{is_node, marks_of_init}
+use Rattle.ckc_syntax_limits.specs.Small.{how_many}
 use Rattle.ckc_syntax.specs.declared.tree.Init.TheVariants as init
 use Rattle.ckc_syntax.specs.declared.tree.Name.{Name}
 use Rattle.ckc_syntax.specs.declared.tree.Name.TheVariants as name
@@ -31,6 +33,7 @@ use Rattle.ckc_build_elaborate.specs.Steps.{spot, nowhere, destination_of, desti
 use Rattle.ckc_build_elaborate.specs.Statements.{all_code, all_assigns, part_of, stmt_elaborated}
 use Rattle.ckc_blame_sound.specs.Settings.{Setting}
 use Rattle.ckc_blame_sound.specs.Bodies.{IsInBody}
+use Rattle.ckc_blame_sound.specs.Few.{nodes_of, nodes_of_value, nodes_in, HasRoom}
 use Rattle.ckc_blame_sound.specs.Steps.{is_simple}
 use Rattle.ckc_blame_sound.specs.Judged.{Exits, Judged}
 use Rattle.ckc_blame_nested.specs.Nested.{Nesting, is_branch, begins, steps, nesting_by, nesting_in, nesting_of_act, nesting_of}
@@ -41,6 +44,7 @@ use Rattle.ckc_blame_walk.proofs.Flow.{AreTame, tame_there, stays_none, stays_ad
 use Rattle.ckc_blame_walk.proofs.Onward.{Onward, IsOn, onward_none, onward_through, on_there}
 use Rattle.ckc_blame_walk.proofs.Inside.{PartsInBody, parts_inside}
 use Rattle.ckc_blame_walk.proofs.Pieces.{Gives, through, nested, given, unless_gives, Moved, moved_not, moved_through, value_moves, maybe_moves, init_moves, value_named, locals_of, as_list, named_list, Stored, stores_stay}
+use Rattle.ckc_blame_walk.proofs.Rooms.{Grows, grows_none, grows_same, grows_more, grows_through, room_after, room_less, value_grows, maybe_grows, init_grows, nodes_each, block_nodes, bundle_nodes, assign_nodes, call_nodes, check_nodes, return_nodes, local_nodes}
 use Rattle.ckc_blame_walk.proofs.Codes.{goes_nowhere, IsWalk, IsCode, GoesOn, step_code, both_code, further_code, started_on, assigned_on}
 use Rattle.ckc_blame_walk.proofs.Exits.{exit_goes, may_first, may_after}
 use Rattle.ckc_blame_walk.proofs.Compound.{Extends, extends_none, extends_through, extended_has, extended_front, same_has, own_of, Next, Whole, whole_none, whole_some, code_is, if_gives}
@@ -80,11 +84,13 @@ start_named frame t (init.Many es) facts = tt
 module _ (s : Setting) (Claimed : Type 0) where
   pub record PartNext (ks : List ℕ) (st : NotedStmt) (here : Here) (p : NotedStmt × Here) : Type 0 where
     pub moved : Moved here p.1
+    pub grows : Grows here p.1 (nodes_in p.0)
     pub assigns : IsAssignment st
     pub stores : (rest : List NotedStmt) → locals_of s.frame (stores_of (p.0 ∷ rest)) ≡ ks ++ locals_of s.frame (stores_of rest)
 
   record AllParts (ks : List ℕ) (ss : List NotedStmt) (here : Here) (p : List NotedStmt × Here) : Type 0 where
     pub moved : Moved here p.1
+    pub grows : Grows here p.1 (nodes_each p.0)
     pub assign : AllByRecursion IsAssignment ss
     pub stores : locals_of s.frame (stores_of p.0) ≡ ks
 
@@ -93,7 +99,8 @@ module _ (s : Setting) (Claimed : Type 0) where
     pub onward : Onward here p.1
     pub stays : Stays s.frame ks here.at p.1.at
     pub leads : Leads s own here.seen p.1.seen
-    pub code : Stands s own here.seen → IsOn s Claimed here → AreTame s.frame here.at.facts → (k : ℕ) (exits : Exits) → MayLeave s.frame ks left turned here exits
+    pub grows : Grows here p.1 (nodes_each p.0)
+    pub code : Stands s own here.seen → IsOn s Claimed here → AreTame s.frame here.at.facts → HasRoom s here.next (nodes_each p.0) → (k : ℕ) (exits : Exits) → MayLeave s.frame ks left turned here exits
         → IsCode s (all_code (map part_of p.0) s.text s.variables s.result k) exits here p.1
 
   record ActHolds (path : ActPath) (nest : Nesting) (w : tests.Walked) (a : NotedAct) : Type 0 where
@@ -183,7 +190,8 @@ module _ (s : Setting) (Claimed : Type 0) where
     onward = onward_none here;
     stays = stays_none s.frame [] here.at;
     leads = leads_quiet s (own_in []) here.seen here.seen refl refl;
-    code = λ stands on tame k exits may. inl (refl, refl);
+    grows = grows_none here.next 0;
+    code = λ stands on tame room k exits may. inl (refl, refl);
   })
   all_gives (k ∷ ks) fine inside here =
       let fines = and_cases (nesting_of k.0).fine (fine_in ks) fine in
@@ -198,19 +206,21 @@ module _ (s : Setting) (Claimed : Type 0) where
         leads = λ visible next f w.
             let g : ListFits k ks visible next = list_fits k ks visible next f in
             leads_both s (own_of (scope_of (items_of s) k.0) (path k.0)) (own_in ks) here.seen p.1.seen q.1.seen one.leads rest.leads visible next g.first g.rest w;
-        code = λ st on tame n exits may.
+        grows = grows_through here.next p.1.next q.1.next (nodes_in p.0) (nodes_each q.0) (nodes_in p.0 + nodes_each q.0) (omega arith) one.grows rest.grows;
+        code = λ st on tame room n exits may.
             let g : ListFits k ks st.visible st.next = list_fits k ks st.visible st.next st.fits in
             both_code s (stmt_elaborated s.text s.variables s.result n p.0) (all_code (map part_of q.0) s.text s.variables s.result (n + (part_of p.0).literals)) exits here p.1 q.1
-            (one.code (record { visible = st.visible; next = st.next; scope = st.scope; fits = g.first }) on tame n exits (may_first s.frame (path k.0).assigned (assigned_in ks) (path k.0).breaks (breaks_in ks) (path k.0).continues (continues_in ks) here exits may))
+            (one.code (record { visible = st.visible; next = st.next; scope = st.scope; fits = g.first }) on tame (room_less s here.next (nodes_in p.0) (nodes_in p.0 + nodes_each q.0) (omega arith) room) n exits (may_first s.frame (path k.0).assigned (assigned_in ks) (path k.0).breaks (breaks_in ks) (path k.0).continues (continues_in ks) here exits may))
             (rest.code (record { visible = st.visible ++ (scope_of (items_of s) k.0).leaves; next = st.next + length (path k.0).declared; scope = one.leads st.visible st.next g.first st.scope; fits = g.rest })
-            (on_there s here p.1 one.onward on) (tame_there s.frame (path k.0).assigned here.at p.1.at one.stays tame) (n + (part_of p.0).literals) exits
+            (on_there s here p.1 one.onward on) (tame_there s.frame (path k.0).assigned here.at p.1.at one.stays tame)
+            (room_after s here.next p.1.next (nodes_in p.0) (nodes_each q.0) (nodes_in p.0 + nodes_each q.0) (omega arith) one.grows room) (n + (part_of p.0).literals) exits
             (may_after s.frame (path k.0).assigned (assigned_in ks) (path k.0).breaks (breaks_in ks) (path k.0).continues (continues_in ks) here p.1 exits tame.0 one.stays
             (extended_has here.seen p.1.seen one.extends) may));
       })))
 
   parts_give : (bundle : Pos) (ks : List KeptStmt) (here : Here) → Gives (AllParts (assigned_in ks) (firsts ks) here) (parts_judged s.frame bundle (paths_of ks) here)
   unfolding parts_judged
-  parts_give bundle [] here = given (AllParts [] [] here) ([], here) (record { moved = moved_not here; assign = tt; stores = refl })
+  parts_give bundle [] here = given (AllParts [] [] here) ([], here) (record { moved = moved_not here; grows = grows_none here.next 0; assign = tt; stores = refl })
   parts_give bundle (k ∷ ks) here =
       through (AllParts (assigned_in (k ∷ ks)) (firsts (k ∷ ks)) here) ((path k.0).part s.frame bundle here) _ (λ p is.
       through (AllParts (assigned_in (k ∷ ks)) (firsts (k ∷ ks)) here) (parts_judged s.frame bundle (paths_of ks) p.1) _ (λ q rest_is.
@@ -218,6 +228,7 @@ module _ (s : Setting) (Claimed : Type 0) where
       let rest : AllParts (assigned_in ks) (firsts ks) p.1 q = (parts_give bundle ks p.1).made q rest_is in
       given (AllParts (assigned_in (k ∷ ks)) (firsts (k ∷ ks)) here) (p.0 ∷ q.0, q.1) (record {
         moved = moved_through here p.1 q.1 one.moved rest.moved;
+        grows = grows_through here.next p.1.next q.1.next (nodes_in p.0) (nodes_each q.0) (nodes_in p.0 + nodes_each q.0) (omega arith) one.grows rest.grows;
         assign = (one.assigns, rest.assign);
         stores = one.stores q.0 ∙ ap (λ x. (path k.0).assigned ++ x) rest.stores;
       })))
@@ -237,12 +248,13 @@ module _ (s : Setting) (Claimed : Type 0) where
         onward = all.onward;
         stays = all.stays;
         leads = leads_quiet s (own_of_act s (Act-F.Block m (firsts ks))) here.seen there.seen refl front;
-        code = λ st on tame k exits may.
+        grows = grows_more here.next p.1.next (nodes_each p.0) (nodes_in (stated at note (act.Block m p.0))) (block_nodes at note (act.Block m p.0) m p.0 (act.rolls-Block m p.0)) all.grows;
+        code = λ st on tame room k exits may.
             subst (λ fs. IsCode s fs exits here there) (sym (code_is s Claimed at note (Act-F.Block m p.0) (act.Block m p.0) k (act.rolls-Block m p.0)))
             (further_code s (all_code (map part_of p.0) s.text s.variables s.result k) exits here p.1 there
             (record { known = (goes_nowhere p.1).known; seen = λ n c. extended_has here.seen p.1.seen all.extends n (same_has here.seen there.seen front n c) })
             (λ e. ap (λ (h : Here). record h { seen = take (length here.seen) h.seen }) e ∙ ap (λ x. record here { seen = x }) (extended_front here.seen here.seen (extends_none here.seen here.seen refl)))
-            (all.code (record { visible = st.visible; next = st.next; scope = st.scope; fits = record { passes = st.fits.passes; declares = st.fits.declares } }) on tame k exits may));
+            (all.code (record { visible = st.visible; next = st.next; scope = st.scope; fits = record { passes = st.fits.passes; declares = st.fits.declares } }) on tame (room_less s here.next (nodes_each p.0) (nodes_in (stated at note (act.Block m p.0))) (block_nodes at note (act.Block m p.0) m p.0 (act.rolls-Block m p.0)) room) k exits may));
       }))
 
   -- ---- statements that are a step
@@ -255,24 +267,25 @@ module _ (s : Setting) (Claimed : Type 0) where
     Simple p = IsWalk s before here p → Next s Claimed ks mine (own_of_act s x) left turned here p
 
     -- a step to a point with more in scope
-    step_next : (b : NotedAct) (there : Here) → Extends here.seen there.seen → (mine.declares ≡ false → there.seen ≡ here.seen) → Onward here there → Stays s.frame ks here.at there.at → Leads s (own_of_act s x) here.seen there.seen
+    step_next : (b : NotedAct) (there : Here) → Extends here.seen there.seen → (mine.declares ≡ false → there.seen ≡ here.seen) → Onward here there → Stays s.frame ks here.at there.at → Grows here there (nodes_in (stated at note b)) → Leads s (own_of_act s x) here.seen there.seen
         → ((k : ℕ) → (f : Code → Code) × (stmt_elaborated s.text s.variables s.result k (stated at note b) ≡ f ∷ []) × GoesOn s f) → Simple (stated at note b, there)
-    step_next b there extends plain onward stays leads becomes walk = record {
+    step_next b there extends plain onward stays grows leads becomes walk = record {
       extends = extends;
       same = plain;
       onward = onward;
       stays = stays;
       leads = leads;
-      code = λ st on tame k exits may.
+      grows = grows;
+      code = λ st on tame room k exits may.
           let f = becomes k in
-          step_code s before (stated at note b) here there k exits f.0 (ap is_simple same ∙ simple) inside (step_stands s before x same simple assigns here.seen st) on tame.1 walk f.1 f.2;
+          step_code s before (stated at note b) here there k exits f.0 (ap is_simple same ∙ simple) inside (step_stands s before x same simple assigns here.seen st) on tame.1 walk room f.1 f.2;
     }
 
     -- a step in the same scope
-    in_scope : is_local s x ≡ false → (b : NotedAct) (there : Here) → there.seen ≡ here.seen → Onward here there → Stays s.frame ks here.at there.at
+    in_scope : is_local s x ≡ false → (b : NotedAct) (there : Here) → there.seen ≡ here.seen → Onward here there → Stays s.frame ks here.at there.at → Grows here there (nodes_in (stated at note b))
         → ((k : ℕ) → (f : Code → Code) × (stmt_elaborated s.text s.variables s.result k (stated at note b) ≡ f ∷ []) × GoesOn s f) → Simple (stated at note b, there)
-    in_scope other b there seen onward stays becomes =
-        step_next b there (extends_none here.seen there.seen seen) (λ d. seen) onward stays
+    in_scope other b there seen onward stays grows becomes =
+        step_next b there (extends_none here.seen there.seen seen) (λ d. seen) onward stays grows
         (leads_quiet s (own_of_act s x) here.seen there.seen (step_leaves s x assigns simple other) seen) becomes
 
   out_assign : (a b : NotedExpr) → out-Act Name Note (act.Assign a b) ≡ Act-F.Assign a b
@@ -294,6 +307,8 @@ module _ (s : Setting) (Claimed : Type 0) where
         given (PartNext (target_in e) st here) (stated at note (act.Assign p.0 q.0), q.1) (record {
           moved = moved_through here p.1 q.1 ((value_moves s.frame e here).made p is) ((value_moves s.frame f p.1).made q right_is);
           assigns = is_one;
+          grows = grows_through here.next p.1.next q.1.next (nodes_of p.0) (nodes_of q.0) (nodes_in (stated at note (act.Assign p.0 q.0)))
+              (assign_nodes at note (act.Assign p.0 q.0) p.0 q.0 (act.rolls-Assign p.0 q.0)) ((value_grows s.frame e here).made p is) ((value_grows s.frame f p.1).made q right_is);
           stores = assigns_first at note p.0 q.0 e ((value_named s.frame e here).made p is);
         })))
 
@@ -314,6 +329,9 @@ module _ (s : Setting) (Claimed : Type 0) where
           given Assigned (st, h)
           (in_scope a (Act-F.Assign e f) same refl tt at note inside (target_in e) mine left turned here refl (act.Assign p.0 q.0) h (left_there.seen ∙ moved.seen) (onward_through here q.1 h moved.onward left_there.onward)
           (subst (λ ks. Stays s.frame ks here.at h.at) ks_is (subst (λ x. Stays s.frame (locals_of s.frame (stores_of (st ∷ []))) x h.at) moved.at left_there.stays))
+          (grows_same here q.1 h (nodes_in st) left_there.next
+          (grows_through here.next p.1.next q.1.next (nodes_of p.0) (nodes_of q.0) (nodes_in st) (assign_nodes at note (act.Assign p.0 q.0) p.0 q.0 (act.rolls-Assign p.0 q.0))
+          ((value_grows s.frame e here).made p is) ((value_grows s.frame f p.1).made q right_is)))
           (λ k. (
             assigned s.text s.variables (spot at note.mode) (destination_of s.text s.variables k p.0) (k + literals_of p.0) q.0,
             code_is s Claimed at note (Act-F.Assign p.0 q.0) (act.Assign p.0 q.0) k (act.rolls-Assign p.0 q.0),
@@ -346,6 +364,7 @@ module _ (s : Setting) (Claimed : Type 0) where
         (step_next a (Act-F.Local d) same refl tt at note inside (local_in d.name) mine left turned here (act.Local e) there
         (record { more = local_in d.name; is = ap (λ l. l ++ local_in d.name) moved.seen }) (λ n. absurd (cc)) moved.onward
         (subst (λ x. Stays s.frame (local_in d.name) x there.at) moved.at (stays_declared d i.0 i.1.at))
+        (grows_more here.next i.1.next (how_many is_node (marks_of_init i.0)) (nodes_in (stated at note (act.Local e))) (local_nodes at note (act.Local e) e (act.rolls-Local e)) ((init_grows s.frame d.init here).made i init_is))
         (subst (λ l. Leads s (own_of_act s (Act-F.Local d)) here.seen (l ++ local_in d.name)) (sym moved.seen) (local_leads s d here.seen))
         (λ k. (
           declared s.text s.variables (spot at note.mode) k e,
@@ -360,6 +379,7 @@ module _ (s : Setting) (Claimed : Type 0) where
         given (Walked [] mine (own_of_act s (Act-F.Call e)) left turned) (stated at note (act.Call p.0), p.1)
         (in_scope a (Act-F.Call e) same refl tt at note inside [] mine left turned here refl (act.Call p.0) p.1 moved.seen moved.onward
         (subst (λ x. Stays s.frame [] here.at x) (sym moved.at) (stays_none s.frame [] here.at))
+        (grows_more here.next p.1.next (nodes_of p.0) (nodes_in (stated at note (act.Call p.0))) (call_nodes at note (act.Call p.0) p.0 (act.rolls-Call p.0)) ((value_grows s.frame e here).made p is))
         (λ k. (
           assigned s.text s.variables (spot p.0.pos note.mode) nowhere k p.0,
           code_is s Claimed at note (Act-F.Call p.0) (act.Call p.0) k (act.rolls-Call p.0),
@@ -374,6 +394,7 @@ module _ (s : Setting) (Claimed : Type 0) where
         unless_gives (Walked ks mine (own_of_act s (Act-F.Return e)) left turned) (not (is_returned s.frame s.head p.0 here.next p.1)) not_contained at (Ok (stated at note (act.Return p.0), gone s.frame p.1))
         (given (Walked ks mine (own_of_act s (Act-F.Return e)) left turned) (stated at note (act.Return p.0), gone s.frame p.1)
         (in_scope a (Act-F.Return e) same refl tt at note inside ks mine left turned here refl (act.Return p.0) (gone s.frame p.1) moved.seen moved.onward (stays_gone s.frame ks here.at)
+        (grows_more here.next p.1.next (nodes_of_value p.0) (nodes_in (stated at note (act.Return p.0))) (return_nodes at note (act.Return p.0) p.0 (act.rolls-Return p.0)) ((maybe_grows s.frame e here).made p is))
         (λ k. (
           Return (spot at note.mode) (returned s.text s.variables s.result k p.0),
           code_is s Claimed at note (Act-F.Return p.0) (act.Return p.0) k (act.rolls-Return p.0),
@@ -389,6 +410,7 @@ module _ (s : Setting) (Claimed : Type 0) where
         given (Walked [] mine (own_of_act s (Act-F.Check e)) left turned) (stated at note (act.Check p.0), there)
         (in_scope a (Act-F.Check e) same refl tt at note inside [] mine left turned here refl (act.Check p.0) there moved.seen moved.onward
         (stays_adding s.frame here.at there.at (subst (λ x. Adds s.frame x there.at) moved.at (side_adds s.frame p.0 true p.1.at)))
+        (grows_more here.next p.1.next (nodes_of p.0) (nodes_in (stated at note (act.Check p.0))) (check_nodes at note (act.Check p.0) p.0 (act.rolls-Check p.0)) ((value_grows s.frame e here).made p is))
         (λ k. (
           Check (spot at note.mode) (expr_elaborated s.text s.variables k p.0),
           code_is s Claimed at note (Act-F.Check p.0) (act.Check p.0) k (act.rolls-Check p.0),
@@ -409,6 +431,8 @@ module _ (s : Setting) (Claimed : Type 0) where
         (in_scope a (Act-F.Bundle (map (λ (k : KeptStmt). k.0) ks)) same refl all.assign at note inside (assigned_in ks) mine left turned here refl (act.Bundle p.0) h
         (there.seen ∙ all.moved.seen) (onward_through here p.1 h all.moved.onward there.onward)
         (subst (λ ks. Stays s.frame ks here.at h.at) all.stores (subst (λ x. Stays s.frame (locals_of s.frame (stores_of p.0)) x h.at) all.moved.at there.stays))
+        (grows_same here p.1 h (nodes_in (stated at note (act.Bundle p.0))) there.next
+        (grows_more here.next p.1.next (nodes_each p.0) (nodes_in (stated at note (act.Bundle p.0))) (bundle_nodes at note (act.Bundle p.0) p.0 (act.rolls-Bundle p.0)) all.grows))
         (λ k. (
           Bundle (spot at note.mode) (all_assigns (map part_of p.0) s.text s.variables k),
           code_is s Claimed at note (Act-F.Bundle p.0) (act.Bundle p.0) k (act.rolls-Bundle p.0),
@@ -439,7 +463,8 @@ module _ (s : Setting) (Claimed : Type 0) where
       onward = onward_none here;
       stays = stays_none s.frame [] here.at;
       leads = leads_quiet s (own_of_act s Act-F.Empty) here.seen here.seen refl refl;
-      code = λ st on tame k exits may. inl (code_is s Claimed at note Act-F.Empty act.Empty k act.rolls-Empty, refl);
+      grows = grows_none here.next _;
+      code = λ st on tame room k exits may. inl (code_is s Claimed at note Act-F.Empty act.Empty k act.rolls-Empty, refl);
     });
     part = λ bundle at note here. no_part _ _ here bundle;
     plain = λ e. absurd (cc);
@@ -506,7 +531,8 @@ module _ (s : Setting) (Claimed : Type 0) where
       onward = onward_none here;
       stays = stays_gone s.frame [] here.at;
       leads = leads_quiet s (own_of_act s Act-F.Break) here.seen here.seen refl refl;
-      code = λ st on tame k exits may. inr (λ next rest goes j.
+      grows = grows_none here.next _;
+      code = λ st on tame room k exits may. inr (λ next rest goes j.
           subst (λ fs. Judged s (chained fs rest) exits here) (sym (code_is s Claimed at note Act-F.Break act.Break k act.rolls-Break)) (exit_goes s.frame [] here exits.breaks (may.breaks refl)));
     });
     part = λ bundle at note here. no_part _ _ here bundle;
@@ -519,7 +545,8 @@ module _ (s : Setting) (Claimed : Type 0) where
       onward = onward_none here;
       stays = stays_gone s.frame [] here.at;
       leads = leads_quiet s (own_of_act s Act-F.Continue) here.seen here.seen refl refl;
-      code = λ st on tame k exits may. inr (λ next rest goes j.
+      grows = grows_none here.next _;
+      code = λ st on tame room k exits may. inr (λ next rest goes j.
           subst (λ fs. Judged s (chained fs rest) exits here) (sym (code_is s Claimed at note Act-F.Continue act.Continue k act.rolls-Continue)) (exit_goes s.frame [] here exits.continues (may.continues refl)));
     });
     part = λ bundle at note here. no_part _ _ here bundle;
