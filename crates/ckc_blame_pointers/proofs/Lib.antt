@@ -33,3 +33,6 @@ pub mod Scalars
 pub mod Dots
 pub mod Singles
 pub mod Arrows
+pub mod Shorter
+pub mod Casts
+pub mod Operands
