@@ -51,6 +51,10 @@ use Rattle.ckc_bounds_points.specs.Forms.{sum_of_forms}
 use Rattle.ckc_blame_pointers.proofs.Wider.{place_widens}
 use Rattle.ckc_blame_pointers.proofs.Loads.{integer_part, element_is, IsTested, element_goes, reached_by, tested_pointer, part_loads}
 
+pub no_fault : (b : Bool) (spot : Pos) → fault_if (true && b) unknown_bounds spot ≡ None → b ≡ false
+no_fault true spot e = absurd (cc)
+no_fault false spot e = refl
+
 -- the valuation that says nothing of values
 abbrev pub bare_valuation : Setting → List ℕ → Valuation
 bare_valuation s locals = record { numbers = value s.frame locals; addresses = λ n. 0 }
@@ -116,10 +120,6 @@ module _ (s : Setting) (store : Store) (entry : List ℕ) (next : ℕ) (ready : 
     -- the range of a pointer that is read through is true, unless that is null
     unfoldable pub IsRanged : Value → Type 0
     IsRanged x = (x.number ≡ 0) ⊎ ((v : Valuation) × (low : Form) × (high : Form) × HasEnds s store v e.note.ctype low high x)
-
-    no_fault : (b : Bool) (spot : Pos) → fault_if (true && b) unknown_bounds spot ≡ None → b ≡ false
-    no_fault true spot e = absurd (cc)
-    no_fault false spot e = refl
 
     pub ranged_pointer : (spot : Pos) → is_counted_kind (kind_of (view s.frame e).ctype) ≡ true → access_fault (view s.frame e) spot fresh here.at ≡ None → (x : Value) → ExprClaims s store entry here e x → IsRanged x
     unfolding IsRanged

@@ -1,5 +1,5 @@
 -- The claims of all expressions that are covered, by induction.
-use Rattle.std.proofs.Common.{⊎_elim, ◌≡◌, inl, inr, refl, sym, ap, subst, ◌∙◌, ℕ, ◌+◌, Bool, true, false, List, ◌++◌}
+use Rattle.std.proofs.Common.{⊎_elim, ◌≡◌, [], inl, inr, refl, sym, ap, subst, ◌∙◌, ℕ, ◌+◌, Bool, true, false, List, ◌++◌}
 use Rattle.std.specs.Prelude.{◌==◌, ◌<◌, ◌^◌, ◌&&◌, not, length, pos, ◌+ℤ◌, if◌then◌else◌, Option, None, Some, Ok}
 use Rattle.ckc_base.specs.declared.places.Pos.{Pos}
 use Rattle.ckc_types.specs.declared.types.Kind.{Kind}
@@ -11,20 +11,22 @@ use Rattle.ckc_syntax.specs.declared.tree.Name.{Name}
 use Rattle.ckc_syntax.specs.declared.tree.Name.TheVariants as name
 use Rattle.ckc_syntax.specs.declared.tree.TreeOp.{TreeOp}
 use Rattle.ckc_syntax.specs.declared.tree.TreeOp.TheVariants as op
-use Rattle.ckc_syntax.specs.declared.tree.Limits.{Limits-F, map-Limits, roll-Limits}
+use Rattle.ckc_syntax.specs.declared.tree.Limits.{Limits-F, map-Limits, out-Limits, roll-Limits, fold_out-Limits}
 use Rattle.ckc_syntax.specs.declared.tree.Node.{Node-F, map-Node, out-Node, roll-Node, fold-roll-Node}
 use Rattle.ckc_syntax.specs.declared.tree.Expr.{Expr-F, map-Expr, ind-Expr, roll-Expr, fold-roll-Expr, every_here-Expr}
 use Rattle.ckc_typed.specs.declared.environment.Globals.{Globals}
 use Rattle.ckc_typed.specs.declared.typed.Note.{Note}
 use Rattle.ckc_typed.specs.declared.typed.Range.TheVariants as range
 use Rattle.ckc_typed.specs.Constants.{size_of}
-use Rattle.ckc_typed.specs.Conversions.{is_null}
+use Rattle.ckc_typed.specs.Conversions.{is_null, is_tested}
 use Rattle.ckc_typed.specs.Operands.{is_raw_kind, is_moved, arithmetic_type}
 use Rattle.ckc_typed.specs.Expressions.{address_kind, has_address}
 use Rattle.ckc_typed.specs.Trees.{NotedLimits, NotedNode, NotedExpr, NotedLayer}
 use Rattle.ckc_typed.specs.Types.{type_written, is_integer, is_pointer, is_void, is_scalar, kind_of, element_of}
 use Rattle.ckc_typed_welltyped.specs.Expressions.{AnyLimits, AnyNode}
-use Rattle.ckc_typed_welltyped.proofs.Nodes.{node_of, node_rolled}
+use Rattle.ckc_typed_welltyped.specs.Parts.{LimitsLayer}
+use Rattle.ckc_typed_welltyped.proofs.Nodes.{node_of, node_rolled, limits_of, limits_out}
+use Rattle.ckc_bounds_points.specs.Codes.{bad_limits}
 use Rattle.ckc_bounds_points.specs.Flow.{State}
 use Rattle.ckc_bounds_ranges.specs.Rows.{range_of_local}
 use Rattle.ckc_bounds_views.specs.Parts.{LimitsView, NodeView, View, NodeOfViews, fresh_behind}
@@ -37,7 +39,7 @@ use Rattle.ckc_bounds_statements.specs.Paths.{Here, side_of}
 use Rattle.ckc_source.specs.declared.outcome.Value.{Value}
 use Rattle.ckc_source.specs.declared.expr.Integer.{Integer}
 use Rattle.ckc_source.specs.declared.expr.Integer.TheVariants.{Int}
-use Rattle.ckc_source.specs.Code.{Expr, Number}
+use Rattle.ckc_source.specs.Code.{Expr, Number, Tested}
 use Rattle.ckc_source.specs.Eval.{Store, evaluated}
 use Rattle.ckc_source.specs.Words.{exact, elements_behind}
 use Rattle.ckc_typed.specs.Layouts.{member_number}
@@ -45,7 +47,7 @@ use Rattle.ckc_build_values.specs.Kinds.{integer_of, width_of, size_behind, coun
 use Rattle.ckc_build_values.specs.Members.{offset_of, count_of_member}
 use Rattle.ckc_build_values.specs.Places.{element_place, target_place, member_place, read_at, address_at}
 use Rattle.ckc_build_values.specs.Expressions.{node_address, node_place, Part, NodePart, LimitsPart, local_in, limits_parts, node_parts, expr_parts, node_value, part_of, part_of_node, part_of_limits}
-use Rattle.ckc_build_values.specs.Operators.{of_operands}
+use Rattle.ckc_build_values.specs.Operators.{of_operands, elements_in}
 use Rattle.ckc_blame_sound.specs.Settings.{Setting}
 use Rattle.ckc_blame_sound.specs.Values.{AreTrue}
 use Rattle.ckc_blame_sound.specs.Points.{HoldsAt}
@@ -55,11 +57,11 @@ use Rattle.ckc_blame_numbers.proofs.Holding.{form_exact, form_exact_in, side_tol
 use Rattle.ckc_blame_numbers.proofs.Types.{sign_row, IsWide, number_wide, size_wide}
 use Rattle.ckc_blame_sound.specs.Bodies.{AreFresh}
 use Rattle.ckc_blame_pointers.specs.Valuations.{address_by}
-use Rattle.ckc_blame_pointers.specs.Covered.{DeclareLocals, DeclareOnes, IsSoundStore, IsElement, IsSingle, IsArrow, IsPointerArrow, IsAddressed, IsStaticInteger, IsStaticArray, IsStaticPointer, IsStaticBounded, IsStaticStructure, IsStructureTarget, IsPointerTarget, IsStructureElement, IsStructureNode, IsCoveredNode, IsCoveredExpr, AreCovered, IsCovered}
+use Rattle.ckc_blame_pointers.specs.Covered.{DeclareLocals, DeclareOnes, IsSoundStore, IsElement, IsSingle, IsArrow, IsPointerArrow, IsAddressed, IsStaticInteger, IsStaticArray, IsStaticPointer, IsStaticBounded, IsStaticStructure, IsStructureTarget, IsPointerTarget, IsStructureElement, IsStructureNode, IsCoveredNode, IsCoveredExpr, AreCovered, IsCovered, CountsElements}
 use Rattle.ckc_blame_pointers.specs.Meant.{IsNotStuck}
 use Rattle.ckc_blame_pointers.proofs.Claims.{Claims, weaker, holds_on, nothing_read}
 use Rattle.ckc_blame_numbers.proofs.Known.{form_known}
-use Rattle.ckc_blame_pointers.proofs.Inside.{EveryNode, PartsEvery, parts_every, node_every, node_out, one_part, two_parts, three_parts, IsJudged, judged_is, operand_is}
+use Rattle.ckc_blame_pointers.proofs.Inside.{EveryNode, PartsEvery, parts_every, node_every, node_out, one_part, two_parts, three_parts, IsJudged, judged_is, operand_is, LimitsEvery, limits_every, limits_layer, not_false, limits_part, tested_parts, no_ends, no_amount, some_there}
 use Rattle.ckc_blame_pointers.proofs.Nodes.{node_fresh, NodeClaims}
 use Rattle.ckc_blame_pointers.proofs.Binary.{ExprClaims, other_claims, unequal_claims, and_claims, or_claims}
 use Rattle.ckc_blame_pointers.proofs.Sums.{IsIndex, fresh_on, sum_claims, difference_claims}
@@ -74,6 +76,8 @@ use Rattle.ckc_blame_pointers.proofs.Rows.{counted_pointer}
 use Rattle.ckc_blame_pointers.proofs.Arrows.{arrow_node}
 use Rattle.ckc_blame_pointers.proofs.Held.{held_claims}
 use Rattle.ckc_blame_pointers.proofs.Through.{target_reached, element_reached, target_structure, element_structure}
+use Rattle.ckc_blame_pointers.proofs.Casts.{one_claims, counted_claims, no_limits, whole_elements}
+use Rattle.ckc_blame_pointers.proofs.Operands.{tested_pointer, operand_scalar, operand_testable}
 use Rattle.ckc_blame_pointers.proofs.Reach.{IsStructurePlace}
 use Rattle.ckc_blame_pointers.proofs.Pointees.{pointee_claims}
 use Rattle.ckc_bounds_points.specs.Codes.{bounds_address}
@@ -90,9 +94,6 @@ use Rattle.ckc_blame_pointers.proofs.Pointers.{pointer_claims, bounded_claims}
 use Rattle.ckc_blame_pointers.proofs.Leaves.{number_claims, size_claims, null_claims, local_claims, minus_claims, plus_claims, flip_claims, not_claims, cast_claims, choice_claims}
 
 module _ (globals : Globals) (s : Setting) (agrees : Agrees globals s) (declares : DeclareLocals s) (store : Store) (entry : List ℕ) (next : ℕ) (ready : IsSoundStore s store next) where
-  record AnyLimitsHold (l : NotedLimits) : Type 0 where
-    pub any : Unit {0}
-
   record NodeHolds (n : NotedNode) : Type 0 where
     pub claims : (note : Note) (place : Pos) → IsRow globals s (out-Node Name Note n) note → EveryNode (HasRow globals s) n
         → (here : Here) → EveryNode (IsCoveredExpr s store here.seen) n → IsCoveredNode s store here.seen note.ctype (out-Node Name Note n) → is_raw_kind (kind_of note.ctype) ≡ false → is_scalar note.ctype ≡ true
@@ -122,8 +123,18 @@ module _ (globals : Globals) (s : Setting) (agrees : Agrees globals s) (declares
     pub place : IsTyped globals s e → (here : Here) → AreCovered s store here.seen e → IsStructureNode (out-Node Name Note e.node) → (tag : ℕ) → out-CType e.note.ctype ≡ CType-F.Struct tag → (h : HoldsAt s store entry here) (fresh : ℕ)
         → fresh + length ((view s.frame e).fresh here.at) < 2 ^ 32 → AreFresh s.frame fresh → (view s.frame e).judged fresh here.at ≡ Ok e → (k : ℕ) → IsStructurePlace store e.note.ctype ((part_of e).place s.text s.variables k) × (is_raw_kind (view s.frame e).behind ≡ false)
 
+  -- the expressions of limits
+  abbrev PartsHold : LimitsLayer → Type 0
+  PartsHold (Limits-F.Count e spot) = ExprHolds e
+  PartsHold (Limits-F.ByteCount e spot) = ExprHolds e
+  PartsHold (Limits-F.Between e f spot) = ExprHolds e × ExprHolds f
+  PartsHold (Limits-F.Unknown spot) = Unit {0}
+
+  abbrev LimitsHold : NotedLimits → Type 0
+  LimitsHold l = PartsHold (out-Limits Name Note l)
+
   abbrev KeptLimits : Type 0
-  KeptLimits = (l : NotedLimits) × AnyLimitsHold l
+  KeptLimits = (l : NotedLimits) × LimitsHold l
 
   abbrev KeptNode : Type 0
   KeptNode = (n : NotedNode) × NodeHolds n
@@ -148,6 +159,12 @@ module _ (globals : Globals) (s : Setting) (agrees : Agrees globals s) (declares
 
   abbrev part_node : NotedLayer → Node-F Name Note LimitsPart NodePart Part
   part_node = map-Node Name Note NotedLimits NotedNode NotedExpr LimitsPart NodePart Part part_of_limits part_of_node part_of
+
+  abbrev viewed_limits : LimitsLayer → Limits-F Name Note LimitsView NodeView View
+  viewed_limits = map-Limits Name Note NotedLimits NotedNode NotedExpr LimitsView NodeView View (view_of_limits s.frame) (view_of_node s.frame) (view s.frame)
+
+  abbrev part_limits : LimitsLayer → Limits-F Name Note LimitsPart NodePart Part
+  part_limits = map-Limits Name Note NotedLimits NotedNode NotedExpr LimitsPart NodePart Part part_of_limits part_of_node part_of
 
   abbrev part_expr : Expr-F Name Note NotedLimits NotedNode NotedExpr → Expr-F Name Note LimitsPart NodePart Part
   part_expr = map-Expr Name Note NotedLimits NotedNode NotedExpr LimitsPart NodePart Part part_of_limits part_of_node part_of
@@ -509,6 +526,90 @@ module _ (globals : Globals) (s : Setting) (agrees : Agrees globals s) (declares
         there =
             (e.1.place typed here covered node.operand node.tag node.struct h fresh (parts_room fresh ((view s.frame e.0).fresh here.at) (own_fresh note.ctype made here.at.facts) little) are
             (one_part (λ a. Node-F.Dot a n spot) (λ a b e. cc) _ e.0 judged) k).0
+    node_step (Node-F.Tested x e None) note place row typed covered node checked scalar fresh little are fault judged noted k =
+        let first = left_room fresh ((view s.frame e.0).fresh here.at) [] (parts_room fresh ((view s.frame e.0).fresh here.at ++ []) None little) in
+        let left = (tested_parts x ((view s.frame e.0).judged fresh here.at) (Ok None) e.0 None judged).0 in
+        let tested = subst (λ t. is_tested t e.0 ≡ true) (sym row.row.2) row.row.1 in
+        subst (λ t. IsNotStuck (NodeClaims s store entry here h note.ctype (node_view s.frame (Node-F.Tested x (view s.frame e.0) None))) (evaluated store (Tested (size_behind s.text.layout t) Int place ((part_of e.0).value s.text s.variables k) (Number 1)))) row.row.2
+        (one_claims s store entry here h x e.0 note.ctype (tested_pointer note.ctype e.0 tested) place ((part_of e.0).value s.text s.variables k)
+        (e.1.claims typed here covered (operand_scalar globals s store here note.ctype e.0 typed covered tested) h fresh first are left k)
+        (operand_testable globals s store here note.ctype e.0 typed covered tested entry next ready h node.0 place fresh first are (viewed_type e.0) fault left))
+    node_step (Node-F.Tested x e (Some l)) note place row typed covered node checked scalar fresh little are fault judged noted k =
+        subst (λ v. Goal v (part_of_limits l.0)) (sym view_is) (subst (λ q. Goal (limits_view (viewed_limits layer)) q) (sym part_is)
+        (by layer (limits_layer l.0 layer refl) l.1 (limits_every (HasRow globals s) l.0 typed.1) (limits_every (IsCoveredExpr s store here.seen) l.0 covered.1) node.1
+        (subst (λ v. fresh + length (node_fresh note.ctype (made v) here.at) < 2 ^ 32) view_is little)
+        (subst (λ v. node_judged s.frame (Node-F.Tested x (view s.frame e.0) (Some v)) note.ctype fresh here.at ≡ Ok (node_of (Node-F.Tested x e.0 (Some l.0)))) view_is judged)))
+      where
+        layer : LimitsLayer
+        layer = out-Limits Name Note l.0
+
+        view_is : view_of_limits s.frame l.0 ≡ limits_view (viewed_limits layer)
+        view_is = fold_out-Limits Name Note LimitsView NodeView View limits_view (node_view s.frame) expr_view l.0
+
+        part_is : part_of_limits l.0 ≡ limits_parts (part_limits layer)
+        part_is = fold_out-Limits Name Note LimitsPart NodePart Part limits_parts node_parts expr_parts l.0
+
+        m : ℕ
+        m = k + (part_of e.0).literals
+
+        made : LimitsView → NodeView
+        made l = node_view s.frame (Node-F.Tested x (view s.frame e.0) (Some l))
+
+        Of : CType → LimitsView → Integer → Expr → Type 0
+        Of t l form w = IsNotStuck (NodeClaims s store entry here h note.ctype (made l)) (evaluated store (Tested (size_behind s.text.layout t) form place ((part_of e.0).value s.text s.variables k) w))
+
+        Goal : LimitsView → LimitsPart → Type 0
+        Goal l q = Of (type_written x) l q.form (q.elements (size_behind s.text.layout (type_written x)) s.text s.variables m)
+
+        tested : is_tested note.ctype e.0 ≡ true
+        tested = subst (λ t. is_tested t e.0 ≡ true) (sym row.row.2) row.row.1
+
+        -- as many elements as an expression says
+        by_count : (f : NotedExpr) → ExprHolds f → IsTyped globals s f → AreCovered s store here.seen f → (l : LimitsView) → ((widened : List ℕ) → l.fresh (record here.at { widened = widened }) ≡ l.fresh here.at)
+            → l.fresh here.at ≡ (view s.frame f).fresh here.at → l.counted ≡ Some f.note.ctype → l.amount (size_of s.frame.structs (element_of note.ctype)) here.at.facts ≡ (view s.frame f).form here.at.facts
+            → fresh + length (node_fresh note.ctype (made l) here.at) < 2 ^ 32 → (view s.frame e.0).judged fresh here.at ≡ Ok e.0
+            → (view s.frame f).judged (fresh_behind (view s.frame e.0) fresh here.at) here.at ≡ Ok f → is_integer (view s.frame f).ctype ≡ true
+            → Of (type_written x) l (integer_of (part_of f).ctype) ((part_of f).value s.text s.variables m)
+        by_count f held rows covers l same needs counted amount little left right whole =
+            subst (λ t. Of t l (integer_of (part_of f).ctype) ((part_of f).value s.text s.variables m)) row.row.2
+            (subst (λ u. Of note.ctype l (integer_of u) ((part_of f).value s.text s.variables m)) (sym (parted_type f))
+            (counted_claims s store entry here h x e.0 note.ctype (tested_pointer note.ctype e.0 tested) place ((part_of e.0).value s.text s.variables k)
+            (e.1.claims typed.0 here covered.0 (operand_scalar globals s store here note.ctype e.0 typed.0 covered.0 tested) h fresh first are left k)
+            (operand_testable globals s store here note.ctype e.0 typed.0 covered.0 tested entry next ready h node.0 place fresh first are (viewed_type e.0) fault left)
+            f ((part_of f).value s.text s.variables m) integer
+            (held.claims rows here covers (integer_scalar f.note.ctype integer) h (fresh_behind (view s.frame e.0) fresh here.at) second (are_on e.0 fresh first are) right m)
+            (λ c there. index_of here h f rows m c there) l same counted amount (no_limits (type_written x) note.ctype row.row.2 row.row.0)))
+          where
+            integer : is_integer f.note.ctype ≡ true
+            integer = sym (ap is_integer (viewed_type f)) ∙ whole
+
+            inside : fresh + length ((view s.frame e.0).fresh here.at ++ l.fresh here.at) < 2 ^ 32
+            inside = parts_room fresh ((view s.frame e.0).fresh here.at ++ l.fresh here.at) (own_fresh note.ctype (made l) here.at.facts) little
+
+            first : fresh + length ((view s.frame e.0).fresh here.at) < 2 ^ 32
+            first = left_room fresh ((view s.frame e.0).fresh here.at) (l.fresh here.at) inside
+
+            second : fresh_behind (view s.frame e.0) fresh here.at + length ((view s.frame f).fresh here.at) < 2 ^ 32
+            second = subst (λ us. fresh_behind (view s.frame e.0) fresh here.at + length us < 2 ^ 32) needs (right_room fresh ((view s.frame e.0).fresh here.at) (l.fresh here.at) inside)
+
+        by : (z : LimitsLayer) → l.0 ≡ limits_of z → PartsHold z → LimitsEvery (HasRow globals s) z → LimitsEvery (IsCoveredExpr s store here.seen) z → CountsElements s note.ctype z
+            → fresh + length (node_fresh note.ctype (made (limits_view (viewed_limits z))) here.at) < 2 ^ 32
+            → node_judged s.frame (Node-F.Tested x (view s.frame e.0) (Some (limits_view (viewed_limits z)))) note.ctype fresh here.at ≡ Ok (node_of (Node-F.Tested x e.0 (Some l.0)))
+            → Goal (limits_view (viewed_limits z)) (limits_parts (part_limits z))
+        by (Limits-F.Count f spot) is held rows covers counts little judged =
+            let parts = tested_parts x _ _ e.0 (Some l.0) judged in
+            let right = limits_part (λ a. Limits-F.Count a spot) (λ a b e. cc) _ _ _ spot f (some_there _ l.0 parts.1 ∙ ap Ok is) in
+            by_count f held rows covers (limits_view (viewed_limits (Limits-F.Count f spot))) (fresh_same s.frame f here.at) refl (ap Some (viewed_type f)) refl little parts.0 right.0 (not_false (is_integer (view s.frame f).ctype) right.1)
+        by (Limits-F.ByteCount f spot) is held rows covers counts little judged =
+            let parts = tested_parts x _ _ e.0 (Some l.0) judged in
+            let right = limits_part (λ a. Limits-F.ByteCount a spot) (λ a b e. cc) _ _ _ spot f (some_there _ l.0 parts.1 ∙ ap Ok is) in
+            subst (λ w. Of (type_written x) (limits_view (viewed_limits (Limits-F.ByteCount f spot))) (integer_of (part_of f).ctype) w)
+            (sym (ap (λ n. elements_in n (part_of f).ctype spot ((part_of f).value s.text s.variables m)) (ap (size_behind s.text.layout) (sym row.row.2) ∙ counts)))
+            (by_count f held rows covers (limits_view (viewed_limits (Limits-F.ByteCount f spot))) (fresh_same s.frame f here.at) refl (ap Some (viewed_type f))
+            (whole_elements (size_of s.frame.structs (element_of note.ctype)) (ap (λ n. size_of n (element_of note.ctype)) agrees.structs ∙ counts) ((view s.frame f).form here.at.facts)) little parts.0 right.0
+            (and_parts (is_integer (view s.frame f).ctype) _ (not_false _ right.1)).0)
+        by (Limits-F.Between f g spot) is held rows covers counts little judged = absurd (no_ends ((view s.frame f).judged (fresh_behind (view s.frame e.0) fresh here.at) here.at) ((view s.frame g).judged (fresh_behind (view s.frame f) (fresh_behind (view s.frame e.0) fresh here.at) here.at) here.at) bad_limits spot l.0 (some_there _ l.0 (tested_parts x _ _ e.0 (Some l.0) judged).1))
+        by (Limits-F.Unknown spot) is held rows covers counts little judged = absurd (no_amount bad_limits spot l.0 (some_there _ l.0 (tested_parts x _ _ e.0 (Some l.0) judged).1))
     node_step y note place row typed covered node checked scalar fresh little are fault judged noted k = absurd node
 
     not_raw : (e : NotedExpr) → AreCovered s store here.seen e → is_raw_kind (kind_of (view s.frame e).ctype) ≡ false
@@ -711,8 +812,14 @@ module _ (globals : Globals) (s : Setting) (agrees : Agrees globals s) (declares
         (subst (λ (n : NodeView). n.fault place fresh here.at ≡ None) n_is fault) k));
   })
 
-  limits_by : (x : Limits-F Name Note NotedLimits NotedNode NotedExpr) (y : Limits-F Name Note KeptLimits KeptNode KeptExpr) → inner_limits y ≡ x → AnyLimitsHold (roll-Limits Name Note x)
-  limits_by x y is = record { any = tt }
+  limits_by : (x : LimitsLayer) (y : Limits-F Name Note KeptLimits KeptNode KeptExpr) → inner_limits y ≡ x → LimitsHold (roll-Limits Name Note x)
+  limits_by x y is = subst PartsHold (sym (limits_out x)) (subst PartsHold is (held y))
+    where
+      held : (y : Limits-F Name Note KeptLimits KeptNode KeptExpr) → PartsHold (inner_limits y)
+      held (Limits-F.Count e spot) = e.1
+      held (Limits-F.ByteCount e spot) = e.1
+      held (Limits-F.Between e f spot) = (e.1, f.1)
+      held (Limits-F.Unknown spot) = tt
 
   expr_by : (x : Expr-F Name Note NotedLimits NotedNode NotedExpr) (y : Expr-F Name Note KeptLimits KeptNode KeptExpr) → inner_expr y ≡ x → ExprHolds (roll-Expr Name Note x)
   expr_by x y is = subst (λ x. ExprHolds (roll-Expr Name Note x)) is (record {
@@ -752,7 +859,7 @@ module _ (globals : Globals) (s : Setting) (agrees : Agrees globals s) (declares
   })
 
   expr_holds : (e : NotedExpr) → ExprHolds e
-  expr_holds = ind-Expr Name Note AnyLimitsHold NodeHolds ExprHolds limits_by node_by expr_by
+  expr_holds = ind-Expr Name Note LimitsHold NodeHolds ExprHolds limits_by node_by expr_by
 
   pub expr_claims : (e : NotedExpr) → IsTyped globals s e → (here : Here) → IsCovered s store here.seen e → HoldsAt s store entry here → (fresh : ℕ) → fresh + length ((view s.frame e).fresh here.at) < 2 ^ 32 → AreFresh s.frame fresh
       → (view s.frame e).judged fresh here.at ≡ Ok e → (k : ℕ) → IsNotStuck (ExprClaims s store entry here e) (evaluated store ((part_of e).value s.text s.variables k))

@@ -1,24 +1,30 @@
 -- The parts of an expression of which a rule holds everywhere, and of one that has been judged.
 use Rattle.std.proofs.Common.{◌≡◌, refl, sym, ap, subst, ◌∙◌, ℕ, Bool, true, false, rules}
-use Rattle.std.specs.Prelude.{if◌then◌else◌, Option, None, Some, Ok, Err}
+use Rattle.std.specs.Prelude.{if◌then◌else◌, not, Option, None, Some, Ok, Err}
 use Rattle.ckc_base.specs.declared.places.Pos.{Pos}
 use Rattle.ckc_base.specs.declared.places.Refusal.{Refusal}
-use Rattle.ckc_base.specs.Outcomes.{Outcome, bind}
+use Rattle.ckc_base.specs.Outcomes.{Outcome, bind, unless, refused}
 use Rattle.ckc_syntax.specs.declared.tree.Name.{Name}
-use Rattle.ckc_syntax.specs.declared.tree.Limits.{every-Limits}
-use Rattle.ckc_syntax.specs.declared.tree.Node.{Node-F, map-Node, out-Node, roll-Node, every-Node, every_held-Node, the_lemmas}
+use Rattle.ckc_typed.specs.Trees.{NotedExpr, TypeTree}
+use Rattle.ckc_syntax.specs.declared.tree.Limits.{Limits-F, map-Limits, out-Limits, roll-Limits, every-Limits, every_held-Limits}
+use Rattle.ckc_syntax.specs.declared.tree.Node.{Node-F, map-Node, out-Node, roll-Node, fold_out-Node, every-Node, every_held-Node, the_lemmas}
 use Rattle.ckc_syntax.specs.declared.tree.Node.TheVariants as node
-use Rattle.ckc_syntax.specs.declared.tree.Expr.{Expr-F, every-Expr, every_held-Expr}
+use Rattle.ckc_syntax.specs.declared.tree.Expr.{Expr-F, fold_out-Expr, every-Expr, every_held-Expr}
 use Rattle.ckc_typed.specs.declared.typed.Note.{Note}
 use Rattle.ckc_typed.specs.declared.typed.Range.{Range}
+use Rattle.ckc_typed.specs.declared.typed.Range.TheVariants as range
+use Rattle.ckc_typed.specs.Conversions.{is_null, is_null_form}
 use Rattle.ckc_typed.specs.Trees.{NotedLimits, NotedNode, NotedExpr, NotedLayer}
 use Rattle.ckc_typed.specs.Types.{is_pointer}
 use Rattle.ckc_typed_welltyped.specs.Expressions.{AnyLimits, AnyNode}
-use Rattle.ckc_typed_welltyped.proofs.Nodes.{node_of, node_rolled}
+use Rattle.ckc_typed_welltyped.specs.Parts.{LimitsLayer}
+use Rattle.ckc_typed_welltyped.proofs.Nodes.{node_of, node_rolled, limits_of, limits_rolled, limits_out}
+use Rattle.ckc_bounds_points.specs.declared.frame.Frame.{Frame}
 use Rattle.ckc_bounds_points.specs.Flow.{State}
 use Rattle.ckc_bounds_views.specs.Judged.{by_fault, expr_made, expr_judged, operand_judged}
-use Rattle.ckc_bounds_views.specs.Parts.{NodeView}
+use Rattle.ckc_bounds_views.specs.Parts.{LimitsView, NodeView, View, NodeOfViews}
 use Rattle.ckc_bounds_views.specs.Ranges.{pointer_range}
+use Rattle.ckc_bounds_views.specs.Views.{limits_view, node_view, expr_view, view_of_limits, view_of_node, view}
 
 -- ---- parts
 
@@ -29,6 +35,9 @@ module _ (P : Expr-F Name Note NotedLimits NotedNode NotedExpr → Type 0) where
   abbrev pub EveryNode : NotedNode → Type 0
   EveryNode = every-Node Name Note AnyLimits AnyNode P
 
+  abbrev pub EveryLimits : NotedLimits → Type 0
+  EveryLimits = every-Limits Name Note AnyLimits AnyNode P
+
   -- the rule holds of the parts of a layer
   abbrev pub PartsEvery : NotedLayer → Type 0
   PartsEvery (Node-F.Un o e) = Every e
@@ -38,10 +47,19 @@ module _ (P : Expr-F Name Note NotedLimits NotedNode NotedExpr → Type 0) where
   PartsEvery (Node-F.Cast w e) = Every e
   PartsEvery (Node-F.Dot e n spot) = Every e
   PartsEvery (Node-F.Arrow e n spot) = Every e
+  PartsEvery (Node-F.Tested w e None) = Every e
+  PartsEvery (Node-F.Tested w e (Some l)) = Every e × EveryLimits l
   PartsEvery n = Unit {0}
 
+  -- and of those of limits
+  abbrev pub LimitsEvery : LimitsLayer → Type 0
+  LimitsEvery (Limits-F.Count e spot) = Every e
+  LimitsEvery (Limits-F.ByteCount e spot) = Every e
+  LimitsEvery (Limits-F.Between e f spot) = Every e × Every f
+  LimitsEvery (Limits-F.Unknown spot) = Unit {0}
+
   abbrev FitLimits : Type 0
-  FitLimits = (l : NotedLimits) × every-Limits Name Note AnyLimits AnyNode P l
+  FitLimits = (l : NotedLimits) × EveryLimits l
 
   abbrev FitNode : Type 0
   FitNode = (n : NotedNode) × EveryNode n
@@ -60,7 +78,23 @@ module _ (P : Expr-F Name Note NotedLimits NotedNode NotedExpr → Type 0) where
   parts_of (Node-F.Cast w e) = e.1
   parts_of (Node-F.Dot e n spot) = e.1
   parts_of (Node-F.Arrow e n spot) = e.1
+  parts_of (Node-F.Tested w e None) = e.1
+  parts_of (Node-F.Tested w e (Some l)) = (e.1, l.1)
   parts_of z = tt
+
+  abbrev bare_limits : Limits-F Name Note FitLimits FitNode FitExpr → LimitsLayer
+  bare_limits = map-Limits Name Note FitLimits FitNode FitExpr NotedLimits NotedNode NotedExpr (λ e. e.0) (λ e. e.0) (λ e. e.0)
+
+  limits_of_parts : (z : Limits-F Name Note FitLimits FitNode FitExpr) → LimitsEvery (bare_limits z)
+  limits_of_parts (Limits-F.Count e spot) = e.1
+  limits_of_parts (Limits-F.ByteCount e spot) = e.1
+  limits_of_parts (Limits-F.Between e f spot) = (e.1, f.1)
+  limits_of_parts (Limits-F.Unknown spot) = tt
+
+  pub limits_every : (l : NotedLimits) → EveryLimits l → LimitsEvery (out-Limits Name Note l)
+  limits_every l w =
+      let h = every_held-Limits Name Note AnyLimits AnyNode P l w in
+      subst LimitsEvery h.1 (limits_of_parts h.0)
 
   pub parts_every : (n : NotedNode) → EveryNode n → PartsEvery (out-Node Name Note n)
   parts_every n w =
@@ -113,6 +147,61 @@ three_parts o q p e f g is =
     let z : d.0 ≡ g = cc in
     (b.1 ∙ ap Ok x, c.1 ∙ ap Ok y, d.1 ∙ ap Ok z)
 
+-- limits have their layer
+pub limits_layer : (l : NotedLimits) (x : LimitsLayer) → out-Limits Name Note l ≡ x → l ≡ limits_of x
+limits_layer l x e = back l ∙ ap (roll-Limits Name Note) e ∙ limits_rolled x
+  where
+    back : (l : NotedLimits) → l ≡ roll-Limits Name Note (out-Limits Name Note l)
+    back l = search (rules, the_lemmas)
+
+limits_is : (x : LimitsLayer) → out-Limits Name Note (limits_of x) ≡ x
+limits_is x = ap (out-Limits Name Note) (sym (limits_rolled x)) ∙ limits_out x
+
+same_limits : (x z : LimitsLayer) → ◌≡◌ {A = Outcome NotedLimits} (Ok (limits_of x)) (Ok (limits_of z)) → x ≡ z
+same_limits x z e = let same : limits_of x ≡ limits_of z = cc in sym (limits_is x) ∙ ap (out-Limits Name Note) same ∙ limits_is z
+
+pub not_false : (b : Bool) → not b ≡ false → b ≡ true
+not_false true e = refl
+not_false false e = absurd (cc)
+
+pub limits_part : (made : NotedExpr → LimitsLayer) → ((a b : NotedExpr) → made a ≡ made b → a ≡ b) → (o : Outcome NotedExpr) (b : Bool) (code : ℕ) (pos : Pos) (e : NotedExpr)
+    → bind o (λ a. unless b code pos (Ok (limits_of (made a)))) ≡ Ok (limits_of (made e)) → (o ≡ Ok e) × (b ≡ false)
+limits_part made same o b code pos e is =
+    let p = bind_is o (λ a. unless b code pos (Ok (limits_of (made a)))) (limits_of (made e)) is in
+    let q = by p.0 b p.2 in
+    (p.1 ∙ ap Ok (same p.0 e q.0), q.1)
+  where
+    by : (a : NotedExpr) (b : Bool) → unless b code pos (Ok (limits_of (made a))) ≡ Ok (limits_of (made e)) → (made a ≡ made e) × (b ≡ false)
+    by a true is = absurd (cc)
+    by a false is = (same_limits (made a) (made e) is, refl)
+
+-- the operand and the limits of a bounds cast
+pub tested_parts : (w : TypeTree) (o : Outcome NotedExpr) (q : Outcome (Option NotedLimits)) (e : NotedExpr) (l : Option NotedLimits)
+    → bind o (λ a. bind q (λ k. Ok (node.Tested w a k))) ≡ Ok (node.Tested w e l) → (o ≡ Ok e) × (q ≡ Ok l)
+tested_parts w o q e l is =
+    let b = bind_is o (λ a. bind q (λ k. Ok (node.Tested w a k))) (node.Tested w e l) is in
+    let c = bind_is q (λ k. Ok (node.Tested w b.0 k)) (node.Tested w e l) b.2 in
+    let same : ◌≡◌ {A = NotedLayer} (Node-F.Tested w b.0 c.0) (Node-F.Tested w e l) = same_layer (Node-F.Tested w b.0 c.0) (Node-F.Tested w e l) c.2 in
+    let x : b.0 ≡ e = cc in
+    let y : c.0 ≡ l = cc in
+    (b.1 ∙ ap Ok x, c.1 ∙ ap Ok y)
+
+-- of limits between two ends there are none
+pub no_ends : {A B C : Type 0} (o : Outcome A) (q : Outcome B) (code : ℕ) (pos : Pos) (c : C) → bind o (λ a. bind q (λ b. refused code pos)) ≡ Ok c → ⊥
+no_ends (Ok a) (Ok b) code pos c e = absurd (cc)
+no_ends (Ok a) (Err r) code pos c e = absurd (cc)
+no_ends (Err r) q code pos c e = absurd (cc)
+
+pub no_amount : {C : Type 0} (code : ℕ) (pos : Pos) (c : C) → ◌≡◌ {A = Outcome C} (refused code pos) (Ok c) → ⊥
+no_amount code pos c e = absurd (cc)
+
+pub some_there : (o : Outcome NotedLimits) (l : NotedLimits) → bind o (λ k. Ok (Some k)) ≡ Ok (Some l) → o ≡ Ok l
+some_there o l is =
+    let b = bind_is o (λ k. Ok (Some k)) (Some l) is in
+    let same : ◌≡◌ {A = Outcome (Option NotedLimits)} (Ok (Some b.0)) (Ok (Some l)) = b.2 in
+    let x : b.0 ≡ l = cc in
+    b.1 ∙ ap Ok x
+
 -- What an expression that has been judged says of its node and of its range.
 pub record IsJudged (n : NodeView) (pos : Pos) (note : Note) (m : NotedNode) (fresh : ℕ) (at : State) : Type 0 where
   pub node : n.judged note.ctype fresh at ≡ Ok m
@@ -144,3 +233,31 @@ judged_is n pos note m fresh at e =
 pub operand_is : (n : NodeView) (pos : Pos) (note : Note) (m : NotedNode) (fresh : ℕ) (at : State) → operand_judged n pos note fresh at ≡ Ok (record { node = m; pos = pos; note = note })
     → (n.judged note.ctype fresh at ≡ Ok m) × (n.operand_fault pos fresh at ≡ None)
 operand_is n pos note m fresh at e = let j = judged_is (record n { fault = n.operand_fault }) pos note m fresh at e in (j.node, j.fault)
+
+-- ---- what is said of an expression
+
+module _ (frame : Frame) where
+  abbrev viewed_node : NotedLayer → NodeOfViews
+  viewed_node = map-Node Name Note NotedLimits NotedNode NotedExpr LimitsView NodeView View (view_of_limits frame) (view_of_node frame) (view frame)
+
+  view_is : (e : NotedExpr) → view frame e ≡ expr_view (record { node = view_of_node frame e.node; pos = e.pos; note = e.note })
+  view_is e = fold_out-Expr Name Note LimitsView NodeView View limits_view (node_view frame) expr_view e
+
+  node_view_is : (n : NotedNode) → view_of_node frame n ≡ node_view frame (viewed_node (out-Node Name Note n))
+  node_view_is n = fold_out-Node Name Note LimitsView NodeView View limits_view (node_view frame) expr_view n
+
+  -- the range that is noted is that of the point
+  pub judged_range : (e : NotedExpr) (fresh : ℕ) (at : State) → (view frame e).judged fresh at ≡ Ok e → is_pointer e.note.ctype ≡ true → e.note.range ≡ (view frame e).range 0 fresh at
+  judged_range e fresh at is p =
+      (judged_is (view_of_node frame e.node) e.pos e.note e.node fresh at (subst (λ (v : View). v.judged fresh at ≡ Ok e) (view_is e) is)).range p ∙ ap (λ (v : View). v.range 0 fresh at) (sym (view_is e))
+
+  -- null may be used for any range
+  pub null_range : (e : NotedExpr) (first fresh : ℕ) (at : State) → is_null e ≡ true → (view frame e).range first fresh at ≡ range.Any
+  null_range e first fresh at null =
+      ap (λ (v : View). v.range first fresh at) (view_is e) ∙ ap (λ n. pointer_range e.note.ctype n first fresh at) (node_view_is e.node)
+      ∙ by (out-Node Name Note e.node) null
+    where
+      by : (x : NotedLayer) → is_null_form x ≡ true → pointer_range e.note.ctype (node_view frame (viewed_node x)) first fresh at ≡ range.Any
+      by Node-F.Null zero = refl
+      by (Node-F.Number n unsigned) zero = ap (λ b. if b then range.Any else (if is_pointer e.note.ctype then range.Missing else range.Missing)) zero
+      by x zero = absurd (cc)

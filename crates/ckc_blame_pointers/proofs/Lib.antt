@@ -36,3 +36,6 @@ pub mod Free
 pub mod Reached
 pub mod Pointees
 pub mod Arrows
+pub mod Shorter
+pub mod Casts
+pub mod Operands

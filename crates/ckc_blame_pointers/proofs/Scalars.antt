@@ -90,11 +90,14 @@ both_integers t u e = let p = and_parts (is_integer t) (is_integer u) e in (inte
 arithmetic_scalar : (t u v r : CType) → ◌≡◌ {A = Option CType} (if is_integer t && is_integer u then Some v else None) (Some r) → (is_scalar t ≡ true) × (is_scalar u ≡ true)
 arithmetic_scalar t u v r e = both_integers t u (true_if (is_integer t && is_integer u) v r e)
 
-same_scalar : (t u : CType) → same_element t u ≡ true → (is_scalar t ≡ true) × (is_scalar u ≡ true)
+pub same_scalar : (t u : CType) → same_element t u ≡ true → (is_scalar t ≡ true) × (is_scalar u ≡ true)
 same_scalar t u e =
     let p = and_parts (is_pointer t) (is_pointer u && same_type (element_of t) (element_of u)) e in
     let q = and_parts (is_pointer u) (same_type (element_of t) (element_of u)) p.1 in
     (pointer_scalar t p.0, pointer_scalar u q.0)
+
+pub same_pointer : (t u : CType) → same_element t u ≡ true → is_pointer u ≡ true
+same_pointer t u e = (and_parts (is_pointer u) (same_type (element_of t) (element_of u)) (and_parts (is_pointer t) (is_pointer u && same_type (element_of t) (element_of u)) e).1).0
 
 module _ (t u r : CType) where
   abbrev Both : Type 0

@@ -18,8 +18,8 @@ ghost use Rattle.ckc_blame_pointers.specs.Meant.{IsNotStuck, IsMeant};
 
 /// What becomes of a judged expression gives a value that is as it is judged to be, or stops at a named check. It is
 /// not stuck. This is said of numbers, `sizeof`, `NULL`, locals in scope, static integers and arrays, operators, `?:`,
-/// casts, static pointers, members, what is read through checked pointers, and the addresses of static objects,
-/// elements and members; and of no unchecked pointers.
+/// casts, bounds casts that are tested, static pointers, members, what is read through checked pointers, and the addresses
+/// of static objects, elements and members; and of no unchecked pointers.
 pub fn expressions_are_not_stuck()
     ensures { (globals : Globals) (s : Setting) (entry : List ℕ) (here : Here)
         (before after : NotedExpr) (fresh literals next : ℕ) (store : Store) → Agrees globals s

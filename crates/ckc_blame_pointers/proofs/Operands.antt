@@ -1,0 +1,83 @@
+-- The operand of a bounds cast that is tested.
+use Rattle.std.proofs.Common.{◌≡◌, ◌⊎◌, ⊎_elim, inl, inr, refl, sym, ap, ◌∙◌, ℕ, true, false, List}
+use Rattle.std.specs.Prelude.{◌+◌, ◌<◌, ◌^◌, ◌&&◌, ◌||◌, length, None, Ok}
+use Rattle.std.proofs.lemmas.Bool.{and_parts}
+use Rattle.ckc_base.specs.declared.places.Pos.{Pos}
+use Rattle.ckc_types.specs.declared.types.CType.{CType}
+use Rattle.ckc_syntax.specs.declared.tree.Name.{Name}
+use Rattle.ckc_syntax.specs.declared.tree.Node.{Node-F, out-Node}
+use Rattle.ckc_syntax.specs.declared.tree.Expr.{every_here-Expr}
+use Rattle.ckc_typed.specs.declared.environment.Globals.{Globals}
+use Rattle.ckc_typed.specs.declared.typed.Note.{Note}
+use Rattle.ckc_typed.specs.Conversions.{is_null, is_string, is_string_form, is_allocation, is_allocation_form, is_terminated_kind, takes_string, takes_allocation, takes_pointer, pointer_takes, kinds_allow, kind_is_tested, is_tested}
+use Rattle.ckc_typed.specs.Operands.{same_element}
+use Rattle.ckc_typed.specs.Trees.{NotedExpr, NotedLayer}
+use Rattle.ckc_typed.specs.Types.{is_char, is_pointer, is_scalar, kind_of, element_of}
+use Rattle.ckc_typed_welltyped.specs.Expressions.{AnyLimits, AnyNode}
+use Rattle.ckc_bounds_points.specs.Codes.{unknown_bounds}
+use Rattle.ckc_bounds_views.specs.Judged.{is_counted_kind, is_missing, fault_if, access_fault}
+use Rattle.ckc_bounds_views.specs.Views.{view}
+use Rattle.ckc_bounds_statements.specs.Paths.{Here}
+use Rattle.ckc_source.specs.declared.outcome.Value.{Value}
+use Rattle.ckc_source.specs.Eval.{Store}
+use Rattle.ckc_blame_sound.specs.Settings.{Setting}
+use Rattle.ckc_blame_sound.specs.Bodies.{AreFresh}
+use Rattle.ckc_blame_sound.specs.Points.{HoldsAt}
+use Rattle.ckc_blame_numbers.specs.Typed.{IsTyped}
+use Rattle.ckc_blame_pointers.specs.Covered.{IsTestedOperand, IsSoundStore, IsCoveredNode, IsCoveredExpr, AreCovered}
+use Rattle.ckc_blame_pointers.proofs.Binary.{ExprClaims}
+use Rattle.ckc_blame_pointers.proofs.Casts.{IsTestable, tested_looser, null_testable, known_testable}
+use Rattle.ckc_blame_pointers.proofs.Elements.{no_fault}
+use Rattle.ckc_blame_pointers.proofs.Inside.{judged_range, null_range}
+use Rattle.ckc_blame_pointers.proofs.Scalars.{null_scalar, same_scalar, same_pointer}
+use Rattle.ckc_blame_pointers.proofs.Truths.{either}
+
+pub tested_pointer : (t : CType) (e : NotedExpr) → is_tested t e ≡ true → is_pointer t ≡ true
+tested_pointer t e tested = (and_parts (is_pointer t) (pointer_takes kind_is_tested t e) tested).0
+
+module _ (globals : Globals) (s : Setting) (store : Store) (here : Here) (t : CType) (e : NotedExpr) (typed : IsTyped globals s e) (covered : AreCovered s store here.seen e) (tested : is_tested t e ≡ true) where
+  no_text : (x : NotedLayer) (t : CType) → IsCoveredNode s store here.seen t x → is_string_form x ≡ false
+  no_text (Node-F.Text bytes) t c = absurd c
+  no_text x t c = refl
+
+  no_allocation : (x : NotedLayer) (t : CType) → IsCoveredNode s store here.seen t x → is_allocation_form x ≡ false
+  no_allocation (Node-F.Calloc w e u) t c = absurd c
+  no_allocation x t c = refl
+
+  covered_here : IsCoveredExpr s store here.seen (record { node = e.node; pos = e.pos; note = e.note })
+  covered_here = every_here-Expr Name Note AnyLimits AnyNode (IsCoveredExpr s store here.seen) e covered
+
+  not_string : takes_string t e ≡ true → ⊥
+  not_string h =
+      let p = (and_parts (is_string e) (is_terminated_kind (kind_of t) && is_char (element_of t)) h).0 in
+      let other = no_text (out-Node Name Note e.node) e.note.ctype covered_here.node in absurd (cc)
+
+  not_new : takes_allocation t e ≡ true → ⊥
+  not_new h =
+      let p = (and_parts (is_allocation e) (same_element t e.note.ctype) h).0 in
+      let other = no_allocation (out-Node Name Note e.node) e.note.ctype covered_here.node in absurd (cc)
+
+  -- It is null, or a pointer to the same type.
+  operand_takes : (is_null e ≡ true) ⊎ (takes_pointer kind_is_tested t e ≡ true)
+  operand_takes =
+      ⊎_elim (λ null. inl null) (λ rest. ⊎_elim (λ string. absurd (not_string string)) (λ rest. ⊎_elim (λ new. absurd (not_new new)) (λ p. inr p) (either (takes_allocation t e) (takes_pointer kind_is_tested t e) rest))
+      (either (takes_string t e) (takes_allocation t e || takes_pointer kind_is_tested t e) rest))
+      (either (is_null e) (takes_string t e || (takes_allocation t e || takes_pointer kind_is_tested t e)) (and_parts (is_pointer t) (pointer_takes kind_is_tested t e) tested).1)
+
+  takes_both : takes_pointer kind_is_tested t e ≡ true → (same_element t e.note.ctype ≡ true) × (kinds_allow kind_is_tested (kind_of e.note.ctype) (kind_of t) ≡ true)
+  takes_both p = and_parts (same_element t e.note.ctype) (kinds_allow kind_is_tested (kind_of e.note.ctype) (kind_of t)) p
+
+  pub operand_scalar : is_scalar e.note.ctype ≡ true
+  operand_scalar = ⊎_elim (λ null. null_scalar globals s e typed null) (λ p. (same_scalar t e.note.ctype (takes_both p).0).1) operand_takes
+
+  pub operand_testable : (entry : List ℕ) (next : ℕ) (ready : IsSoundStore s store next) (h : HoldsAt s store entry here) → IsTestedOperand e → (place : Pos) (fresh : ℕ) (little : fresh + length ((view s.frame e).fresh here.at) < 2 ^ 32) (are : AreFresh s.frame fresh)
+      → (view s.frame e).ctype ≡ e.note.ctype → access_fault (view s.frame e) place fresh here.at ≡ None → (view s.frame e).judged fresh here.at ≡ Ok e → (x : Value) → ExprClaims s store entry here e x → IsTestable s store t x
+  operand_testable entry next ready h operand place fresh little are viewed fault judged x c =
+      ⊎_elim (λ null. is_null_there null)
+      (λ p. ⊎_elim (λ null. is_null_there null)
+      (λ known. known_testable s store entry next ready here h e fresh covered_here.few little are t x c (tested_looser e.note.ctype t (takes_both p).0 (takes_both p).1)
+      (⊎_elim (λ counted. no_fault (is_missing ((view s.frame e).range 0 fresh here.at)) place (sym (ap (λ b. fault_if (b && is_missing ((view s.frame e).range 0 fresh here.at)) unknown_bounds place) (ap is_counted_kind (ap kind_of viewed) ∙ counted)) ∙ fault))
+      (λ noted. sym (ap is_missing (judged_range s.frame e fresh here.at judged (same_pointer t e.note.ctype (takes_both p).0))) ∙ noted) known)) operand) operand_takes
+    where
+      is_null_there : is_null e ≡ true → IsTestable s store t x
+      is_null_there null = null_testable s store entry next ready here h e fresh covered_here.few little are t x c (null_range s.frame e 0 fresh here.at null)
