@@ -59,7 +59,7 @@ use Rattle.ckc_blame_targets.proofs.Hits.{IsHit}
 use Rattle.ckc_blame_targets.proofs.Layers.{viewed, view_is, part_is, part_by, dot_every, DotEvery}
 use Rattle.ckc_blame_targets.proofs.Places.{Goes, IsIn, Lies, allowed_is, member_struct, scalar_target, struct_target, hit_goes, hit_scalar, hit_struct}
 use Rattle.ckc_blame_targets.proofs.Pointers.{viewed_type, parted_type, node_is, node_room, node_judged_at, row_at, parts_at, behind_aims, deref_aims, index_aims}
-use Rattle.ckc_blame_targets.proofs.Reached.{IsElementReached, IsRunReached}
+use Rattle.ckc_blame_pointers.proofs.Reached.{IsElementReached, IsRunReached}
 use Rattle.ckc_blame_targets.proofs.Statics.{static_aims, static_member_aims}
 
 module _ (globals : Globals) (s : Setting) (agrees : Agrees globals s) (declares : DeclareLocals s) (store : Store) (entry : List ℕ) (next : ℕ) (ready : IsSoundStore s store next) (here : Here) (h : HoldsAt s store entry here)

@@ -1,5 +1,4 @@
 pub mod Layers
-pub mod Reached
 pub mod Hits
 pub mod Places
 pub mod Statics

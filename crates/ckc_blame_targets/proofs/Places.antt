@@ -62,7 +62,7 @@ use Rattle.ckc_blame_pointers.proofs.Truths.{either}
 use Rattle.ckc_blame_given.specs.Planned.{IsPartTarget, IsMemoryTarget, IsTarget}
 use Rattle.ckc_blame_targets.specs.Targets.{KeepRunsFree, begin_of, LiesIn, GoesThere, ComesTo}
 use Rattle.ckc_blame_targets.proofs.Hits.{IsHit}
-use Rattle.ckc_blame_targets.proofs.Reached.{IsElementReached, IsRunReached, scalar_reached}
+use Rattle.ckc_blame_pointers.proofs.Reached.{IsElementReached, IsRunReached, scalar_reached}
 
 -- ---- members and structures
 

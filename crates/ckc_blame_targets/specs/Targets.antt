@@ -22,23 +22,16 @@ use Rattle.ckc_source.specs.declared.outcome.Halt.{Halt}
 use Rattle.ckc_source.specs.declared.outcome.Halt.TheVariants as halt
 use Rattle.ckc_source.specs.declared.outcome.Place.{Place}
 use Rattle.ckc_source.specs.declared.outcome.Place.TheVariants as place
-use Rattle.ckc_source.specs.declared.program.Object.{Object}
 use Rattle.ckc_source.specs.Eval.{Store}
 use Rattle.ckc_source.specs.Steps.{allowed}
 use Rattle.ckc_build_values.specs.Members.{offset_of}
-use Rattle.ckc_build_values.specs.Names.{address_of, count_of_static, limits_declared}
-use Rattle.ckc_build_elaborate.specs.Objects.{objects_elaborated}
+use Rattle.ckc_build_values.specs.Names.{address_of, count_of_static}
 use Rattle.ckc_blame_sound.specs.Settings.{Setting}
 use Rattle.ckc_blame_slots.specs.Writes.{IsCellWrite}
 use Rattle.ckc_blame_contained.specs.Elements.{AreCounted}
 use Rattle.ckc_blame_pointers.specs.Covered.{DeclareOnes, IsInScope, IsCovered}
+pub use Rattle.ckc_blame_pointers.specs.Covered.{KeepRunsFree}
 use Rattle.ckc_blame_given.specs.Planned.{IsTarget}
-
--- Pointers with known limits point into no static object that is declared with bounds.
-abbrev pub KeepRunsFree : Typed → Type 0
-KeepRunsFree p =
-    (k : ℕ) → (limits_declared p (name.Static k) ≡ None)
-    ⊎ ((o : Object) × (slice_get (objects_elaborated p) k ≡ Some o) × (o.is_run ≡ false))
 
 -- a static object of a type that is no array
 pub record IsStaticObject (s : Setting) (t : CType) (k : ℕ) : Type 0 where
