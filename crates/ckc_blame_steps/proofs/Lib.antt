@@ -6,3 +6,4 @@ pub mod Becomes
 pub mod Stores
 pub mod Own
 pub mod Steps
+pub mod Declarations

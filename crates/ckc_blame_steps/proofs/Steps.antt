@@ -67,20 +67,20 @@ module _ (p : Typed) (g : IsGranted p) (allocations : AllocateSoundly p) (st : S
   abbrev b : State
   b = planning p g st h step next f
 
-  at_b : IsAt s shapes st.frame.entry f.here b
+  pub at_b : IsAt s shapes st.frame.entry f.here b
   at_b = is_at p g st h step next f
 
-  few : length s.variables < 2 ^ 32
+  pub few : length s.variables < 2 ^ 32
   few = let m = g.few s st.frame.function function in omega arith
 
-  known : IsKnownPoint (globals_in p) s f.here
+  pub known : IsKnownPoint (globals_in p) s f.here
   known = point_known p s st.frame.function f.here g.judged function few f.judged.fresh f.judged.named
 
-  free : KeepRunsFree s.text
+  pub free : KeepRunsFree s.text
   free = subst KeepRunsFree (sym (text_is p s st.frame.function function)) g.free
 
   -- what is covered at the point of the step
-  covered_there : (end : Spot) → (spot_in end (step End)).mode ≡ Checked → (c : State) → IsAt s shapes st.frame.entry f.here c
+  pub covered_there : (end : Spot) → (spot_in end (step End)).mode ≡ Checked → (c : State) → IsAt s shapes st.frame.entry f.here c
       → IsCoveredAct s (store_of shapes c) f.here.seen (out-Act Name Note f.judged.after.body)
   covered_there end mode c at_c =
       g.covered s st.frame.function f.here f.exits.ends step end (store_of shapes c) c.next function f.judged mode at_c.ready
@@ -99,7 +99,7 @@ module _ (p : Typed) (g : IsGranted p) (allocations : AllocateSoundly p) (st : S
       (λ plan sound. written_sound p g st h step next f afters 0 f.here.next stored plan (own_valuation s b.frame.locals) sound fitting (together plan.state.frame.locals))
 
   -- the two sides of an assignment before they are judged
-  row_of : (st : NotedStmt) (mode : Mode) (looped : Bool) → WellTypedStmt (globals_of_text s.text) s.variables s.result st mode looped
+  pub row_of : (st : NotedStmt) (mode : Mode) (looped : Bool) → WellTypedStmt (globals_of_text s.text) s.variables s.result st mode looped
       → act_rows (globals_of_text s.text) s.variables s.result (WellTypedStmt (globals_of_text s.text) s.variables s.result) (out-Act Name Note st.body) mode looped
   row_of st mode looped w = ((stmt_by_parts (globals_of_text s.text) s.variables s.result st mode looped).0 w).row
 
@@ -108,7 +108,7 @@ module _ (p : Typed) (g : IsGranted p) (allocations : AllocateSoundly p) (st : S
   side_fits mode looped (Act-F.Assign a b) e y is typed row = (typed.0, typed.1, row.converted, row.target.0)
   side_fits mode looped x e y is typed row = absurd (cc)
 
-  typed_act : IsTypedAct (globals_in p) s (out-Act Name Note f.judged.before.body)
+  pub typed_act : IsTypedAct (globals_in p) s (out-Act Name Note f.judged.before.body)
   typed_act = statement_typed p s st.frame.function g.judged g.words function f.judged.before f.judged.inside
 
   typed_sides : (x : ActLayer) (e y : NotedExpr) → x ≡ Act-F.Assign e y → IsTypedAct (globals_in p) s x → AreTypedSides (globals_in p) s x

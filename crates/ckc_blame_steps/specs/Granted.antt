@@ -9,8 +9,9 @@ use Rattle.ckc_syntax.specs.declared.tree.Node.{Node-F, out-Node}
 use Rattle.ckc_syntax.specs.declared.tree.Act.{Act-F, out-Act}
 use Rattle.ckc_typed.specs.declared.typed.Note.{Note}
 use Rattle.ckc_typed.specs.declared.typed.Typed.{Typed}
-use Rattle.ckc_typed.specs.Trees.{NotedAct, NotedExpr, NotedInit, NotedLayer, NotedStmt}
+use Rattle.ckc_typed.specs.Trees.{NotedAct, NotedDecl, NotedExpr, NotedInit, NotedLayer, NotedStmt}
 use Rattle.ckc_bounds_points.specs.declared.frame.Frame.{Frame}
+use Rattle.ckc_bounds_points.specs.declared.frame.Local.{Local}
 use Rattle.ckc_bounds_points.specs.Flow.{State}
 use Rattle.ckc_bounds_views.specs.Parts.{capped, fresh_behind}
 use Rattle.ckc_bounds_views.specs.Views.{view}
@@ -29,6 +30,7 @@ use Rattle.ckc_blame_slots.specs.Limited.{AreSlotParts}
 use Rattle.ckc_blame_contained.specs.Elements.{NameIntegerMembers}
 use Rattle.ckc_blame_texts.specs.Judged.{IsJudged}
 use Rattle.ckc_blame_pointers.specs.Covered.{DeclareLocals, IsSoundStore, IsCovered}
+use Rattle.ckc_blame_locals.specs.Written.{IsDeclared}
 use Rattle.ckc_blame_targets.specs.Targets.{KeepRunsFree, IsCoveredTarget}
 use Rattle.ckc_blame_targets.specs.Together.{HaveSmallNames}
 
@@ -138,5 +140,8 @@ pub record IsGranted (p : Typed) : Type 0 where
       (next : ℕ) → IsFunction p s f → (is : IsStep s here step there) → (spot_in end (step End)).mode ≡ Checked
       → IsSoundStore s store next → AreFilled p store
       → IsCoveredAct s store here.seen (out-Act Name Note is.after.body)
+  pub declared : (s : Setting) (f : Function) (here there : Here) (step : Code → Code) (d : NotedDecl) → IsFunction p s f
+      → (is : IsStep s here step there) → out-Act Name Note is.before.body ≡ Act-F.Local d
+      → (k : ℕ) × (l : Local) × IsDeclared s here d k l
   pub room : (s : Setting) (f : Function) (here there : Here) (step : Code → Code) → IsFunction p s f
       → (is : IsStep s here step there) → HasRoomAct s.frame here.at here.next (out-Act Name Note is.after.body)

@@ -6,7 +6,7 @@ ghost use Rattle.ckc_syntax.specs.declared.tree.Name.{Name};
 ghost use Rattle.ckc_syntax.specs.declared.tree.Act.{Act-F, out-Act};
 ghost use Rattle.ckc_typed.specs.declared.typed.Note.{Note};
 ghost use Rattle.ckc_typed.specs.declared.typed.Typed.{Typed};
-ghost use Rattle.ckc_typed.specs.Trees.{NotedExpr};
+ghost use Rattle.ckc_typed.specs.Trees.{NotedDecl, NotedExpr};
 ghost use Rattle.ckc_source.specs.declared.stmt.Spot.{Spot};
 ghost use Rattle.ckc_source.specs.Code.{Target, Right, Code, Assign};
 ghost use Rattle.ckc_source.specs.States.{Work, Rest, State, settled};
@@ -29,5 +29,13 @@ pub fn assignments_keep_sound()
         → (f : Faces h.setting (store_in p s.blocks s.frame) s.frame.entry
         (Assign spot target right) (Rest rest ∷ next)) → (e x : NotedExpr)
         → out-Act Name Note f.judged.before.body ≡ Act-F.Assign e x
+        → IsSoundMove p (source_step (elaborated p) s) }
+    ensures declaration { (p : Typed) (s : State) (h : Sound p s) (spot : Spot) (target : Target)
+        (right : Right) (rest : Code) (next : List Work) → IsGranted p → AllocateSoundly p
+        → settled s.frame.work ≡ Rest (Assign spot target right rest) ∷ next
+        → (spot_of s).mode ≡ Checked
+        → (f : Faces h.setting (store_in p s.blocks s.frame) s.frame.entry
+        (Assign spot target right) (Rest rest ∷ next)) → (d : NotedDecl)
+        → out-Act Name Note f.judged.before.body ≡ Act-F.Local d
         → IsSoundMove p (source_step (elaborated p) s) }
 {}

@@ -1,5 +1,6 @@
 use Rattle.ckc_blame_steps.proofs.Steps.{assignment_sound}
+use Rattle.ckc_blame_steps.proofs.Declarations.{declaration_sound}
 use Rattle.ckc_blame_steps.proofs.laws.assignments_keep_sound.Goals as goal
 
 pub returns : goal.returns
-returns c = record { alone = assignment_sound }
+returns c = record { alone = assignment_sound; declaration = declaration_sound }
