@@ -30,10 +30,11 @@ use Rattle.ckc_parser_grammar.specs.Grammar.{Part, Symbol, t, n, Rule, left, rig
 use Rattle.ckc_parser_grammar.specs.Grammar as g
 use Rattle.ckc_parser_grammar.specs.Trees.{Name, Tree, Item, Head, TypeTree, Decl, Limits, Expr, Node, Stmt, Act, expr_at, stmt_at, statics, local_of, locals, function_of, posted, joined_at, joined_to, joined, level, picked, literal}
 use Rattle.ckc_parser_grammar.specs.Values as v
-use Rattle.ckc_parser_grammar.specs.Values.{Value, made, named, called, whole, step, as_token, as_items, as_items_of_name, as_items_of_base, as_items_of_declarator, as_item_of_head, as_decl, as_decls, as_decl_of_base, as_decls_of_base, as_decl_of_name, as_init, as_limits, as_declared_limits, as_limits_at, as_limits_of_unknown, as_expr, as_exprs, as_value, as_expr_behind, as_expr_of_name, as_expr_of_less, as_arms, as_steps, as_post, as_posts, as_stmt, as_part, as_stmts, as_stmt_of_name, operand_of, limits_of, as_type}
+use Rattle.ckc_parser_grammar.specs.Values.{Value, made, named, called, whole, step, as_token, as_items, as_items_of_name, as_items_of_base, as_items_of_declarator, as_item_of_head, as_decl, as_decls, as_decl_of_base, as_decls_of_base, as_decl_of_name, as_init, as_limits, as_declared_limits, as_limits_at, as_limits_of_unknown, as_expr, as_exprs, as_value, as_expr_behind, as_expr_of_name, as_expr_of_less, as_arms, as_steps, as_post, as_posts, as_stmt, as_part, as_stmts, as_stmt_of_name, operand_of, limits_of, as_type, name_of}
 use Rattle.ckc_parser_grammar.specs.Derives.{Sign, Derives}
 use Rattle.ckc_parser_grammar.specs.Derives as D
-use Rattle.ckc_blame_words.specs.Literals.{HoldsWord, SignsHoldWords, is_word, limits_by_parts, node_by_parts, expr_by_parts, limits_have_words, expr_has_words, init_has_words, decl_has_words, act_by_parts, stmt_by_parts, stmt_has_words, head_has_words, item_has_words, tree_has_words}
+use Rattle.ckc_blame_words.proofs.Strings.{decoded_bytes}
+use Rattle.ckc_blame_words.specs.Literals.{HoldsWord, SignsHoldWords, are_bytes, is_word, limits_by_parts, node_by_parts, expr_by_parts, limits_have_words, expr_has_words, init_has_words, decl_has_words, act_by_parts, stmt_by_parts, stmt_has_words, head_has_words, item_has_words, tree_has_words}
 
 abbrev C : Expr → Type 0
 C e = expr_has_words e ≡ true
@@ -185,8 +186,8 @@ c_number m u pos h = rolled (Node-F.Number m u) _ pos (node.rolls-Number m u) h
 c_null : (pos : Pos) → C (expr_at node.Null pos)
 c_null pos = rolled Node-F.Null _ pos node.rolls-Null refl
 
-c_text : (s : List ℕ) (pos : Pos) → C (expr_at (node.Text s) pos)
-c_text s pos = rolled (Node-F.Text s) _ pos (node.rolls-Text s) refl
+c_text : (s : List ℕ) (pos : Pos) → are_bytes s ≡ true → C (expr_at (node.Text s) pos)
+c_text s pos h = rolled (Node-F.Text s) _ pos (node.rolls-Text s) h
 
 c_name : (s : Name) (pos : Pos) → C (expr_at (node.Name s) pos)
 c_name s pos = rolled (Node-F.Name s) _ pos (node.rolls-Name s) refl
@@ -517,7 +518,7 @@ good_made g.BoundsCast (cons h0 (cons h1 (cons h2 (cons h3 (cons h4 (cons h5 nil
 good_made g.CastLimits (cons h0 (cons h1 (cons h2 nil))) = h1
 good_made g.NoCastLimits (cons h0 nil) = refl
 good_made g.Literal (cons h0 nil) = c_literal _ _ h0
-good_made g.String (cons h0 nil) = c_text _ _
+good_made g.String (cons {x = x0} h0 nil) = c_text _ _ (decoded_bytes (name_of x0))
 good_made g.Null (cons h0 nil) = c_null _
 good_made g.Eof (cons h0 nil) = c_number _ _ _ refl
 good_made _ _ = tt

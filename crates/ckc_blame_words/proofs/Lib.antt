@@ -1,7 +1,8 @@
-mod Tokens
+pub mod Strings
+pub mod Tokens
 mod Grammar
-mod Named
+pub mod Named
 mod Noteless
-mod Chain
+pub mod Chain
 mod Words
 mod Whole

@@ -32,10 +32,10 @@ use Rattle.ckc_blame_words.specs.Literals.{HoldsWord, TokensHoldWords}
 small_word : (n : ℕ) → n < 256 → n < 2 ^ 32
 small_word n h = omega (arith, h)
 
-plain_small : (quote b : ℕ) → is_plain quote b ≡ true → b < 256
+pub plain_small : (quote b : ℕ) → is_plain quote b ≡ true → b < 256
 plain_small quote b h = grind (arith, nat_tests)
 
-simple_small : (b value : ℕ) → simple_escape b ≡ Some value → value < 256
+pub simple_small : (b value : ℕ) → simple_escape b ≡ Some value → value < 256
 simple_small b value h = grind (arith, nat_tests)
 
 escape_small : (w : List ℕ) (value : ℕ) → IsEscape w value → value < 256

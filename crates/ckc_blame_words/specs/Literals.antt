@@ -1,4 +1,4 @@
--- Tokens and trees whose literals are words of 32 bits.
+-- Tokens and trees whose literals are words of 32 bits, and whose strings are bytes.
 use Rattle.std.specs.Prelude.{ℕ, ◌<◌, ◌^◌, nat_lt, Bool, ◌&&◌, List}
 use Rattle.std.specs.List.{All, list_all}
 use Rattle.ckc_syntax.specs.Inside.{all_have, inside_if, inside_limits, inside_node, inside_init, inside_act, inside_item}
@@ -39,20 +39,25 @@ SignsHoldWords xs = All (λ x. HoldsWord x.token.kind) xs
 abbrev pub is_word : ℕ → Bool
 is_word n = nat_lt n (2 ^ 32)
 
--- whether a level of bounds has only words as literals, by whether each of its parts has
+-- whether the bytes of a string are bytes
+abbrev pub are_bytes : List ℕ → Bool
+are_bytes = list_all (λ b. nat_lt b 256)
+
+-- whether a level of bounds has only words and strings of bytes as literals, by whether each of its parts has
 abbrev pub limits_by_parts : {N A : Type 0} → Limits-F N A Bool Bool Bool → Bool
 limits_by_parts = inside_limits all_have (λ e. e)
 
 -- the same of a level of an expression, which may be a literal itself
 abbrev pub node_by_parts : {N A : Type 0} → Node-F N A Bool Bool Bool → Bool
 node_by_parts (Node-F.Number n unsigned) = is_word n
+node_by_parts (Node-F.Text bytes) = are_bytes bytes
 node_by_parts n = inside_node all_have (λ l. l) (λ e. e) n
 
 -- an expression has what its node has
 abbrev pub expr_by_parts : {N A : Type 0} → Expr-F N A Bool Bool Bool → Bool
 expr_by_parts e = e.node
 
--- whether each literal number in bounds, however deep, is a word
+-- whether each literal number in bounds, however deep, is a word, and each string has bytes
 abbrev pub limits_have_words : {N A : Type 0} → Limits N A → Bool
 limits_have_words {N} {A} = fold-Limits N A Bool Bool Bool limits_by_parts node_by_parts expr_by_parts
 

@@ -26,7 +26,8 @@ pub fn tokens_hold_words()
         → TokensHoldWords tokens.list }
 {}
 
-/// In the tree that such tokens derive each literal number is a word.
+/// In the tree that such tokens derive each literal number is a word, and each string is made of
+/// bytes.
 pub fn trees_have_words()
     ensures derived { (xs : List Sign) (next : Kind) (whole : Tree) → SignsHoldWords xs
         → Derives (n g.text ∷ []) xs next (tree whole ∷ []) → tree_has_words whole ≡ true }
