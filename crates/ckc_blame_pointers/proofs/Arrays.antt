@@ -109,7 +109,7 @@ module _ (s : Setting) (store : Store) (entry : List ℕ) (next : ℕ) (ready : 
   abbrev size : ℕ
   size = size_of s.text.layout c.object.element
 
-  size_is : size_behind s.text.layout t ≡ size
+  pub size_is : size_behind s.text.layout t ≡ size
   size_is = ap (size_of s.text.layout) c.element
 
   address_is : address_of s.text k ≡ c.object.at
@@ -190,10 +190,10 @@ module _ (s : Setting) (store : Store) (entry : List ℕ) (next : ℕ) (ready : 
       || (not (is_terminated_kind (kind_of t)) && list_any (is_in_member (pointee_of s.text.layout t) (address_of s.text k) (address_of s.text k) (address_of s.text k + bytes_of s.text k) b) (member_runs store.shapes b)))) run
       ∙ ap (λ r. r || (not (is_terminated_kind (kind_of t)) && list_any (is_in_member (pointee_of s.text.layout t) (address_of s.text k) (address_of s.text k) (address_of s.text k + bytes_of s.text k) b) (member_runs store.shapes b))) block_there
 
-  array_true : is_true store.shapes store.blocks (pointee_of s.text.layout t) (address_of s.text k) (address_of s.text k) (address_of s.text k + bytes_of s.text k) ≡ true
+  pub array_true : is_true store.shapes store.blocks (pointee_of s.text.layout t) (address_of s.text k) (address_of s.text k) (address_of s.text k + bytes_of s.text k) ≡ true
   array_true = any_at (is_in store.shapes (pointee_of s.text.layout t) (address_of s.text k) (address_of s.text k) (address_of s.text k + bytes_of s.text k)) store.blocks k at.0 at.1 inside
 
-  address_small : address_of s.text k < 2 ^ 32
+  pub address_small : address_of s.text k < 2 ^ 32
   address_small = omega (arith, is.below, whole)
 
   pub array_claims : (place : Pos) → IsNotStuck (NodeClaims s store entry here h t node) (evaluated store (static_in s.text t place k (array_of s.text k)))

@@ -39,3 +39,4 @@ pub mod Arrows
 pub mod Shorter
 pub mod Casts
 pub mod Operands
+pub mod Literals

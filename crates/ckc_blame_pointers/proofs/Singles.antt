@@ -108,7 +108,7 @@ any_found {X} p f q (x ∷ ms) m e h = list_any-append {X = X} p (f x) (flat_map
     by later true e = let same : x ≡ m = cc in or_left (list_any p (f x)) (list_any p (flat_map f ms)) (subst (λ y. list_any p (f y) ≡ true) (sym same) h)
     by later false e = or_right (list_any p (f x)) (list_any p (flat_map f ms)) (later e)
 
-scalar_sized : (structs : Structs) (t : CType) → is_scalar t ≡ true → size_of structs t ≡ width_bytes (width_of t)
+pub scalar_sized : (structs : Structs) (t : CType) → is_scalar t ≡ true → size_of structs t ≡ width_bytes (width_of t)
 scalar_sized structs t e = by (out-CType t) refl e
   where
     by : (f : CType-F CType) → out-CType t ≡ f → (is_integer_form f || is_pointer_form f) ≡ true → size_of structs t ≡ width_bytes (width_of t)

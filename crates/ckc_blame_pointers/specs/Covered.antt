@@ -1,5 +1,5 @@
 -- The expressions of which it is said what they come to, and what is taken for granted of the text around them.
-use Rattle.std.specs.Prelude.{◌≡◌, ◌⊎◌, ◌+◌, ◌<◌, ◌^◌, ℕ, Bool, false, true, List, slice_get, ℤ, Option, None, Some}
+use Rattle.std.specs.Prelude.{◌≡◌, ◌⊎◌, ◌+◌, ◌<◌, ◌^◌, ℕ, Bool, false, true, List, slice_get, ℤ, Option, None, Some, length}
 use Rattle.std.specs.List.{Contains}
 use Rattle.ckc_types.specs.declared.types.Kind.{Kind}
 use Rattle.ckc_types.specs.declared.types.Kind.TheVariants as kind
@@ -27,7 +27,7 @@ use Rattle.ckc_typed.specs.Conversions.{is_terminated_kind, is_null}
 use Rattle.ckc_typed.specs.Environment.{variable_named}
 use Rattle.ckc_typed.specs.Operands.{is_raw_kind, dot_type}
 use Rattle.ckc_typed.specs.Trees.{NotedLimits, NotedNode, NotedExpr, NotedLayer}
-use Rattle.ckc_typed.specs.Types.{kind_of, element_of, is_integer, is_pointer, is_scalar}
+use Rattle.ckc_typed.specs.Types.{kind_of, element_of, is_char, is_integer, is_pointer, is_scalar}
 use Rattle.ckc_typed_welltyped.specs.Parts.{LimitsLayer}
 use Rattle.ckc_typed_welltyped.specs.Expressions.{AnyLimits, AnyNode}
 use Rattle.ckc_bounds_points.specs.declared.frame.Bounds.{Bounds}
@@ -133,6 +133,13 @@ pub record IsStaticArray (s : Setting) (t : CType) (k : ℕ) : Type 0 where
   pub pointer : is_pointer t ≡ true
   pub kind_is : kind_of t ≡ Some kind
   pub element : element_of t ≡ object.element
+
+-- a static object that a string literal makes: its bytes and a zero behind them
+pub record IsLiteral (s : Setting) (t : CType) (bytes : List ℕ) (k : ℕ) : Type 0 where
+  pub array : IsStaticArray s t k
+  pub char : is_char array.object.element ≡ true
+  pub ends : array.object.terminated ≡ true
+  pub count : array.object.count ≡ length bytes + 1
 
 -- a static object that is one pointer of a type, declared without bounds; the pointers that memory holds are in bounds
 pub record IsStaticPointer (s : Setting) (store : Store) (t : CType) (k : ℕ) : Type 0 where
