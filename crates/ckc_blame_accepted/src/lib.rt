@@ -3,4 +3,4 @@
 
 mod laws;
 
-pub use laws::runs_are_free;
+pub use laws::{names_of_members_are_small, runs_are_free};

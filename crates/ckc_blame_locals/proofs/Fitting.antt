@@ -90,7 +90,7 @@ module _ (frame : Frame) (e f : NotedExpr) (fresh : ℕ) (at : State) (is : (vie
       sym (fold_is f) ∙ same_fold frame (Unit {0}) (Option ℕ) (Option ℕ) limits_any local_layer whole (λ n pos note r. refl) e f fresh at is ∙ fold_is e
 
   -- and its type
-  same_type : f.note.ctype ≡ e.note.ctype
+  pub same_type : f.note.ctype ≡ e.note.ctype
   same_type = ap (λ (v : View). v.ctype) (sym (view_is frame f)) ∙ ap (λ (v : View). v.ctype) (same_view frame e f fresh at is frame) ∙ ap (λ (v : View). v.ctype) (view_is frame e)
 
 -- ---- types
@@ -103,7 +103,7 @@ char_integer t h = by (out-CType t) h
     by x h = absurd (cc)
 
 -- what goes to a `char` is no pointer
-char_bare : (t : CType) (f : NotedExpr) → is_char t ≡ true → converts t f ≡ true → is_pointer f.note.ctype ≡ false
+pub char_bare : (t : CType) (f : NotedExpr) → is_char t ≡ true → converts t f ≡ true → is_pointer f.note.ctype ≡ false
 char_bare t f c h = ⊎_elim
     (λ p. no_pointer f.note.ctype (and_cases (is_integer t) (is_integer f.note.ctype) p).1)
     (λ p. (let no' : true ≡ false = sym (and_cases (is_pointer t) (pointer_takes kind_converts t f) p).0 ∙ no_pointer t (char_integer t c) in absurd cc))

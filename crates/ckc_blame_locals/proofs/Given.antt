@@ -99,7 +99,7 @@ module _ (before after : Store) (stay : StayTrue before after) (s : Setting) (v 
   within_stays n range.Any h = tt
   within_stays n range.Missing h = tt
 
-  from_stays : (e : NotedExpr) (n : Numbered) (at : State) (w : ℕ) → IsFrom s.frame (memory_of s before t) v t e n at w → IsFrom s.frame (memory_of s after t) v t e n at w
+  pub from_stays : (e : NotedExpr) (n : Numbered) (at : State) (w : ℕ) → IsFrom s.frame (memory_of s before t) v t e n at w → IsFrom s.frame (memory_of s after t) v t e n at w
   from_stays e n at w h = record {
     place = h.place;
     value = record {

@@ -29,7 +29,7 @@ use Rattle.ckc_bounds_points.specs.Flow.{State}
 use Rattle.ckc_bounds_ranges.specs.Rows.{range_of_local}
 use Rattle.ckc_bounds_views.specs.Parts.{LimitsView, NodeView, View, NodeOfViews, fresh_behind}
 use Rattle.ckc_bounds_views.specs.Conditions.{right_point, widening, widening_side}
-use Rattle.ckc_bounds_views.specs.Judged.{is_counted_kind, access_fault, fault_of_node, operand_fault_of_node, node_judged}
+use Rattle.ckc_bounds_views.specs.Judged.{is_counted_kind, fault_if, has_none_of_node, access_fault, fault_of_node, operand_fault_of_node, node_judged}
 use Rattle.ckc_bounds_views.specs.Fresh.{own_fresh}
 use Rattle.ckc_bounds_views.specs.Ranges.{range_of_one, pointer_range}
 use Rattle.ckc_bounds_views.specs.Views.{limits_view, node_view, expr_view, view_of_limits, view_of_node, view}
@@ -76,6 +76,8 @@ use Rattle.ckc_blame_pointers.proofs.Held.{held_claims}
 use Rattle.ckc_blame_pointers.proofs.Through.{target_reached, element_reached, target_structure, element_structure}
 use Rattle.ckc_blame_pointers.proofs.Reach.{IsStructurePlace}
 use Rattle.ckc_blame_pointers.proofs.Pointees.{pointee_claims}
+use Rattle.ckc_bounds_points.specs.Codes.{bounds_address}
+use Rattle.ckc_blame_pointers.proofs.Free.{free_there}
 use Rattle.ckc_blame_pointers.proofs.Singles.{address_node, member_claims, object_claims}
 use Rattle.ckc_blame_pointers.proofs.Dots.{object_structure, dot_node, integer_held}
 use Rattle.ckc_blame_pointers.proofs.Scalars.{integer_scalar, moved_pointer, pointer_scalar, kind_scalar, through_scalar, through_bare, no_structure, true_if, target_scalar, index_scalar, binary_scalar, choice_scalar, cast_scalar, null_scalar}
@@ -101,7 +103,7 @@ module _ (globals : Globals) (s : Setting) (agrees : Agrees globals s) (declares
     -- the address of such a place
     pub address : (note : Note) (place : Pos) → IsRow globals s (out-Node Name Note n) note → EveryNode (HasRow globals s) n
         → (here : Here) → EveryNode (IsCoveredExpr s store here.seen) n → IsCoveredNode s store here.seen note.ctype (out-Node Name Note n) → IsAddressed s note.ctype (out-Node Name Note n)
-        → (h : HoldsAt s store entry here) (fresh : ℕ) → fresh + length ((view_of_node s.frame n).fresh here.at) < 2 ^ 32 → AreFresh s.frame fresh → (view_of_node s.frame n).judged note.ctype fresh here.at ≡ Ok n → (view_of_node s.frame n).operand_fault place fresh here.at ≡ None
+        → (h : HoldsAt s store entry here) (fresh : ℕ) → fresh + length ((view_of_node s.frame n).fresh here.at) < 2 ^ 32 → AreFresh s.frame fresh → (view_of_node s.frame n).judged note.ctype fresh here.at ≡ Ok n → (view_of_node s.frame n).operand_fault place fresh here.at ≡ None → (view_of_node s.frame n).no_address ≡ false
         → (r : CType) → is_pointer r ≡ true → kind_of r ≡ Some kind.Arr → element_of r ≡ note.ctype
         → (k : ℕ) → IsNotStuck (NodeClaims s store entry here h r (node_view s.frame (Node-F.Un op.Address (expr_view (record { node = view_of_node s.frame n; pos = place; note = note })))))
         (evaluated store ((part_of_node n).address note place s.text s.variables k))
@@ -115,7 +117,7 @@ module _ (globals : Globals) (s : Setting) (agrees : Agrees globals s) (declares
     pub claims : IsTyped globals s e → (here : Here) → AreCovered s store here.seen e → is_scalar e.note.ctype ≡ true → HoldsAt s store entry here → (fresh : ℕ) → fresh + length ((view s.frame e).fresh here.at) < 2 ^ 32 → AreFresh s.frame fresh → (view s.frame e).judged fresh here.at ≡ Ok e
         → (k : ℕ) → IsNotStuck (ExprClaims s store entry here e) (evaluated store ((part_of e).value s.text s.variables k))
     pub address : IsTyped globals s e → (here : Here) → AreCovered s store here.seen e → IsAddressed s e.note.ctype (out-Node Name Note e.node) → (h : HoldsAt s store entry here) (fresh : ℕ) → fresh + length ((view s.frame e).fresh here.at) < 2 ^ 32 → AreFresh s.frame fresh
-        → (view s.frame e).operand fresh here.at ≡ Ok e → (r : CType) → is_pointer r ≡ true → kind_of r ≡ Some kind.Arr → element_of r ≡ e.note.ctype
+        → (view s.frame e).operand fresh here.at ≡ Ok e → (view s.frame e).no_address ≡ false → (r : CType) → is_pointer r ≡ true → kind_of r ≡ Some kind.Arr → element_of r ≡ e.note.ctype
         → (k : ℕ) → IsNotStuck (NodeClaims s store entry here h r (node_view s.frame (Node-F.Un op.Address (view s.frame e)))) (evaluated store ((part_of e).address s.text s.variables k))
     pub place : IsTyped globals s e → (here : Here) → AreCovered s store here.seen e → IsStructureNode (out-Node Name Note e.node) → (tag : ℕ) → out-CType e.note.ctype ≡ CType-F.Struct tag → (h : HoldsAt s store entry here) (fresh : ℕ)
         → fresh + length ((view s.frame e).fresh here.at) < 2 ^ 32 → AreFresh s.frame fresh → (view s.frame e).judged fresh here.at ≡ Ok e → (k : ℕ) → IsStructurePlace store e.note.ctype ((part_of e).place s.text s.variables k) × (is_raw_kind (view s.frame e).behind ≡ false)
@@ -230,6 +232,11 @@ module _ (globals : Globals) (s : Setting) (agrees : Agrees globals s) (declares
 
     covered_few : (e : NotedExpr) → AreCovered s store here.seen e → (view s.frame e).values + 1 < 2 ^ 32
     covered_few e c = (every_here-Expr Name Note AnyLimits AnyNode (IsCoveredExpr s store here.seen) e c).few
+
+    -- what no fault says
+    unbroken : (b : Bool) (code : ℕ) (spot : Pos) → fault_if b code spot ≡ None → b ≡ false
+    unbroken true code spot e = absurd (cc)
+    unbroken false code spot e = refl
 
     some_if : (b : Bool) (t r : CType) → ◌≡◌ {A = Option CType} (if b then Some t else None) (Some r) → t ≡ r
     some_if true t r e = cc
@@ -387,7 +394,7 @@ module _ (globals : Globals) (s : Setting) (agrees : Agrees globals s) (declares
             refl refl (λ b. refl) (ap kind_of (viewed_type e.0)) (λ x c j there a at f target. target_aims s store entry next ready here h e.0 fresh (covered_few e.0 covered) little are x c j there a at f target)
     node_step (Node-F.Un op.Address e) note place row typed covered node checked scalar fresh little are fault judged noted k =
         let t = address_row row.mode e.0.note.ctype note.ctype (some_if (has_address globals e.0) (ctype.Pointer (address_kind row.mode) e.0.note.ctype) note.ctype row.row) checked in
-        e.1.address typed here covered node h fresh little are (one_part (λ a. Node-F.Un op.Address a) (λ a b e. cc) _ e.0 judged) note.ctype t.0 t.1 t.2 k
+        e.1.address typed here covered node h fresh little are (one_part (λ a. Node-F.Un op.Address a) (λ a b e. cc) _ e.0 judged) (unbroken (view s.frame e.0).no_address bounds_address place fault) note.ctype t.0 t.1 t.2 k
     node_step (Node-F.Index e f) note place row typed covered node checked scalar fresh little are fault judged noted k =
         let parts = two_parts (λ a b. Node-F.Index a b) (λ a b c d e. (cc, cc)) _ _ e.0 f.0 judged in
         subst (λ t. Of t (part_of e.0).ctype (part_of f.0).ctype) is (subst (λ u. Of (element_of e.0.note.ctype) u (part_of f.0).ctype) (sym (parted_type e.0)) (subst (λ q. Of (element_of e.0.note.ctype) e.0.note.ctype q) (sym (parted_type f.0))
@@ -574,16 +581,16 @@ module _ (globals : Globals) (s : Setting) (agrees : Agrees globals s) (declares
     address_step : (y : Node-F Name Note KeptLimits KeptNode KeptExpr) (note : Note) (place : Pos) → IsRow globals s (inner_node y) note → PartsEvery (HasRow globals s) (inner_node y)
         → PartsEvery (IsCoveredExpr s store here.seen) (inner_node y) → IsCoveredNode s store here.seen note.ctype (inner_node y) → IsAddressed s note.ctype (inner_node y)
         → (fresh : ℕ) → fresh + length ((node_view s.frame (viewed_node (inner_node y))).fresh here.at) < 2 ^ 32 → AreFresh s.frame fresh → node_judged s.frame (viewed_node (inner_node y)) note.ctype fresh here.at ≡ Ok (node_of (inner_node y))
-        → operand_fault_of_node s.frame (viewed_node (inner_node y)) place fresh here.at ≡ None → (r : CType) → is_pointer r ≡ true → kind_of r ≡ Some kind.Arr → element_of r ≡ note.ctype
+        → operand_fault_of_node s.frame (viewed_node (inner_node y)) place fresh here.at ≡ None → has_none_of_node s.frame (viewed_node (inner_node y)) ≡ false → (r : CType) → is_pointer r ≡ true → kind_of r ≡ Some kind.Arr → element_of r ≡ note.ctype
         → (k : ℕ) → IsNotStuck (NodeClaims s store entry here h r (node_view s.frame (Node-F.Un op.Address (expr_view (record { node = node_view s.frame (viewed_node (inner_node y)); pos = place; note = note })))))
         (evaluated store (node_address (part_node (inner_node y)) note place s.text s.variables k))
-    address_step (Node-F.Un op.Deref e) note place row typed covered node addressed fresh little are judged fault r pointer array element k =
+    address_step (Node-F.Un op.Deref e) note place row typed covered node addressed fresh little are judged fault free r pointer array element k =
         weaker (evaluated store ((part_of e.0).value s.text s.variables k)) (e.1.claims typed here covered (target_scalar e.0 note.ctype row.row) h fresh little are (one_part (λ a. Node-F.Un op.Deref a) (λ a b e. cc) _ e.0 judged) k)
         (λ x there c. target_claims s store entry here h e.0 note place r pointer array (element ∙ sym is) x c)
       where
         is : element_of e.0.note.ctype ≡ note.ctype
         is = some_if (is_pointer e.0.note.ctype && not (is_void (element_of e.0.note.ctype))) (element_of e.0.note.ctype) note.ctype row.row
-    address_step (Node-F.Index e f) note place row typed covered node addressed fresh little are judged fault r pointer array element k =
+    address_step (Node-F.Index e f) note place row typed covered node addressed fresh little are judged fault free r pointer array element k =
         let parts = two_parts (λ a b. Node-F.Index a b) (λ a b c d e. (cc, cc)) _ _ e.0 f.0 judged in
         let small = covered_sized e.0 covered.0 in
         subst (λ t. Of t (part_of f.0).ctype) (sym (parted_type e.0)) (subst (λ u. Of e.0.note.ctype u) (sym (parted_type f.0))
@@ -618,15 +625,15 @@ module _ (globals : Globals) (s : Setting) (agrees : Agrees globals s) (declares
 
         scalars : (is_scalar e.0.note.ctype ≡ true) × (is_scalar f.0.note.ctype ≡ true)
         scalars = index_scalar e.0.note.ctype f.0.note.ctype note.ctype row.row
-    address_step (Node-F.Name (name.Static j)) note place row typed covered node addressed fresh little are judged fault r pointer array element k =
+    address_step (Node-F.Name (name.Static j)) note place row typed covered node addressed fresh little are judged fault free r pointer array element k =
         object_claims s store entry next ready here h note.ctype r pointer array element (node_view s.frame (Node-F.Un op.Address (expr_view (record { node = node_view s.frame (Node-F.Name (name.Static j)); pos = place; note = note }))))
         (address_node s here note place r (node_view s.frame (Node-F.Name (name.Static j))) (λ widened. refl) (λ own first fresh at. refl) (λ first facts. refl)) j addressed
-    address_step (Node-F.Arrow e n spot) note place row typed covered node addressed fresh little are judged fault r pointer array element k =
+    address_step (Node-F.Arrow e n spot) note place row typed covered node addressed fresh little are judged fault free r pointer array element k =
         subst (λ t. IsNotStuck (NodeClaims s store entry here h r made) (evaluated store (address_at s.text.layout note.ctype (member_place s.text.layout (tag_of (element_of t)) n (target_place s.text.layout t place v))))) (sym (parted_type e.0))
         (member_claims s store entry next ready here h note.ctype r pointer array element made
         (address_node s here note place r (node_view s.frame (Node-F.Arrow (view s.frame e.0) n spot)) (fresh_same s.frame e.0 here.at)
         (λ own first fresh at. ap (λ b. if b then range.Missing else range_of_one own.value) (not_raw e.0 covered)) (λ first facts. refl))
-        (element_of e.0.note.ctype) n addressed.0 (target_place s.text.layout e.0.note.ctype place v)
+        (element_of e.0.note.ctype) n addressed.0 (free_there s agrees.structs (element_of e.0.note.ctype) note.ctype n addressed.0 (element_of (view s.frame e.0).ctype) (ap element_of (viewed_type e.0)) free) (target_place s.text.layout e.0.note.ctype place v)
         (target_structure s store entry next ready here h e.0 fresh (covered_few e.0 covered) little are v
         (e.1.claims typed here covered (through_scalar s e.0.note.ctype addressed.1) h fresh little are (one_part (λ a. Node-F.Arrow a n spot) (λ a b e. cc) _ e.0 judged) k)
         (λ counted. ranged_pointer s store entry next ready here h e.0 fresh (covered_few e.0 covered) little are place (ap is_counted_kind (ap kind_of (viewed_type e.0)) ∙ counted) fault) addressed.0.tag addressed.0.struct addressed.1 place))
@@ -636,19 +643,19 @@ module _ (globals : Globals) (s : Setting) (agrees : Agrees globals s) (declares
 
         made : NodeView
         made = node_view s.frame (Node-F.Un op.Address (expr_view (record { node = node_view s.frame (Node-F.Arrow (view s.frame e.0) n spot); pos = place; note = note })))
-    address_step (Node-F.Dot e n spot) note place row typed covered node addressed fresh little are judged fault r pointer array element k =
+    address_step (Node-F.Dot e n spot) note place row typed covered node addressed fresh little are judged fault free r pointer array element k =
         subst (λ t. IsNotStuck (NodeClaims s store entry here h r made) (evaluated store (address_at s.text.layout note.ctype (member_place s.text.layout (tag_of t) n ((part_of e.0).place s.text s.variables k))))) (sym (parted_type e.0))
         (member_claims s store entry next ready here h note.ctype r pointer array element made
         (address_node s here note place r (node_view s.frame (Node-F.Dot (view s.frame e.0) n spot)) (fresh_same s.frame e.0 here.at)
         (λ own first fresh at. ap (λ b. if b then range.Missing else range_of_one own.value) there.1) (λ first facts. refl))
-        e.0.note.ctype n addressed ((part_of e.0).place s.text s.variables k) there.0)
+        e.0.note.ctype n addressed (free_there s agrees.structs e.0.note.ctype note.ctype n addressed (view s.frame e.0).ctype (viewed_type e.0) free) ((part_of e.0).place s.text s.variables k) there.0)
       where
         made : NodeView
         made = node_view s.frame (Node-F.Un op.Address (expr_view (record { node = node_view s.frame (Node-F.Dot (view s.frame e.0) n spot); pos = place; note = note })))
 
         there : IsStructurePlace store e.0.note.ctype ((part_of e.0).place s.text s.variables k) × (is_raw_kind (view s.frame e.0).behind ≡ false)
         there = e.1.place typed here covered node.operand node.tag node.struct h fresh little are (one_part (λ a. Node-F.Dot a n spot) (λ a b e. cc) _ e.0 judged) k
-    address_step y note place row typed covered node addressed fresh little are judged fault r pointer array element k = absurd addressed
+    address_step y note place row typed covered node addressed fresh little are judged fault free r pointer array element k = absurd addressed
 
   -- ---- the induction
 
@@ -670,7 +677,7 @@ module _ (globals : Globals) (s : Setting) (agrees : Agrees globals s) (declares
         (subst (λ (n : NodeView). n.fault place fresh here.at ≡ None) n_is fault)
         (subst (λ (n : NodeView). n.judged note.ctype fresh here.at ≡ Ok (node_of (inner_node y))) n_is (judged ∙ ap Ok (node_rolled (inner_node y))))
         (λ p. subst (λ (n : NodeView). note.range ≡ pointer_range note.ctype n 0 fresh here.at) n_is (noted p)) k));
-    address = λ note place row typed here covered node addressed h fresh little are judged fault r pointer array element k.
+    address = λ note place row typed here covered node addressed h fresh little are judged fault free r pointer array element k.
         let out : out-Node Name Note (roll-Node Name Note (inner_node y)) ≡ inner_node y = node_out (inner_node y) in
         let n_is : view_of_node s.frame (roll-Node Name Note (inner_node y)) ≡ node_view s.frame (viewed_node (inner_node y)) =
         fold-roll-Node Name Note LimitsView NodeView View limits_view (node_view s.frame) expr_view (inner_node y) in
@@ -685,7 +692,8 @@ module _ (globals : Globals) (s : Setting) (agrees : Agrees globals s) (declares
         (subst (PartsEvery (IsCoveredExpr s store here.seen)) out (parts_every (IsCoveredExpr s store here.seen) (roll-Node Name Note (inner_node y)) covered))
         (subst (IsCoveredNode s store here.seen note.ctype) out node) (subst (IsAddressed s note.ctype) out addressed) fresh (subst (λ (n : NodeView). fresh + length (n.fresh here.at) < 2 ^ 32) n_is little) are
         (subst (λ (n : NodeView). n.judged note.ctype fresh here.at ≡ Ok (node_of (inner_node y))) n_is (judged ∙ ap Ok (node_rolled (inner_node y))))
-        (subst (λ (n : NodeView). n.operand_fault place fresh here.at ≡ None) n_is fault) r pointer array element k));
+        (subst (λ (n : NodeView). n.operand_fault place fresh here.at ≡ None) n_is fault)
+        (subst (λ (n : NodeView). n.no_address ≡ false) n_is free) r pointer array element k));
     place = λ note place row typed here covered node structure tag struct h fresh little are judged fault k.
         let out : out-Node Name Note (roll-Node Name Note (inner_node y)) ≡ inner_node y = node_out (inner_node y) in
         let n_is : view_of_node s.frame (roll-Node Name Note (inner_node y)) ≡ node_view s.frame (viewed_node (inner_node y)) =
@@ -719,7 +727,7 @@ module _ (globals : Globals) (s : Setting) (agrees : Agrees globals s) (declares
         let cover : IsCoveredExpr s store here.seen (record { node = y.node.0; pos = y.pos; note = y.note }) = every_here-Expr Name Note AnyLimits AnyNode (IsCoveredExpr s store here.seen) e covered in
         subst (λ v. P v (part_of e)) (sym v_is) (subst (λ q. P (expr_view (viewed_expr (inner_expr y))) q) (sym q_is)
         (y.node.1.claims y.note y.pos row (node_every (HasRow globals s) e typed) here (node_every (IsCoveredExpr s store here.seen) e covered) cover.node cover.checked scalar h fresh (subst (λ (v : View). fresh + length (v.fresh here.at) < 2 ^ 32) v_is little) are seen.node seen.fault seen.range k));
-    address = λ typed here covered addressed h fresh little are judged r pointer array element k.
+    address = λ typed here covered addressed h fresh little are judged free r pointer array element k.
         let e : NotedExpr = roll-Expr Name Note (inner_expr y) in
         let v_is : view s.frame e ≡ expr_view (viewed_expr (inner_expr y)) = fold-roll-Expr Name Note LimitsView NodeView View limits_view (node_view s.frame) expr_view (inner_expr y) in
         let q_is : part_of e ≡ expr_parts (part_expr (inner_expr y)) = fold-roll-Expr Name Note LimitsPart NodePart Part limits_parts node_parts expr_parts (inner_expr y) in
@@ -729,7 +737,7 @@ module _ (globals : Globals) (s : Setting) (agrees : Agrees globals s) (declares
         let row : IsRow globals s (out-Node Name Note y.node.0) y.note = every_here-Expr Name Note AnyLimits AnyNode (HasRow globals s) e typed in
         let cover : IsCoveredExpr s store here.seen (record { node = y.node.0; pos = y.pos; note = y.note }) = every_here-Expr Name Note AnyLimits AnyNode (IsCoveredExpr s store here.seen) e covered in
         subst (λ v. P v (part_of e)) (sym v_is) (subst (λ q. P (expr_view (viewed_expr (inner_expr y))) q) (sym q_is)
-        (y.node.1.address y.note y.pos row (node_every (HasRow globals s) e typed) here (node_every (IsCoveredExpr s store here.seen) e covered) cover.node addressed h fresh (parts_room fresh ((view_of_node s.frame y.node.0).fresh here.at) (own_fresh y.note.ctype (view_of_node s.frame y.node.0) here.at.facts) (subst (λ (v : View). fresh + length (v.fresh here.at) < 2 ^ 32) v_is little)) are seen.0 seen.1 r pointer array element k));
+        (y.node.1.address y.note y.pos row (node_every (HasRow globals s) e typed) here (node_every (IsCoveredExpr s store here.seen) e covered) cover.node addressed h fresh (parts_room fresh ((view_of_node s.frame y.node.0).fresh here.at) (own_fresh y.note.ctype (view_of_node s.frame y.node.0) here.at.facts) (subst (λ (v : View). fresh + length (v.fresh here.at) < 2 ^ 32) v_is little)) are seen.0 seen.1 (subst (λ (v : View). v.no_address ≡ false) v_is free) r pointer array element k));
     place = λ typed here covered structure tag struct h fresh little are judged k.
         let e : NotedExpr = roll-Expr Name Note (inner_expr y) in
         let v_is : view s.frame e ≡ expr_view (viewed_expr (inner_expr y)) = fold-roll-Expr Name Note LimitsView NodeView View limits_view (node_view s.frame) expr_view (inner_expr y) in

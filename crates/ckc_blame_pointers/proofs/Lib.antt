@@ -32,6 +32,7 @@ pub mod Held
 pub mod Scalars
 pub mod Dots
 pub mod Singles
+pub mod Free
 pub mod Reached
 pub mod Pointees
 pub mod Arrows

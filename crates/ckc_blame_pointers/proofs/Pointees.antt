@@ -1,6 +1,6 @@
 -- The claims of a pointer that `*` and `[` read.
 use Rattle.std.proofs.Common.{◌≡◌, ◌⊎◌, ⊎_elim, inl, inr, refl, sym, ap, subst, ◌∙◌, ℕ, ◌+◌, Bool, true, false, List, [], ◌∷◌, arith}
-use Rattle.std.specs.Prelude.{◌*◌, ◌%◌, ◌<◌, ◌^◌, not, if◌then◌else◌, flat_map, slice_get, ℤ, pos, Option, None, Some, IsOk}
+use Rattle.std.specs.Prelude.{◌%◌, ◌<◌, ◌^◌, not, if◌then◌else◌, flat_map, slice_get, ℤ, pos, Option, None, Some, IsOk}
 use Rattle.std.specs.List.{All, Contains, list_any}
 use Rattle.std.proofs.lemmas.Bool.{and_parts}
 use Rattle.std.proofs.lemmas.List.Elements.{All-nil, All-cons, All-contains, Contains-append_left, Contains-append_right}

@@ -22,7 +22,6 @@ use Rattle.ckc_syntax.specs.declared.tree.Name.{Name}
 use Rattle.ckc_syntax.specs.declared.tree.TreeOp.TheVariants as op
 use Rattle.ckc_syntax.specs.declared.tree.Node.{Node-F}
 use Rattle.ckc_typed.specs.declared.typed.Note.{Note}
-use Rattle.ckc_typed.specs.declared.typed.Range.TheVariants as range
 use Rattle.ckc_typed.specs.Constants.{size_of}
 use Rattle.ckc_typed.specs.Conversions.{is_terminated_kind}
 use Rattle.ckc_typed.specs.Environment.{is_member_named}
@@ -46,7 +45,7 @@ use Rattle.ckc_source.specs.Blocks.{Block, block_of, end_of}
 use Rattle.ckc_source.specs.Eval.{Store, place_in, spanned, evaluated}
 use Rattle.ckc_source.specs.Runs.{is_within, is_in_block, any_below, is_at, is_in_some_element, is_in_member, runs_of, runs_in, member_runs, is_in, is_true}
 use Rattle.ckc_build_elaborate.specs.Objects.{object_elaborated, objects_elaborated}
-use Rattle.ckc_build_elaborate.specs.Shapes.{run_of, shapes_elaborated}
+use Rattle.ckc_build_elaborate.specs.Shapes.{is_run, run_of, shapes_elaborated}
 use Rattle.ckc_build_values.specs.Kinds.{width_of, tag_in, tag_of}
 use Rattle.ckc_build_values.specs.Members.{offset_of}
 use Rattle.ckc_build_values.specs.Names.{address_in, address_of}
@@ -61,7 +60,7 @@ use Rattle.ckc_blame_slots.proofs.Objects.{made_shape, shapes_at}
 use Rattle.ckc_blame_slots.proofs.Parts.{form_width, sized_form, part_lies}
 use Rattle.ckc_blame_slots.proofs.Places.{element_between}
 use Rattle.ckc_blame_slots.proofs.Reached.{place_is}
-use Rattle.ckc_blame_pointers.specs.Covered.{IsFreeObject, IsFreeMember, IsSoundStore}
+use Rattle.ckc_blame_pointers.specs.Covered.{IsFreeObject, IsScalarMember, IsSoundStore}
 use Rattle.ckc_blame_pointers.specs.Meant.{IsNotStuck}
 use Rattle.ckc_blame_pointers.proofs.Arrays.{type_same, object_at}
 use Rattle.ckc_blame_pointers.proofs.Held.{IsOwnNode, found_passes}
@@ -173,7 +172,7 @@ module _ (s : Setting) (store : Store) (next : ℕ) (ready : IsSoundStore s stor
           both (same_type b.element b.element) (if b.terminated then is_within b.base (end_of b - b.size) to.size b.base b.base (b.base + to.size) else is_within b.base (end_of b) to.size b.base b.base (b.base + to.size))
           (type_same b.element) (ap (λ q. if q then is_within b.base (end_of b - b.size) to.size b.base b.base (b.base + to.size) else is_within b.base (end_of b) to.size b.base b.base (b.base + to.size)) plain ∙ within)
 
-  module _ (u t : CType) (n : Name) (c : IsFreeMember s u t n) (a : ℕ) (w : IsWholeElement store.blocks u a) (run : w.block.is_run ≡ true) where
+  module _ (u t : CType) (n : Name) (c : IsScalarMember s u t n) (free : is_run (members_of s.text.layout c.tag) c.member ≡ true) (a : ℕ) (w : IsWholeElement store.blocks u a) (run : w.block.is_run ≡ true) where
     abbrev offset : ℕ
     offset = offset_of s.text.layout c.tag c.member.name
 
@@ -260,7 +259,7 @@ module _ (s : Setting) (store : Store) (next : ℕ) (ready : IsSoundStore s stor
     among : list_any Run (flat_map (run_of s.text.layout c.tag (members_of s.text.layout c.tag)) (members_of s.text.layout c.tag)) ≡ true
     among =
         any_found Run (run_of s.text.layout c.tag (members_of s.text.layout c.tag)) (λ m. is_member_named n m.name) (members_of s.text.layout c.tag) c.member c.found
-        (ap (λ q. list_any Run (if q then run_there ∷ [] else [])) c.free ∙ or_left (Run run_there) false run_true)
+        (ap (λ q. list_any Run (if q then run_there ∷ [] else [])) free ∙ or_left (Run run_there) false run_true)
 
     runs_true : list_any Run (member_runs store.shapes b) ≡ true
     runs_true =
@@ -331,13 +330,13 @@ module _ (s : Setting) (store : Store) (entry : List ℕ) (next : ℕ) (ready : 
       x = record { number = m; range = Within m (m + size_of s.text.layout t) }
 
   -- `&p->m` and `&x.m`
-  pub member_claims : (u : CType) (n : Name) → IsFreeMember s u t n → (q : Place) → IsStructurePlace store u q
+  pub member_claims : (u : CType) (n : Name) (c : IsScalarMember s u t n) → is_run (members_of s.text.layout c.tag) c.member ≡ true → (q : Place) → IsStructurePlace store u q
       → IsNotStuck (NodeClaims s store entry here h r made) (evaluated store (address_at s.text.layout t (member_place s.text.layout (tag_of u) n q)))
-  member_claims u n c q place =
+  member_claims u n c free q place =
       member_address store s.text.layout u q place (tag_of u) n (NodeClaims s store entry here h r made) t
-      (λ a w. subst (λ o. IsNotStuck (NodeClaims s store entry here h r made) (spanned (place_in a o) (size_of s.text.layout t))) (sym (offset_is s store next ready u t n c a w.0 w.1))
-      (subst (λ m. IsNotStuck (NodeClaims s store entry here h r made) (spanned m (size_of s.text.layout t))) (sym (member_at s store next ready u t n c a w.0 w.1))
-      (one_claims (a + offset_of s.text.layout c.tag c.member.name) (member_small s store next ready u t n c a w.0 w.1) (member_true s store next ready u t n c a w.0 w.1))))
+      (λ a w. subst (λ o. IsNotStuck (NodeClaims s store entry here h r made) (spanned (place_in a o) (size_of s.text.layout t))) (sym (offset_is s store next ready u t n c free a w.0 w.1))
+      (subst (λ m. IsNotStuck (NodeClaims s store entry here h r made) (spanned m (size_of s.text.layout t))) (sym (member_at s store next ready u t n c free a w.0 w.1))
+      (one_claims (a + offset_of s.text.layout c.tag c.member.name) (member_small s store next ready u t n c free a w.0 w.1) (member_true s store next ready u t n c free a w.0 w.1))))
 
   -- `&x` of a static object
   pub object_claims : (k : ℕ) → IsFreeObject s t k → IsNotStuck (NodeClaims s store entry here h r made) (spanned (place_in (address_of s.text k) 0) (size_of s.text.layout t))

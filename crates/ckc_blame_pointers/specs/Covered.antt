@@ -5,7 +5,6 @@ use Rattle.ckc_types.specs.declared.types.Kind.{Kind}
 use Rattle.ckc_types.specs.declared.types.Kind.TheVariants as kind
 use Rattle.ckc_types.specs.declared.types.CType.{CType, CType-F, out-CType}
 use Rattle.ckc_types.specs.declared.types.MemberShape.{MemberShape}
-use Rattle.ckc_types.specs.Layout.{members_of}
 use Rattle.ckc_types.specs.declared.types.MemberBounds.{MemberBounds}
 use Rattle.ckc_types.specs.declared.types.MemberBounds.TheVariants as mbounds
 use Rattle.ckc_linear.specs.declared.forms.Base.{Base}
@@ -46,7 +45,7 @@ use Rattle.ckc_build_values.specs.Kinds.{size_behind, count_of_kind, tag_of}
 use Rattle.ckc_build_values.specs.Members.{member_named, count_of_member}
 use Rattle.ckc_build_values.specs.Names.{count_of_static, limits_declared}
 use Rattle.ckc_build_elaborate.specs.Objects.{object_elaborated, objects_elaborated}
-use Rattle.ckc_build_elaborate.specs.Shapes.{is_run, shapes_elaborated}
+use Rattle.ckc_build_elaborate.specs.Shapes.{shapes_elaborated}
 use Rattle.ckc_blame_sound.specs.Settings.{Setting}
 use Rattle.ckc_blame_sound.specs.Slots.{AreFilled}
 use Rattle.ckc_blame_slots.specs.Cells.{AreSound, HaveOwnNames}
@@ -300,8 +299,8 @@ pub record IsFreeObject (s : Setting) (t : CType) (k : ℕ) : Type 0 where
   pub some : 0 < object.count
   pub element : object.element ≡ t
 
--- a member of a structure of a type, an integer or a pointer, that takes part in no bounds; others have no address
-pub record IsFreeMember (s : Setting) (u t : CType) (n : Name) : Type 0 where
+-- a member of a structure of a type, an integer or a pointer
+pub record IsScalarMember (s : Setting) (u t : CType) (n : Name) : Type 0 where
   pub tag : ℕ
   pub struct : out-CType u ≡ CType-F.Struct tag
   pub number : ℕ
@@ -310,15 +309,14 @@ pub record IsFreeMember (s : Setting) (u t : CType) (n : Name) : Type 0 where
   pub found : member_named s.text.layout tag n ≡ Some member
   pub type : member.ctype ≡ t
   pub scalar : is_scalar t ≡ true
-  pub free : is_run (members_of s.text.layout tag) member ≡ true
 
 -- what `&` gives the address of: static objects, `*p`, `p[e]` and members
 abbrev pub IsAddressed : Setting → CType → NotedLayer → Type 0
 IsAddressed s t (Node-F.Name (name.Static k)) = IsFreeObject s t k
 IsAddressed s t (Node-F.Un op.Deref e) = Unit {0}
 IsAddressed s t (Node-F.Index e f) = Unit {0}
-IsAddressed s t (Node-F.Arrow e n spot) = IsFreeMember s (element_of e.note.ctype) t n × IsThrough s e.note.ctype
-IsAddressed s t (Node-F.Dot e n spot) = IsFreeMember s e.note.ctype t n
+IsAddressed s t (Node-F.Arrow e n spot) = IsScalarMember s (element_of e.note.ctype) t n × IsThrough s e.note.ctype
+IsAddressed s t (Node-F.Dot e n spot) = IsScalarMember s e.note.ctype t n
 IsAddressed s t _ = ⊥
 
 -- the operands of unary operators

@@ -1,0 +1,125 @@
+-- What right sides give to places.
+use Rattle.std.proofs.Common.{◌≡◌, refl, sym, ap, subst, ◌∙◌, ℕ, Bool, true, false, List, arith}
+use Rattle.std.specs.Prelude.{◌+◌, ◌<◌, ◌^◌, if◌then◌else◌, length, Some, Result, Ok, Err}
+use Rattle.ckc_types.specs.declared.types.CType.{CType}
+use Rattle.ckc_syntax.specs.declared.tree.Expr.{every_here-Expr}
+use Rattle.ckc_typed.specs.declared.environment.Globals.{Globals}
+use Rattle.ckc_typed.specs.Conversions.{converts, is_allocation}
+use Rattle.ckc_typed.specs.Operands.{is_raw_kind}
+use Rattle.ckc_typed.specs.Trees.{NotedExpr}
+use Rattle.ckc_typed.specs.Types.{is_char, is_pointer, kind_of}
+use Rattle.ckc_typed_welltyped.specs.Expressions.{AnyLimits, AnyNode}
+use Rattle.ckc_bounds_points.specs.Flow as flow
+use Rattle.ckc_bounds_points.specs.Forms.{in_type}
+use Rattle.ckc_bounds_views.specs.Parts.{View, capped, fresh_behind}
+use Rattle.ckc_bounds_views.specs.Views.{view}
+use Rattle.ckc_bounds_statements.specs.Paths.{Here}
+use Rattle.ckc_bounds_stores.specs.declared.values.Numbered.{Numbered}
+use Rattle.ckc_bounds_stores.specs.Values.{narrow, has_element, received_range}
+use Rattle.ckc_source.specs.declared.outcome.Halt.{Halt}
+use Rattle.ckc_source.specs.declared.outcome.Halt.TheVariants as halt
+use Rattle.ckc_source.specs.declared.outcome.Value.{Value as Given}
+use Rattle.ckc_source.specs.declared.program.Shape.{Shape}
+use Rattle.ckc_source.specs.Code.{Value}
+use Rattle.ckc_source.specs.Eval.{Store, given, evaluated}
+use Rattle.ckc_source.specs.States.{State}
+use Rattle.ckc_source.specs.Steps.{store_of, Drawn, drawn}
+use Rattle.ckc_build_values.specs.Expressions.{expr_elaborated}
+use Rattle.ckc_blame_sound.specs.Bodies.{AreFresh}
+use Rattle.ckc_blame_sound.specs.Settings.{Setting}
+use Rattle.ckc_blame_sound.specs.Values.{IsWordOf}
+use Rattle.ckc_blame_numbers.specs.Typed.{IsTyped, Agrees}
+use Rattle.ckc_blame_texts.proofs.SameViews.{same_view}
+use Rattle.ckc_blame_contained.specs.Containment.{Memory, IsRanged}
+use Rattle.ckc_blame_sound.specs.Valuations.{Valuation, IsValuationOf, AreNumbersOf}
+use Rattle.ckc_blame_contained.specs.Given.{IsFrom}
+use Rattle.ckc_blame_pointers.specs.Covered.{DeclareLocals, IsCoveredExpr, IsCovered}
+use Rattle.ckc_blame_pointers.specs.Meant.{IsNotStuck}
+use Rattle.ckc_blame_given.specs.At.{GivesAt}
+use Rattle.ckc_blame_given.specs.Gives.{Continues, Gives}
+use Rattle.ckc_blame_given.proofs.Bridge.{judged_gives}
+use Rattle.ckc_blame_given.proofs.From.{becomes_typed, given_from, kept_number}
+use Rattle.ckc_blame_locals.specs.Written.{IsReceived}
+use Rattle.ckc_blame_locals.proofs.Fitting.{same_type, char_bare}
+use Rattle.ckc_blame_targets.specs.Targets.{ComesTo}
+use Rattle.ckc_blame_steps.specs.Plans.{IsAt, IsDrawn}
+use Rattle.ckc_blame_steps.proofs.Comes.{same_state}
+
+-- a word of a type is a word
+wide : (t : CType) (n : ℕ) → IsWordOf t n → n < 2 ^ 32
+wide t n h = by (is_char t) h
+  where
+    by : (b : Bool) → n < (if b then 256 else 2 ^ 32) → n < 2 ^ 32
+    by true h = omega arith
+    by false h = h
+
+module _ (s : Setting) where
+  -- what goes to a pointer, said of an expression of which the same is said
+  from_as : (m : Memory) (v : Valuation) (t : CType) (f g : NotedExpr) → view s.frame f ≡ view s.frame g → (from : Numbered) (at : flow.State) (n : ℕ)
+      → IsFrom s.frame m v t f from at n → IsFrom s.frame m v t g from at n
+  from_as m v t f g same from at n h = record {
+    place = λ facts x all is. h.place facts x all (subst (λ (w : View). w.place from.value facts ≡ Some x) (sym same) is);
+    value = record {
+      null = λ z. h.value.null (ap (λ (w : View). w.null) same ∙ z);
+      ranged = subst (λ (w : View). IsRanged m v n (received_range t w.allocates (w.range from.value from.fresh at))
+          (received_range t w.allocates (w.range from.value from.fresh (narrow at))) (has_element t w.allocates)) same h.value.ranged;
+      fresh = λ d. subst (λ (w : View). AreNumbersOf v (capped from.fresh 1) (w.fresh at)) same (h.value.fresh d);
+    };
+  }
+
+  module _ (globals : Globals) (t : CType) (f g : NotedExpr) (fresh : ℕ) (at : flow.State) (typed : IsTyped globals s f) (checked : is_raw_kind (kind_of f.note.ctype) ≡ false)
+      (goes : converts t f ≡ true) (plain : is_allocation f ≡ false) (judged : (view s.frame f).judged fresh at ≡ Ok g) where
+    pub same : view s.frame g ≡ view s.frame f
+    same = same_view s.frame f g fresh at judged s.frame
+
+    word_received : (store : Store) (v : Valuation) → IsValuationOf s store.locals v → (from : Numbered) (n : ℕ) → Gives s store v at f from n → IsReceived s store v at t g from n
+    word_received store v values from n gives =
+        let how = becomes_typed globals s f t typed checked goes plain in
+        record {
+          word = wide f.note.ctype n gives.word;
+          gives = from_as _ v t f g (sym same) from at n (given_from s store at v f from n t how gives plain);
+          form = λ facts x all is. kept_number s store at v f from n t how gives values.zero facts x all (subst (λ (w : View). in_type facts t (w.form facts) ≡ Some x) same is);
+          bare = λ c. ap is_pointer (same_type s.frame f g fresh at judged) ∙ char_bare t f c goes;
+        }
+
+  module _ (globals : Globals) (agrees : Agrees globals s) (declares : DeclareLocals s) (shapes : List Shape) (entry : List ℕ) (here : Here) (b : State) (is_at : IsAt s shapes entry here b)
+      (t : CType) (f g : NotedExpr) (fresh literals : ℕ) (typed : IsTyped globals s f) (goes : converts t f ≡ true) (plain : is_allocation f ≡ false)
+      (judged : (view s.frame f).judged fresh here.at ≡ Ok g) (little : fresh + length ((view s.frame g).fresh here.at) < 2 ^ 32) (are : AreFresh s.frame fresh)
+      (covered : IsCovered s (store_of shapes b) here.seen g) where
+    is_same : view s.frame g ≡ view s.frame f
+    is_same = same_view s.frame f g fresh here.at judged s.frame
+
+    checked : is_raw_kind (kind_of f.note.ctype) ≡ false
+    checked =
+        subst (λ (u : CType). is_raw_kind (kind_of u) ≡ false) (same_type s.frame f g fresh here.at judged)
+        (every_here-Expr _ _ AnyLimits AnyNode (IsCoveredExpr s (store_of shapes b) here.seen) g covered.0).checked
+
+    of_number : (n : ℕ) → GivesAt s (store_of shapes b) here.at f n → IsDrawn s shapes entry here b t g (record { number = n; state = b })
+    of_number n gives = record {
+      grown = same_state b;
+      at = is_at;
+      gives = λ from before room are values.
+          let on = gives from before (subst (λ (w : View). from.value + w.values + 1 < 2 ^ 32) is_same room.values)
+          (subst (λ (w : View). from.fresh + length (w.fresh here.at) < 2 ^ 32) is_same room.variables) are values in
+          record {
+            after = on.after;
+            values = on.values;
+            continues = on.continues;
+            received = λ later values goes_on.
+                word_received globals t f g fresh here.at typed checked goes plain judged (store_of shapes b) later values from n
+                (on.gives later values (subst (λ (w : View). Continues (capped from.value w.values) (fresh_behind w from.fresh here.at) on.after later) is_same goes_on));
+          };
+    }
+
+    -- a value that is no `calloc`
+    pub value_drawn : ComesTo (IsDrawn s shapes entry here b t g) (drawn shapes b (Value (expr_elaborated s.text s.variables literals g)))
+    value_drawn =
+        by (evaluated (store_of shapes b) (expr_elaborated s.text s.variables literals g))
+        (judged_gives globals s agrees declares (store_of shapes b) entry b.next is_at.ready here f g fresh literals
+        (subst (λ (w : View). fresh + length (w.fresh here.at) < 2 ^ 32) is_same little) are typed judged covered is_at.holds)
+      where
+        by : (r : Result Given Halt) → IsNotStuck (λ p. GivesAt s (store_of shapes b) here.at f p.number) r
+            → ComesTo (IsDrawn s shapes entry here b t g) (given r (λ v. Ok (record { number = v.number; state = b })))
+        by (Ok v) h = of_number v.number h
+        by (Err (halt.Stopped why at)) h = tt
+        by (Err halt.Stuck) h = absurd h

@@ -1,0 +1,142 @@
+-- What is granted of a judged text: which expressions its steps of mode Checked have, and how small it is.
+use Rattle.std.specs.Prelude.{◌≡◌, ℕ, ◌+◌, ◌<◌, ◌^◌, List, [], ◌∷◌, length, IfSome}
+use Rattle.std.specs.List.{AllByRecursion}
+use Rattle.ckc_base.specs.declared.arithmetic.Mode.TheVariants.{Checked}
+use Rattle.ckc_syntax.specs.declared.tree.Name.{Name}
+use Rattle.ckc_syntax.specs.declared.tree.Name.TheVariants as name
+use Rattle.ckc_syntax.specs.declared.tree.Init.TheVariants as init
+use Rattle.ckc_syntax.specs.declared.tree.Node.{Node-F, out-Node}
+use Rattle.ckc_syntax.specs.declared.tree.Act.{Act-F, out-Act}
+use Rattle.ckc_typed.specs.declared.typed.Note.{Note}
+use Rattle.ckc_typed.specs.declared.typed.Typed.{Typed}
+use Rattle.ckc_typed.specs.Trees.{NotedAct, NotedExpr, NotedInit, NotedLayer, NotedStmt}
+use Rattle.ckc_bounds_points.specs.declared.frame.Frame.{Frame}
+use Rattle.ckc_bounds_points.specs.Flow.{State}
+use Rattle.ckc_bounds_views.specs.Parts.{capped, fresh_behind}
+use Rattle.ckc_bounds_views.specs.Views.{view}
+use Rattle.ckc_bounds_statements.specs.Paths.{Here}
+use Rattle.ckc_bounds_stores.specs.Stores as stores
+use Rattle.ckc_bounds_stores.specs.Stores.{stores_of}
+use Rattle.ckc_source.specs.declared.stmt.Spot.{Spot}
+use Rattle.ckc_source.specs.Code.{Code, End, Function}
+use Rattle.ckc_source.specs.Eval.{Store}
+use Rattle.ckc_source.specs.Steps.{spot_in}
+use Rattle.ckc_blame_sound.specs.Settings.{Setting, IsFunction}
+use Rattle.ckc_blame_sound.specs.Slots.{AreFilled}
+use Rattle.ckc_blame_sound.specs.Steps.{IsStep}
+use Rattle.ckc_blame_sound.specs.Words.{HaveWords}
+use Rattle.ckc_blame_slots.specs.Limited.{AreSlotParts}
+use Rattle.ckc_blame_contained.specs.Elements.{NameIntegerMembers}
+use Rattle.ckc_blame_texts.specs.Judged.{IsJudged}
+use Rattle.ckc_blame_pointers.specs.Covered.{DeclareLocals, IsSoundStore, IsCovered}
+use Rattle.ckc_blame_targets.specs.Targets.{KeepRunsFree, IsCoveredTarget}
+use Rattle.ckc_blame_targets.specs.Together.{HaveSmallNames}
+
+-- ---- expressions that are covered
+
+-- What is assigned in a bundle is covered; of a `calloc` what it counts is.
+abbrev pub IsCoveredValue : Setting → Store → List ℕ → NotedExpr → NotedLayer → Type 0
+IsCoveredValue s store seen e (Node-F.Calloc w n x) = IsCovered s store seen n
+IsCoveredValue s store seen e node = IsCovered s store seen e
+
+-- the argument of `putchar`, which takes one
+abbrev pub IsCoveredFirst : Setting → Store → List ℕ → List NotedExpr → Type 0
+IsCoveredFirst s store seen [] = ⊥
+IsCoveredFirst s store seen (e ∷ es) = IsCovered s store seen e
+
+-- What is called is a function of the text, `getchar` or `putchar`.
+abbrev pub IsCoveredCall : Setting → Store → List ℕ → Name → List NotedExpr → Type 0
+IsCoveredCall s store seen (name.Function k) es = Unit {0}
+IsCoveredCall s store seen name.Getchar es = Unit {0}
+IsCoveredCall s store seen name.Putchar es = IsCoveredFirst s store seen es
+IsCoveredCall s store seen n es = ⊥
+
+-- the right side of an assignment alone, or an initialiser, which may be a call
+abbrev pub IsCoveredRight : Setting → Store → List ℕ → NotedExpr → NotedLayer → Type 0
+IsCoveredRight s store seen e (Node-F.Call n es) = IsCoveredCall s store seen n es
+IsCoveredRight s store seen e node = IsCoveredValue s store seen e node
+
+-- an initialiser; no local has a list in braces
+abbrev pub IsCoveredInit : Setting → Store → List ℕ → NotedInit → Type 0
+IsCoveredInit s store seen init.Nothing = Unit {0}
+IsCoveredInit s store seen (init.One e) = IsCoveredRight s store seen e (out-Node Name Note e.node)
+IsCoveredInit s store seen (init.Many es) = ⊥
+
+-- an assignment of a bundle
+abbrev pub AreCoveredSides : Setting → Store → List ℕ → Act-F Name Note NotedAct NotedStmt → Type 0
+AreCoveredSides s store seen (Act-F.Assign e f) =
+    IsCoveredTarget s store seen e (out-Node Name Note e.node)
+    × IsCoveredValue s store seen f (out-Node Name Note f.node)
+AreCoveredSides s store seen a = ⊥
+
+-- the assignments of a bundle
+abbrev pub AreCoveredParts : Setting → Store → List ℕ → List NotedStmt → Type 0
+AreCoveredParts s store seen ss = AllByRecursion (λ (st : NotedStmt). AreCoveredSides s store seen (out-Act Name Note st.body)) ss
+
+-- The expressions of a statement that is a step by itself, after it is judged.
+abbrev pub IsCoveredAct : Setting → Store → List ℕ → Act-F Name Note NotedAct NotedStmt → Type 0
+IsCoveredAct s store seen (Act-F.Local d) = IsCoveredInit s store seen d.init
+IsCoveredAct s store seen (Act-F.Assign e f) =
+    IsCoveredTarget s store seen e (out-Node Name Note e.node)
+    × IsCoveredRight s store seen f (out-Node Name Note f.node)
+IsCoveredAct s store seen (Act-F.Call e) = IsCoveredRight s store seen e (out-Node Name Note e.node)
+IsCoveredAct s store seen (Act-F.Return e) = IfSome e (IsCovered s store seen)
+IsCoveredAct s store seen (Act-F.Check e) = IsCovered s store seen e
+IsCoveredAct s store seen (Act-F.Bundle ss) = AreCoveredParts s store seen ss
+IsCoveredAct s store seen a = Unit {0}
+
+-- ---- room for numbers
+
+-- There is room for the numbers of the values and the fresh variables of an expression from these on.
+pub record HasRoom (frame : Frame) (at : State) (value fresh : ℕ) (e : NotedExpr) : Type 0 where
+  pub values : value + (view frame e).values + 1 < 2 ^ 32
+  pub variables : fresh + length ((view frame e).fresh at) < 2 ^ 32
+
+-- the same of the sides of an assignment, of which the right one alone numbers its values
+pub record HaveRoomSides (frame : Frame) (at : State) (value fresh : ℕ) (e f : NotedExpr) : Type 0 where
+  pub left : HasRoom frame at 0 fresh e
+  pub right : HasRoom frame at value (fresh_behind (view frame e) fresh at) f
+
+-- the same of assignments, one after another
+unfoldable pub HaveRoom : Frame → State → ℕ → ℕ → List stores.Store → Type 0
+HaveRoom frame at value fresh [] = Unit {0}
+HaveRoom frame at value fresh (st ∷ sts) =
+    HaveRoomSides frame at value fresh st.target st.right
+    × HaveRoom frame at (capped value (view frame st.right).values)
+    (fresh_behind (view frame st.right) (fresh_behind (view frame st.target) fresh at) at) sts
+
+-- the same of an initialiser
+abbrev pub HasRoomInit : Frame → State → ℕ → NotedInit → Type 0
+HasRoomInit frame at fresh (init.One e) = HasRoom frame at 0 fresh e
+HasRoomInit frame at fresh i = Unit {0}
+
+-- the same of the expressions of a statement that is a step by itself, after it is judged
+abbrev pub HasRoomAct : Frame → State → ℕ → Act-F Name Note NotedAct NotedStmt → Type 0
+HasRoomAct frame at fresh (Act-F.Local d) = HasRoomInit frame at fresh d.init
+HasRoomAct frame at fresh (Act-F.Assign e f) = HaveRoomSides frame at 0 fresh e f
+HasRoomAct frame at fresh (Act-F.Call e) = HasRoom frame at 0 fresh e
+HasRoomAct frame at fresh (Act-F.Return e) = IfSome e (HasRoom frame at 0 fresh)
+HasRoomAct frame at fresh (Act-F.Check e) = HasRoom frame at 0 fresh e
+HasRoomAct frame at fresh (Act-F.Bundle ss) = HaveRoom frame at 0 fresh (stores_of ss)
+HasRoomAct frame at fresh a = Unit {0}
+
+-- ---- a text
+
+-- What is granted of a text: it is judged, its literals are words, its functions have few variables, its declared bounds
+-- name locals and static arrays alone, and each expression of a step of mode Checked is covered and small, in each store
+-- whose blocks are sound and whose pointers may be read.
+pub record IsGranted (p : Typed) : Type 0 where
+  pub judged : IsJudged p
+  pub words : HaveWords p
+  pub free : KeepRunsFree p
+  pub names : HaveSmallNames p.layout
+  pub parts : AreSlotParts p
+  pub counts : NameIntegerMembers p.layout
+  pub few : (s : Setting) (f : Function) → IsFunction p s f → length s.variables < 1024
+  pub declares : (s : Setting) (f : Function) → IsFunction p s f → DeclareLocals s
+  pub covered : (s : Setting) (f : Function) (here there : Here) (step : Code → Code) (end : Spot) (store : Store)
+      (next : ℕ) → IsFunction p s f → (is : IsStep s here step there) → (spot_in end (step End)).mode ≡ Checked
+      → IsSoundStore s store next → AreFilled p store
+      → IsCoveredAct s store here.seen (out-Act Name Note is.after.body)
+  pub room : (s : Setting) (f : Function) (here there : Here) (step : Code → Code) → IsFunction p s f
+      → (is : IsStep s here step there) → HasRoomAct s.frame here.at here.next (out-Act Name Note is.after.body)

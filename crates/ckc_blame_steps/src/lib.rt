@@ -1,0 +1,6 @@
+//! Assignments, declarations, `getchar` and `putchar` of mode Checked keep states sound.
+#![tactic(auto)]
+
+mod laws;
+
+pub use laws::assignments_keep_sound;
