@@ -1,6 +1,6 @@
 -- The expressions of checked scopes are those of which it is said what they come to.
-use Rattle.std.proofs.Common.{◌≡◌, ◌∙◌, ⊎_elim, sym, ap, subst, refl, inl, inr, ℕ, ◌+◌, ◌<◌, ◌^◌, Bool, true, false, List, rules}
-use Rattle.std.specs.Prelude.{◌⊎◌, ◌&&◌, ◌||◌, not, if◌then◌else◌, Option, Some, None, Ok}
+use Rattle.std.proofs.Common.{◌≡◌, ◌∙◌, ⊎_elim, sym, subst, refl, inl, inr, ℕ, Bool, true, false, List, rules}
+use Rattle.std.specs.Prelude.{◌⊎◌, ◌&&◌, not, if◌then◌else◌, Option, Some, None}
 use Rattle.ckc_base.specs.declared.arithmetic.Mode.{Mode}
 use Rattle.ckc_types.specs.declared.types.Kind.{Kind}
 use Rattle.ckc_types.specs.declared.types.Kind.TheVariants as kind
@@ -17,7 +17,7 @@ use Rattle.ckc_typed.specs.declared.environment.Globals.{Globals}
 use Rattle.ckc_typed.specs.declared.typed.Note.{Note}
 use Rattle.ckc_typed.specs.Conversions.{is_terminated_kind}
 use Rattle.ckc_typed.specs.Operands.{is_raw_kind, is_moved, is_moved_kind, target_type, index_type, dot_type, arrow_type, member_in}
-use Rattle.ckc_typed.specs.Raw.{has_raw, is_raw, raw_in_form}
+use Rattle.ckc_typed.specs.Raw.{has_raw, raw_in_form}
 use Rattle.ckc_typed.specs.Trees.{NotedExpr, NotedLayer}
 use Rattle.ckc_typed.specs.Types.{is_integer, is_pointer, is_pointer_form, is_void, kind_of, kind_in, element_of, element_in}
 use Rattle.ckc_typed_welltyped.specs.Expressions.{AnyLimits, AnyNode, HasType, unary_row}
@@ -26,12 +26,13 @@ use Rattle.ckc_bounds_views.specs.Views.{view}
 use Rattle.ckc_source.specs.Eval.{Store}
 use Rattle.ckc_blame_sound.specs.Settings.{Setting}
 use Rattle.ckc_blame_sound.specs.Safe.{is_assumed}
+use Rattle.ckc_blame_sound.specs.Scopes.{NamesAmong, HasAmong, NamesSeen}
 use Rattle.ckc_blame_numbers.specs.Typed.{HasRow, IsTyped}
-use Rattle.ckc_blame_pointers.specs.Covered.{DeclareOnes, IsElement, IsSingle, IsThrough, IsStructureTarget, IsPointerTarget, IsStructureElement, IsArrow, IsPointerArrow, IsStructureNode, IsDot, IsCoveredUnary, IsCoveredNode, IsCoveredExpr, AreCovered}
+use Rattle.ckc_blame_pointers.specs.Covered.{IsElement, IsSingle, IsThrough, IsStructureTarget, IsStructureElement, IsPointerTarget, IsArrow, IsPointerArrow, IsStructureNode, IsDot, IsCoveredUnary, IsCoveredNode, IsCoveredExpr, AreCovered}
 use Rattle.ckc_blame_texts.proofs.Every.{ExprLayer, EachExpr, EachLimits, each_follows}
 use Rattle.ckc_blame_texts.proofs.Sizes.{sizes_are_words}
 use Rattle.ckc_blame_covers.specs.Checked.{IsCheckedPart, IsChecked}
-use Rattle.ckc_blame_covers.specs.Told.{IsTold, NamesInScope, IsScopedPart, AreInScope, IsStructurePointer, IsReadElement, IsSpokenNode, IsSpokenPart, IsSpoken}
+use Rattle.ckc_blame_covers.specs.Told.{IsTold, IsReadElement, IsSpokenNode, IsSpokenPart, IsSpoken}
 use Rattle.ckc_blame_covers.proofs.Down.{layer, Down, each_parts, each_whole}
 use Rattle.ckc_blame_covers.proofs.Few.{IsFew, FewHere, parts_few}
 
@@ -118,12 +119,12 @@ pointer_form (CType-F.Struct k) tag h = absurd (no_struct tag (sym void_form ∙
 
 -- ---- a node
 
-module _ (globals : Globals) (s : Setting) (store : Store) (seen : List ℕ) (told : IsTold globals s store) where
+module _ (globals : Globals) (s : Setting) (store : Store) (seen : List ℕ) (told : IsTold globals s store seen) where
   -- what is known of an expression
   record IsKnownPart (e : ExprLayer) : Type 0 where
     pub row : HasRow globals s e
     pub checked : IsCheckedPart e
-    pub scope : IsScopedPart s seen e
+    pub scope : HasAmong seen e
     pub spoken : IsSpokenPart s e
     pub few : FewHere s.frame e
 
@@ -137,24 +138,36 @@ module _ (globals : Globals) (s : Setting) (store : Store) (seen : List ℕ) (to
   through e (inl one) other = inr (one, told.ones)
   through e (inr many) other = inl (array_is (kind_of e.note.ctype) many other)
 
-  deref : (e : NotedExpr) (t : CType) → IsKnown e → target_type e.note.ctype ≡ Some t → IsReadElement e
-      → IsElement e ⊎ (IsSingle s e ⊎ (IsStructureTarget s e ⊎ IsPointerTarget s store e))
+  abbrev IsTarget : NotedExpr → Type 0
+  IsTarget e = IsElement e ⊎ (IsSingle s e ⊎ (IsStructureTarget s e ⊎ IsPointerTarget s store e))
+
+  deref : (e : NotedExpr) (t : CType) → IsKnown e → target_type e.note.ctype ≡ Some t → IsReadElement e → IsTarget e
   deref e t known row spoken = by spoken (kind_is e.note.ctype (first_of (is_pointer e.note.ctype) (not (is_void (element_of e.note.ctype))) (held _ (element_of e.note.ctype) t row)) (operand_checked e known))
     where
-      by : IsReadElement e → IsCheckedKind (kind_of e.note.ctype) → IsElement e ⊎ (IsSingle s e ⊎ (IsStructureTarget s e ⊎ IsPointerTarget s store e))
+      by : IsReadElement e → IsCheckedKind (kind_of e.note.ctype) → IsTarget e
       by (inl integer) (inl one) = inr (inl (record { single = one; integer = integer; declared = told.ones }))
       by (inl integer) (inr many) = inl (record { counted = many; integer = integer })
-      by (inr w) k = inr (inr (inl (record { tag = w.tag; struct = w.struct; through = through e k w.other })))
+      by (inr w) k =
+          ⊎_elim
+          (λ f. inr (inr (inl (record { tag = f.0; struct = f.1; through = through e k w.other }))))
+          (λ f. inr (inr (inr (record { pointer = f; through = through e k w.other; free = told.free; filled = told.filled }))))
+          w.form
 
-  indexed : (e f : NotedExpr) (t : CType) → IsKnown e → index_type e.note.ctype f.note.ctype ≡ Some t → IsReadElement e
-      → IsElement e ⊎ (IsStructureElement e ⊎ (IsPointerTarget s store e × (kind_of e.note.ctype ≡ Some kind.Arr)))
+  abbrev IsIndexed : NotedExpr → Type 0
+  IsIndexed e = IsElement e ⊎ (IsStructureElement e ⊎ (IsPointerTarget s store e × (kind_of e.note.ctype ≡ Some kind.Arr)))
+
+  indexed : (e f : NotedExpr) (t : CType) → IsKnown e → index_type e.note.ctype f.note.ctype ≡ Some t → IsReadElement e → IsIndexed e
   indexed e f t known row spoken =
       by spoken (moved_counted (kind_of e.note.ctype) (first_of (is_moved e.note.ctype) (is_integer f.note.ctype) (held _ (element_of e.note.ctype) t row)) (operand_checked e known))
     where
-      by : IsReadElement e → is_counted_kind (kind_of e.note.ctype) ≡ true
-          → IsElement e ⊎ (IsStructureElement e ⊎ (IsPointerTarget s store e × (kind_of e.note.ctype ≡ Some kind.Arr)))
+      by : IsReadElement e → is_counted_kind (kind_of e.note.ctype) ≡ true → IsIndexed e
       by (inl integer) many = inl (record { counted = many; integer = integer })
-      by (inr w) many = inr (inl (record { tag = w.tag; struct = w.struct; array = array_is (kind_of e.note.ctype) many w.other }))
+      by (inr w) many =
+          let array = array_is (kind_of e.note.ctype) many w.other in
+          ⊎_elim
+          (λ f. inr (inl (record { tag = f.0; struct = f.1; array = array })))
+          (λ f. inr (inr (record { pointer = f; through = inl array; free = told.free; filled = told.filled }, array)))
+          w.form
 
   arrowed : (e : NotedExpr) (n : Name) (t : CType) → IsKnown e → arrow_type globals.structs e.note.ctype n ≡ Some t → is_terminated_kind (kind_of e.note.ctype) ≡ false
       → IsArrow s e n t ⊎ IsPointerArrow s store e n t
@@ -199,13 +212,13 @@ module _ (globals : Globals) (s : Setting) (store : Store) (seen : List ℕ) (to
   unary mode t op.Div e known row spoken = absurd (cc)
   unary mode t op.Rem e known row spoken = absurd (cc)
 
-  node_covered : (mode : Mode) (t : CType) (x : NotedLayer) → HasType globals s.variables mode x t → is_raw_kind (kind_of t) ≡ false → is_assumed x ≡ false → NamesInScope s seen x
+  node_covered : (mode : Mode) (t : CType) (x : NotedLayer) → HasType globals s.variables mode x t → is_raw_kind (kind_of t) ≡ false → is_assumed x ≡ false → NamesAmong seen x
       → IsSpokenNode s x → Down IsKnown (EachLimits IsKnownPart) x → IsCoveredNode s store seen t x
   node_covered mode t (Node-F.Number n u) row raw safe scope spoken parts = tt
   node_covered mode t (Node-F.Text bytes) row raw safe scope spoken parts = absurd spoken
   node_covered mode t Node-F.Null row raw safe scope spoken parts = tt
-  node_covered mode t (Node-F.Name (name.Local k)) row raw safe scope spoken parts = scope
-  node_covered mode t (Node-F.Name (name.Static k)) row raw safe scope spoken parts = told.statics k t row raw spoken
+  node_covered mode t (Node-F.Name (name.Local k)) row raw safe scope spoken parts = told.locals k scope
+  node_covered mode t (Node-F.Name (name.Static k)) row raw safe scope spoken parts = told.statics k t row raw
   node_covered mode t (Node-F.Name (name.Function k)) row raw safe scope spoken parts = absurd spoken
   node_covered mode t (Node-F.Name (name.Tag k)) row raw safe scope spoken parts = absurd spoken
   node_covered mode t (Node-F.Name (name.Member k)) row raw safe scope spoken parts = absurd spoken
@@ -243,17 +256,17 @@ module _ (globals : Globals) (s : Setting) (store : Store) (seen : List ℕ) (to
     pub checked : IsCheckedPart e
 
   record IsScopedSpoken (e : ExprLayer) : Type 0 where
-    pub scope : IsScopedPart s seen e
+    pub scope : HasAmong seen e
     pub spoken : IsSpokenPart s e
 
   record IsTypedScoped (e : ExprLayer) : Type 0 where
     pub typed : IsTypedChecked e
     pub scoped : IsScopedSpoken e
 
-  pub expressions_are_covered : (e : NotedExpr) → IsTyped globals s e → IsChecked e → AreInScope s seen e → IsSpoken s e → IsFew (view s.frame e).values → AreCovered s store seen e
+  pub expressions_are_covered : (e : NotedExpr) → IsTyped globals s e → IsChecked e → NamesSeen seen e → IsSpoken s e → IsFew (view s.frame e).values → AreCovered s store seen e
   expressions_are_covered e typed checked scope spoken few =
       let one = each_follows (HasRow globals s) IsCheckedPart IsTypedChecked (λ x r c. record { row = r; checked = c }) e typed checked in
-      let two = each_follows (IsScopedPart s seen) (IsSpokenPart s) IsScopedSpoken (λ x a b. record { scope = a; spoken = b }) e scope spoken in
+      let two = each_follows (HasAmong seen) (IsSpokenPart s) IsScopedSpoken (λ x a b. record { scope = a; spoken = b }) e scope spoken in
       let both = each_follows IsTypedChecked IsScopedSpoken IsTypedScoped (λ x a b. record { typed = a; scoped = b }) e one two in
       let known = each_follows IsTypedScoped (FewHere s.frame) IsKnownPart
       (λ x a b. record { row = a.typed.row; checked = a.typed.checked; scope = a.scoped.scope; spoken = a.scoped.spoken; few = b }) e both (parts_few s.frame e few) in

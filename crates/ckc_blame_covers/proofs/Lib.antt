@@ -9,3 +9,6 @@ mod Few
 mod Cover
 mod Judged
 mod Layouts
+mod Members
+mod Statics
+mod Texts

@@ -1,11 +1,11 @@
 -- Judging keeps each rule on the expressions in an expression that does not look at ranges.
 use Rattle.std.proofs.Common.{◌≡◌, ◌∙◌, sym, ap, subst, refl, ℕ, Bool, true, false, List, [], ◌∷◌, map}
-use Rattle.std.specs.Prelude.{if◌then◌else◌, Option, Some, None, IfSome, Ok}
+use Rattle.std.specs.Prelude.{if◌then◌else◌, Some, None, Ok}
 use Rattle.ckc_base.specs.declared.places.Pos.{Pos}
 use Rattle.ckc_syntax.specs.declared.tree.Name.{Name}
 use Rattle.ckc_syntax.specs.declared.tree.Limits.{Limits-F, map-Limits, roll-Limits, out-Limits, fold-Limits, fold_out-Limits}
 use Rattle.ckc_syntax.specs.declared.tree.Node.{Node-F, map-Node, roll-Node, out-Node, fold-Node, fold_out-Node}
-use Rattle.ckc_syntax.specs.declared.tree.Expr.{Expr-F, roll-Expr, fold-Expr, fold-roll-Expr, every_here-Expr}
+use Rattle.ckc_syntax.specs.declared.tree.Expr.{roll-Expr, fold-Expr, fold-roll-Expr, every_here-Expr}
 use Rattle.ckc_typed.specs.declared.typed.Note.{Note}
 use Rattle.ckc_typed.specs.declared.typed.Range.{Range}
 use Rattle.ckc_typed.specs.declared.typed.Range.TheVariants.{Missing}

@@ -1,6 +1,7 @@
 -- What of a text lets its checked expressions be those of which it is said what they come to, and the nodes that are
 -- still left out.
-use Rattle.std.specs.Prelude.{◌≡◌, ◌⊎◌, ℕ, Bool, true, false, List, slice_get, Option, Some}
+use Rattle.std.specs.Prelude.{◌≡◌, ◌⊎◌, ℕ, true, false, List, Some}
+use Rattle.std.specs.List.{Contains}
 use Rattle.ckc_types.specs.declared.types.CType.{CType, CType-F, out-CType}
 use Rattle.ckc_syntax.specs.declared.tree.Name.{Name}
 use Rattle.ckc_syntax.specs.declared.tree.Name.TheVariants as name
@@ -13,59 +14,51 @@ use Rattle.ckc_typed.specs.Conversions.{is_terminated_kind}
 use Rattle.ckc_typed.specs.Environment.{type_of_name}
 use Rattle.ckc_typed.specs.Operands.{is_raw_kind, dot_type}
 use Rattle.ckc_typed.specs.Trees.{NotedLimits, NotedNode, NotedExpr, NotedLayer}
-use Rattle.ckc_typed.specs.Types.{is_integer, kind_of, element_of}
+use Rattle.ckc_typed.specs.Types.{is_integer, is_pointer, kind_of, element_of}
 use Rattle.ckc_typed_welltyped.specs.Expressions.{AnyLimits, AnyNode}
-use Rattle.ckc_bounds_views.specs.Judged.{is_declared_object}
 use Rattle.ckc_source.specs.Eval.{Store}
 use Rattle.ckc_blame_sound.specs.Settings.{Setting}
-use Rattle.ckc_blame_pointers.specs.Covered.{DeclareOnes, IsInScope, IsStaticInteger, IsStaticArray, IsStaticPointer, IsStaticBounded, IsStaticStructure, IsIntegerMember, IsPointerMember, IsStructureNode, IsAddressed}
+use Rattle.ckc_blame_sound.specs.Slots.{AreFilled}
+use Rattle.ckc_blame_pointers.specs.Covered.{DeclareOnes, KeepRunsFree, IsInScope, IsStaticInteger, IsStaticArray, IsStaticPointer, IsStaticBounded, IsStaticStructure, IsIntegerMember, IsPointerMember, IsStructureNode, IsAddressed}
 
 -- ---- the text
 
--- The judgement and the program tell alike of the names of file scope without written bounds, and of members.
-pub record IsTold (globals : Globals) (s : Setting) (store : Store) : Type 0 where
+-- What a name of file scope with a type is: an integer, an array, a pointer without or with written bounds, or a structure.
+abbrev pub IsStaticOf : Setting → Store → CType → ℕ → Type 0
+IsStaticOf s store t k =
+    IsStaticInteger s t k
+    ⊎ (IsStaticArray s t k ⊎ (IsStaticPointer s store t k ⊎ (IsStaticBounded s store t k ⊎ IsStaticStructure s t k)))
+
+-- The judgement and the program tell alike of locals that are in scope, of names of file scope and of members, and the
+-- pointers that memory holds are in bounds.
+pub record IsTold (globals : Globals) (s : Setting) (store : Store) (seen : List ℕ) : Type 0 where
   pub structs : globals.structs ≡ s.text.layout
   pub ones : DeclareOnes s
+  pub free : KeepRunsFree s.text
+  pub filled : AreFilled s.text store
+  pub locals : (k : ℕ) → Contains seen k → IsInScope s seen k
   pub statics : (k : ℕ) (t : CType) → type_of_name globals s.variables (name.Static k) ≡ Some t
-      → is_raw_kind (kind_of t) ≡ false → is_declared_object (slice_get s.frame.objects k) ≡ false
-      → IsStaticInteger s t k
-      ⊎ (IsStaticArray s t k ⊎ (IsStaticPointer s store t k ⊎ (IsStaticBounded s store t k ⊎ IsStaticStructure s t k)))
+      → is_raw_kind (kind_of t) ≡ false → IsStaticOf s store t k
   pub members : (u t : CType) (n : Name) → dot_type s.text.layout u n ≡ Some t
       → IsIntegerMember s u t n ⊎ IsPointerMember s store u t n
 
--- ---- the scope
-
--- A node that names a local names one in scope.
-abbrev pub NamesInScope : Setting → List ℕ → NotedLayer → Type 0
-NamesInScope s seen (Node-F.Name (name.Local k)) = IsInScope s seen k
-NamesInScope s seen n = Unit {0}
-
--- the same of the node of an expression
-abbrev pub IsScopedPart : Setting → List ℕ → Expr-F Name Note NotedLimits NotedNode NotedExpr → Type 0
-IsScopedPart s seen e = NamesInScope s seen (out-Node Name Note e.node)
-
--- Each local that an expression names, however deep, is in scope.
-abbrev pub AreInScope : Setting → List ℕ → NotedExpr → Type 0
-AreInScope s seen = every-Expr Name Note AnyLimits AnyNode (IsScopedPart s seen)
-
 -- ---- the nodes
 
--- A pointer to a structure is no `_Nt_array_ptr`.
-pub record IsStructurePointer (e : NotedExpr) : Type 0 where
-  pub tag : ℕ
-  pub struct : out-CType (element_of e.note.ctype) ≡ CType-F.Struct tag
+-- What `*` and `[` read: an integer; or, not through an `_Nt_array_ptr`, a structure or a pointer.
+pub record IsOtherElement (e : NotedExpr) : Type 0 where
   pub other : is_terminated_kind (kind_of e.note.ctype) ≡ false
+  pub form : ((tag : ℕ) × (out-CType (element_of e.note.ctype) ≡ CType-F.Struct tag))
+      ⊎ (is_pointer (element_of e.note.ctype) ≡ true)
 
--- what `*` and `[` read: an integer or a structure
 abbrev pub IsReadElement : NotedExpr → Type 0
-IsReadElement e = (is_integer (element_of e.note.ctype) ≡ true) ⊎ IsStructurePointer e
+IsReadElement e = (is_integer (element_of e.note.ctype) ≡ true) ⊎ IsOtherElement e
 
--- Of which nodes it is said what they come to: no string literal, no cast that is checked, no call and no allocation;
--- names of locals, and of file scope without written bounds; elements that are no pointers; the addresses of elements.
+-- Of which nodes it is said what they come to: no string literal, no cast that is checked, no call and no allocation, and
+-- no address but those that may be taken; `.` gives a member of what has a place.
 abbrev pub IsSpokenNode : Setting → NotedLayer → Type 0
 IsSpokenNode s (Node-F.Text bytes) = ⊥
 IsSpokenNode s (Node-F.Name (name.Local k)) = Unit {0}
-IsSpokenNode s (Node-F.Name (name.Static k)) = is_declared_object (slice_get s.frame.objects k) ≡ false
+IsSpokenNode s (Node-F.Name (name.Static k)) = Unit {0}
 IsSpokenNode s (Node-F.Name n) = ⊥
 IsSpokenNode s (Node-F.Un op.Deref e) = IsReadElement e
 IsSpokenNode s (Node-F.Un op.Address e) = IsAddressed s e.note.ctype (out-Node Name Note e.node)

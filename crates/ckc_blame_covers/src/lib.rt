@@ -5,5 +5,5 @@ mod laws;
 
 pub use laws::{
     checked_conditions_are_covered, checked_parts_are_safe, declared_structures_are_laid_out,
-    expressions_are_covered, texts_are_safe,
+    expressions_are_covered, members_are_told, texts_are_safe, texts_are_told,
 };
