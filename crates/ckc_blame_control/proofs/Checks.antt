@@ -1,7 +1,7 @@
 -- A dynamic check is a condition, and the point after it is on the true side of that.
 use Rattle.std.proofs.Common.{◌≡◌, ℕ, ◌+◌, List, [], ◌∷◌, map, refl, sym, ap, subst, ◌∙◌, arith, rules}
 use Rattle.std.specs.List.{Contains}
-use Rattle.std.specs.Prelude.{Bool, true, false, not, Option, Some, Ok}
+use Rattle.std.specs.Prelude.{◌≤◌, Bool, true, false, not, Option, Some, Ok}
 use Rattle.ckc_base.specs.declared.arithmetic.Mode.{Mode}
 use Rattle.ckc_base.specs.declared.places.Pos.{Pos}
 use Rattle.ckc_base.specs.Outcomes.{Outcome, bind, unless}
@@ -9,8 +9,9 @@ use Rattle.ckc_syntax.specs.declared.tree.Name.{Name}
 use Rattle.ckc_syntax.specs.declared.tree.Name.TheVariants as name
 use Rattle.ckc_syntax.specs.declared.tree.Init.TheVariants as init
 use Rattle.ckc_syntax.specs.declared.tree.Node.{Node-F, out-Node}
-use Rattle.ckc_syntax.specs.declared.tree.Act.{Act-F, out-Act, the_lemmas}
+use Rattle.ckc_syntax.specs.declared.tree.Act.{Act-F, out-Act, roll-Act, the_lemmas}
 use Rattle.ckc_syntax.specs.declared.tree.Act.TheVariants as act
+use Rattle.ckc_syntax_limits.specs.Marks.{marks_of_expr, is_node}
 use Rattle.ckc_typed.specs.declared.environment.Variable.{Variable}
 use Rattle.ckc_typed.specs.declared.typed.Note.{Note}
 use Rattle.ckc_typed.specs.declared.typed.Typed.{Typed}
@@ -28,13 +29,16 @@ use Rattle.ckc_build_elaborate.specs.Statements.{all_assigns, act_code, part_of}
 use Rattle.ckc_blame_sound.specs.Settings.{Setting}
 use Rattle.ckc_blame_sound.specs.Points.{GoesTo}
 use Rattle.ckc_blame_sound.specs.Words.{HasWordsAct, exprs_in, exprs_of_act}
+use Rattle.ckc_blame_sound.specs.Few.{nodes_of_value, nodes_in}
+use Rattle.ckc_blame_sound.proofs.Nodes.{nodes_rolled}
+use Rattle.ckc_blame_sound.proofs.Tallies.{is_tally}
 use Rattle.ckc_blame_sound.proofs.Words.{exprs_inside, exprs_are}
 use Rattle.ckc_blame_sound.specs.Bodies.{globals_of_text}
 use Rattle.ckc_blame_sound.specs.Steps.{is_simple, IsStep, IsCondition}
 use Rattle.ckc_blame_sound.proofs.Words.{exprs_inside, exprs_are}
 use Rattle.ckc_blame_numbers.proofs.Statements.{made_of, pair_same, passes}
 use Rattle.ckc_blame_control.proofs.Typed.{by_parts, words_in}
-use Rattle.ckc_blame_numbers.proofs.Stepping.{ActLayer, viewed, judged_is, parted, code_is, out_call, out_return, out_check, out_bundle, first_step}
+use Rattle.ckc_blame_numbers.proofs.Stepping.{ActLayer, act_back, viewed, judged_is, parted, code_is, out_call, out_return, out_check, out_bundle, first_step}
 
 -- An expression is a condition at a point, and control goes from its true side to another point.
 pub record Tests (s : Setting) (mode : Mode) (here : Here) (e : Expr) (there : Here) : Type 0 where
@@ -146,6 +150,7 @@ module _ (s : Setting) (here there : Here) (sp : Spot) (e : Expr) (step : IsStep
             words = λ w. subst HasWordsAct is (words_in step.before (step.inside.words w));
             safe = λ w. step.inside.safe w x (first_there x is);
           };
+          room = λ w. let less = check_nodes x is in let all = step.room w in omega (arith, less, all);
           scope = record {
             names = step.scope.names x (subst (λ es. Contains es x) (sym (exprs_are step.before ∙ ap (λ y. exprs_of_act (exprs_inside y)) is)) (0, omega arith, refl));
             known = step.scope.known;
@@ -169,6 +174,14 @@ module _ (s : Setting) (here there : Here) (sp : Spot) (e : Expr) (step : IsStep
       mode_of x is same code =
           ap (mode_in_form step.inside.mode) (sym is) ∙ sym (ap (λ (n : Note). n.mode) (by_parts s step.before step.inside).noted)
           ∙ ap (λ (n : Note). n.mode) same ∙ ap (λ (a : Spot). a.mode) (spot_same code)
+
+      check_nodes : (x : NotedExpr) → out-Act Name Note step.before.body ≡ Act-F.Check x → nodes_of_value (Some x) ≤ nodes_in step.before
+      check_nodes x is =
+          omega (
+            arith,
+            nodes_rolled step.before.pos step.before.note (Act-F.Check x) step.before.body (ap (roll-Act Name Note) (sym is) ∙ act_back step.before.body),
+            is_tally is_node (marks_of_expr x),
+          )
 
       first_there : (x : NotedExpr) → out-Act Name Note step.before.body ≡ Act-F.Check x → Contains (exprs_in step.before) x
       first_there x is =

@@ -5,3 +5,4 @@ pub mod Joined
 pub mod Words
 pub mod Tallies
 pub mod Typed
+pub mod Nodes

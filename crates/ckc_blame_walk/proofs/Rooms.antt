@@ -1,5 +1,5 @@
 -- How far a walk goes on in the numbers of fresh variables: no further than there are nodes.
-use Rattle.std.proofs.Common.{◌≡◌, refl, sym, ap, subst, ◌∙◌, arith, ℕ, ◌+◌, ◌≤◌, List, [], ◌∷◌, ◌++◌, map, length}
+use Rattle.std.proofs.Common.{◌≡◌, refl, sym, ap, subst, arith, ℕ, ◌+◌, ◌≤◌, List, [], ◌∷◌, ◌++◌, map, length}
 use Rattle.std.specs.Prelude.{Option, None, Some, Ok}
 use Rattle.std.specs.List.{flat_map}
 use Rattle.ckc_base.specs.declared.places.Pos.{Pos}
@@ -7,9 +7,8 @@ use Rattle.ckc_base.specs.Outcomes.{Outcome}
 use Rattle.ckc_syntax.specs.Inside.{listed, inside_each}
 use Rattle.ckc_syntax.specs.declared.tree.Name.{Name}
 use Rattle.ckc_syntax.specs.declared.tree.Init.TheVariants as init
-use Rattle.ckc_syntax.specs.declared.tree.Act.{Act-F, map-Act, roll-Act, fold-roll-Act}
-use Rattle.ckc_syntax.specs.declared.tree.Stmt.{fold-roll-Stmt}
-use Rattle.ckc_syntax_limits.specs.Marks.{Mark, node as mark, is_node, marks_of_expr, marks_of_bounds, marks_of_init, marks_of_value, marks_of_part, act_marks, stmt_marks, marks_of_act, marks_of_stmt}
+use Rattle.ckc_syntax.specs.declared.tree.Act.{Act-F, roll-Act}
+use Rattle.ckc_syntax_limits.specs.Marks.{Mark, node as mark, is_node, marks_of_expr, marks_of_bounds, marks_of_init, marks_of_value, marks_of_part, act_marks, marks_of_stmt}
 use Rattle.ckc_syntax_limits.specs.Small.{how_many}
 use Rattle.ckc_typed.specs.declared.typed.Note.{Note}
 use Rattle.ckc_typed.specs.Trees.{NotedAct, NotedDecl, NotedExpr, NotedInit, NotedStmt}
@@ -23,6 +22,7 @@ use Rattle.ckc_build_sizes.proofs.KeptStmts.{expr_first, stmt_first, value_kept,
 use Rattle.ckc_blame_sound.specs.Settings.{Setting}
 use Rattle.ckc_blame_sound.specs.Few.{nodes_of, nodes_of_value, nodes_in, HasRoom}
 use Rattle.ckc_blame_sound.proofs.Tallies.{tally, is_tally, tally-append}
+use Rattle.ckc_blame_sound.proofs.Nodes.{marks_inside, nodes_rolled}
 use Rattle.ckc_blame_walk.proofs.Fresh.{fresh_are_few}
 use Rattle.ckc_blame_walk.proofs.Pieces.{Gives, through, given}
 
@@ -131,19 +131,6 @@ nodes_if st = how_many is_node (marks_of_part st)
 abbrev pub nodes_each : List NotedStmt → ℕ
 nodes_each [] = 0
 nodes_each (st ∷ ss) = nodes_in st + nodes_each ss
-
-abbrev Layer : Type 0
-Layer = Act-F Name Note NotedAct NotedStmt
-
-abbrev marks_inside : Layer → Act-F Name Note (List Mark) (List Mark)
-marks_inside = map-Act Name Note NotedAct NotedStmt (List Mark) (List Mark) marks_of_act marks_of_stmt
-
--- the nodes of a statement are those of what it does, and one more
-nodes_rolled : (at : Pos) (note : Note) (x : Layer) (a : NotedAct) → roll-Act Name Note x ≡ a → nodes_in (stated at note a) ≡ 1 + tally is_node (act_marks (marks_inside x))
-nodes_rolled at note x a rolls =
-    is_tally is_node (marks_of_stmt (stated at note a))
-    ∙ ap (tally is_node) (fold-roll-Stmt Name Note (List Mark) (List Mark) act_marks stmt_marks (record { body = a; pos = at; note = note })
-    ∙ ap (λ ms. mark ∷ ms) (ap marks_of_act (sym rolls) ∙ fold-roll-Act Name Note (List Mark) (List Mark) act_marks stmt_marks x))
 
 each_nodes : (ss : List NotedStmt) → nodes_each ss ≡ tally is_node (inside_each listed (λ ms. ms) (map (λ (st : NotedStmt). marks_of_stmt st) ss))
 each_nodes [] = refl
