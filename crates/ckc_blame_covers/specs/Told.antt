@@ -23,7 +23,8 @@ use Rattle.ckc_blame_pointers.specs.Covered.{DeclareOnes, KeepRunsFree, IsInScop
 
 -- ---- the text
 
--- What a name of file scope with a type is: an integer, an array, a pointer without or with written bounds, or a structure.
+-- What a name of file scope with a type is: an integer, an array, a pointer without or with written bounds, or a
+-- structure.
 abbrev pub IsStaticOf : Setting → Store → CType → ℕ → Type 0
 IsStaticOf s store t k =
     IsStaticInteger s t k
@@ -53,7 +54,7 @@ pub record IsOtherElement (e : NotedExpr) : Type 0 where
 abbrev pub IsReadElement : NotedExpr → Type 0
 IsReadElement e = (is_integer (element_of e.note.ctype) ≡ true) ⊎ IsOtherElement e
 
--- Of which nodes it is said what they come to: no string literal, no cast that is checked, no call and no allocation, and
+-- Of which nodes it is said what they come to: no string literal, no cast that is checked, no call, no allocation, and
 -- no address but those that may be taken; `.` gives a member of what has a place.
 abbrev pub IsSpokenNode : Setting → NotedLayer → Type 0
 IsSpokenNode s (Node-F.Text bytes) = ⊥

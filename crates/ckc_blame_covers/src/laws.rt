@@ -63,7 +63,8 @@ pub fn members_are_told()
 pub fn texts_are_told()
     ensures { (p : Typed) (s : Setting) (f : Function) (store : Store) (seen : List ℕ) →
         IsJudged p → IsFunction p s f → NameIntegerMembers p.layout → DeclareOnes s
-        → KeepRunsFree s.text → AreFilled s.text store → ((k : ℕ) → Contains seen k → IsInScope s seen k)
+        → KeepRunsFree s.text → AreFilled s.text store
+        → ((k : ℕ) → Contains seen k → IsInScope s seen k)
         → IsTold (globals_in p) s store seen }
 {}
 
