@@ -28,7 +28,7 @@ module _ (s : Setting) where
     pub covered : (store : Store) (seen : List ℕ) → IsCoveredRight s store seen f (out-Node Name Note f.node) → IsCoveredValue s store seen f (out-Node Name Note f.node)
 
   -- a call of anything else is not covered
-  call_none : (n : Name) (es : List NotedExpr) (sp at : Spot) (to : Destination) (literals : ℕ) (pos : Pos) (target : Target) (right : Right)
+  pub call_none : (n : Name) (es : List NotedExpr) (sp at : Spot) (to : Destination) (literals : ℕ) (pos : Pos) (target : Target) (right : Right)
       → called s.text s.variables at to literals n es pos End ≡ Assign sp target right End → (store : Store) (seen : List ℕ) → IsCoveredCall s store seen n es → ⊥
   call_none (name.Function k) es sp at to literals pos target right h store seen c = absurd (cc)
   call_none name.Getchar es sp at to literals pos target right h store seen c = absurd (cc)

@@ -286,11 +286,11 @@ module _ (p : Typed) (g : IsGranted p) (allocations : AllocateSoundly p) (st : S
     one_starts = (
       plain_there.target_is,
       subst (λ r. ComesTo Starts (drawn shapes b r)) (sym right_there)
-      (weaker (drawn shapes b (right_of s.text s.variables literals (is_terminated l.ctype) y))
-      (right_drawn (globals_in p) s (frames_agree p s st.frame.function g.judged function) (g.declares s st.frame.function function) (free p g allocations st h step next f) shapes st.frame.entry f.here
-      (allocations s st.frame.function f.here f.exits.ends step st.frame.entry function f.judged) b (is_at p g st h step next f) l.ctype x y f.here.next literals typed goes judged room_there.variables
-      (known p g allocations st h step next f).fresh
-      (plain_there.covered (store_of shapes b) f.here.seen (subst (IsCoveredInit s (store_of shapes b) f.here.seen) one (is_covered b (is_at p g st h step next f)))))),
+          (weaker (drawn shapes b (right_of s.text s.variables literals (is_terminated l.ctype) y))
+          (right_drawn (globals_in p) s (frames_agree p s st.frame.function g.judged function) (g.declares s st.frame.function function) (free p g allocations st h step next f) shapes st.frame.entry f.here
+          (allocations s st.frame.function f.here f.exits.ends step st.frame.entry function f.judged) b (is_at p g st h step next f) l.ctype x y f.here.next literals typed goes judged room_there.variables
+          (known p g allocations st h step next f).fresh
+          (plain_there.covered (store_of shapes b) f.here.seen (subst (IsCoveredInit s (store_of shapes b) f.here.seen) one (is_covered b (is_at p g st h step next f)))))),
     )
       where
         weaker : (r : Result Drawn Halt) → ComesTo (IsDrawn s shapes st.frame.entry f.here b l.ctype y) r → ComesTo Starts r

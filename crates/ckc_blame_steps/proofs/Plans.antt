@@ -290,6 +290,7 @@ module _ (globals : Globals) (s : Setting) (agrees : Agrees globals s) (declares
         (λ pl sound.
         one_more b first_of (numbers_of (capped value (view s.frame right).values) (fresh_behind (view s.frame right) next here.at) (stores_of afters)) value fresh before small little refl w d dr on
         (goes d.number w word is) pl sound))))
+
   pub all_planned : (befores afters : List NotedStmt) (others : List (Target × Right)) (b : State) → IsAt s shapes entry here b → (value fresh : ℕ) (before : Valuation) → IsValuationOf s b.frame.locals before
       → value < 2 ^ 32 → fresh < 2 ^ 32 → AreFresh s.frame fresh → AreAssignsJudged s here.at fresh befores afters → AllFit globals s befores → StayCovered s shapes entry here afters → BecomeParts s afters others
       → HaveRoom s.frame here.at value fresh (stores_of afters) → ComesTo (IsPlan b (numbers_of value fresh (stores_of afters)) value fresh before) (planned shapes b others)

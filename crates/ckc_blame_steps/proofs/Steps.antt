@@ -87,7 +87,7 @@ module _ (p : Typed) (g : IsGranted p) (allocations : AllocateSoundly p) (st : S
       (subst (λ q. AreFilled q (store_of shapes c)) (text_is p s st.frame.function function) at_c.filled)
 
   -- assignments that are judged as one
-  parts_sound : (befores afters : List NotedStmt) (others : List (Target × Right)) → AreAssignsJudged s f.here.at f.here.next befores afters → AreStored s f.here afters f.judged.behind
+  pub parts_sound : (befores afters : List NotedStmt) (others : List (Target × Right)) → AreAssignsJudged s f.here.at f.here.next befores afters → AreStored s f.here afters f.judged.behind
       → AllFit (globals_in p) s befores → StayCovered s shapes st.frame.entry f.here afters → BecomeParts s afters others → HaveRoom s.frame f.here.at 0 f.here.next (stores_of afters)
       → All (IsFitting s) (numbered s.frame f.here.at 0 f.here.next (stores_of afters))
       → ((locals : List ℕ) → AreTogether s locals (numbered s.frame f.here.at 0 f.here.next (stores_of afters))) → IsSoundMove p (comes_to [] (bundled shapes b others))
@@ -103,7 +103,7 @@ module _ (p : Typed) (g : IsGranted p) (allocations : AllocateSoundly p) (st : S
       → act_rows (globals_of_text s.text) s.variables s.result (WellTypedStmt (globals_of_text s.text) s.variables s.result) (out-Act Name Note st.body) mode looped
   row_of st mode looped w = ((stmt_by_parts (globals_of_text s.text) s.variables s.result st mode looped).0 w).row
 
-  side_fits : (mode : Mode) (looped : Bool) (x : ActLayer) (e y : NotedExpr) → x ≡ Act-F.Assign e y → AreTypedSides (globals_in p) s x
+  pub side_fits : (mode : Mode) (looped : Bool) (x : ActLayer) (e y : NotedExpr) → x ≡ Act-F.Assign e y → AreTypedSides (globals_in p) s x
       → act_rows (globals_of_text s.text) s.variables s.result (WellTypedStmt (globals_of_text s.text) s.variables s.result) x mode looped → AreFit (globals_in p) s x
   side_fits mode looped (Act-F.Assign a b) e y is typed row = (typed.0, typed.1, row.converted, row.target.0)
   side_fits mode looped x e y is typed row = absurd (cc)
@@ -166,10 +166,12 @@ module _ (p : Typed) (g : IsGranted p) (allocations : AllocateSoundly p) (st : S
       (subst (HasRoomAct t.frame f.here.at f.here.next) one.becomes (g.room t st.frame.function f.here f.exits.ends step h.stands.function f.judged), tt)
 
   fit : AllFit (globals_in p) t (f.judged.before ∷ [])
-  fit =
-      (side_fits p g allocations st h step next f f.judged.inside.mode f.judged.inside.looped (out-Act Name Note f.judged.before.body) e x is
-      (typed_sides p g allocations st h step next f (out-Act Name Note f.judged.before.body) e x is (typed_act p g allocations st h step next f))
-      (row_of p g allocations st h step next f f.judged.before f.judged.inside.mode f.judged.inside.looped f.judged.inside.typed), tt)
+  fit = (
+    side_fits p g allocations st h step next f f.judged.inside.mode f.judged.inside.looped (out-Act Name Note f.judged.before.body) e x is
+        (typed_sides p g allocations st h step next f (out-Act Name Note f.judged.before.body) e x is (typed_act p g allocations st h step next f))
+        (row_of p g allocations st h step next f f.judged.before f.judged.inside.mode f.judged.inside.looped f.judged.inside.typed),
+    tt,
+  )
 
   fitting : All (IsFitting t) (numbered t.frame f.here.at 0 f.here.next (stores_of afters))
   fitting =

@@ -17,7 +17,7 @@ use Rattle.ckc_bounds_views.specs.Parts.{capped, fresh_behind}
 use Rattle.ckc_bounds_views.specs.Views.{view}
 use Rattle.ckc_bounds_statements.specs.Paths.{Here}
 use Rattle.ckc_bounds_stores.specs.Stores as stores
-use Rattle.ckc_bounds_stores.specs.Stores.{stores_of}
+use Rattle.ckc_bounds_stores.specs.Stores.{stores_of, numbered}
 use Rattle.ckc_source.specs.declared.stmt.Spot.{Spot}
 use Rattle.ckc_source.specs.Code.{Code, End, Function}
 use Rattle.ckc_source.specs.Eval.{Store}
@@ -32,7 +32,7 @@ use Rattle.ckc_blame_texts.specs.Judged.{IsJudged}
 use Rattle.ckc_blame_pointers.specs.Covered.{DeclareLocals, IsSoundStore, IsCovered}
 use Rattle.ckc_blame_locals.specs.Written.{IsDeclared}
 use Rattle.ckc_blame_targets.specs.Targets.{KeepRunsFree, IsCoveredTarget}
-use Rattle.ckc_blame_targets.specs.Together.{HaveSmallNames}
+use Rattle.ckc_blame_targets.specs.Together.{HaveSmallNames, AreTogether}
 
 -- ---- expressions that are covered
 
@@ -58,6 +58,11 @@ abbrev pub IsCoveredRight : Setting → Store → List ℕ → NotedExpr → Not
 IsCoveredRight s store seen e (Node-F.Call n es) = IsCoveredCall s store seen n es
 IsCoveredRight s store seen e node = IsCoveredValue s store seen e node
 
+-- a statement that is an expression is a call
+abbrev pub IsCoveredAlone : Setting → Store → List ℕ → NotedLayer → Type 0
+IsCoveredAlone s store seen (Node-F.Call n es) = IsCoveredCall s store seen n es
+IsCoveredAlone s store seen node = ⊥
+
 -- an initialiser; no local has a list in braces
 abbrev pub IsCoveredInit : Setting → Store → List ℕ → NotedInit → Type 0
 IsCoveredInit s store seen init.Nothing = Unit {0}
@@ -81,7 +86,7 @@ IsCoveredAct s store seen (Act-F.Local d) = IsCoveredInit s store seen d.init
 IsCoveredAct s store seen (Act-F.Assign e f) =
     IsCoveredTarget s store seen e (out-Node Name Note e.node)
     × IsCoveredRight s store seen f (out-Node Name Note f.node)
-IsCoveredAct s store seen (Act-F.Call e) = IsCoveredRight s store seen e (out-Node Name Note e.node)
+IsCoveredAct s store seen (Act-F.Call e) = IsCoveredAlone s store seen (out-Node Name Note e.node)
 IsCoveredAct s store seen (Act-F.Return e) = IfSome e (IsCovered s store seen)
 IsCoveredAct s store seen (Act-F.Check e) = IsCovered s store seen e
 IsCoveredAct s store seen (Act-F.Bundle ss) = AreCoveredParts s store seen ss
@@ -143,5 +148,9 @@ pub record IsGranted (p : Typed) : Type 0 where
   pub declared : (s : Setting) (f : Function) (here there : Here) (step : Code → Code) (d : NotedDecl) → IsFunction p s f
       → (is : IsStep s here step there) → out-Act Name Note is.before.body ≡ Act-F.Local d
       → (k : ℕ) × (l : Local) × IsDeclared s here d k l
+  pub together : (s : Setting) (f : Function) (here there : Here) (step : Code → Code) (ss : List NotedStmt)
+      (locals : List ℕ) → IsFunction p s f → (is : IsStep s here step there)
+      → out-Act Name Note is.after.body ≡ Act-F.Bundle ss
+      → AreTogether s locals (numbered s.frame here.at 0 here.next (stores_of ss))
   pub room : (s : Setting) (f : Function) (here there : Here) (step : Code → Code) → IsFunction p s f
       → (is : IsStep s here step there) → HasRoomAct s.frame here.at here.next (out-Act Name Note is.after.body)
