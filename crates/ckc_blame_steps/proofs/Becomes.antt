@@ -1,6 +1,5 @@
 -- What judged assignments become.
-use Rattle.std.proofs.Common.{◌≡◌, refl, sym, ap, subst, ◌∙◌, ℕ, ◌+◌, Bool, List, [], ◌∷◌}
-use Rattle.ckc_base.specs.declared.arithmetic.Mode.TheVariants.{Checked}
+use Rattle.std.proofs.Common.{◌≡◌, refl, sym, ap, subst, ◌∙◌, ℕ, ◌+◌, List, [], ◌∷◌}
 use Rattle.ckc_base.specs.declared.places.Pos.{Pos}
 use Rattle.ckc_syntax.specs.declared.tree.Name.{Name}
 use Rattle.ckc_syntax.specs.declared.tree.Name.TheVariants as name
@@ -9,10 +8,10 @@ use Rattle.ckc_syntax.specs.declared.tree.Act.{Act-F, out-Act}
 use Rattle.ckc_typed.specs.declared.typed.Note.{Note}
 use Rattle.ckc_typed.specs.Trees.{NotedExpr, NotedLayer, NotedStmt}
 use Rattle.ckc_source.specs.declared.stmt.Spot.{Spot}
-use Rattle.ckc_source.specs.Code.{Target, Right, Code, End, Assign}
+use Rattle.ckc_source.specs.Code.{Target, Right, End, Assign}
 use Rattle.ckc_source.specs.Eval.{Store}
 use Rattle.ckc_build_values.specs.Expressions.{literals_of}
-use Rattle.ckc_build_elaborate.specs.Steps.{Destination, spot, destination_of, target_of, right_form, right_of, is_terminated, called, assigned, assigned_form}
+use Rattle.ckc_build_elaborate.specs.Steps.{Destination, spot, destination_of, right_of, called, assigned, assigned_form}
 use Rattle.ckc_build_elaborate.specs.Statements.{act_code, stmt_elaborated}
 use Rattle.ckc_blame_sound.specs.Settings.{Setting}
 use Rattle.ckc_blame_numbers.proofs.Stepping.{parted, code_is, first_step}

@@ -1,7 +1,6 @@
 -- Bundles keep states sound.
 use Rattle.std.proofs.Common.{◌≡◌, inr, refl, sym, ap, subst, ◌∙◌, ℕ, ◌+◌, Bool, true, false, List, [], ◌∷◌, ◌++◌, map}
 use Rattle.std.specs.List.{All, AllByRecursion}
-use Rattle.ckc_base.specs.declared.arithmetic.Mode.{Mode}
 use Rattle.ckc_base.specs.declared.arithmetic.Mode.TheVariants.{Checked}
 use Rattle.ckc_base.specs.declared.places.Pos.{Pos}
 use Rattle.ckc_syntax.specs.declared.tree.Name.{Name}
@@ -32,7 +31,7 @@ use Rattle.ckc_build_elaborate.specs.Statements.{Part, ActPart, all_assigns, ass
 use Rattle.ckc_build_elaborate.specs.Steps.{Destination, spot, nowhere, destination_of, destination_for, called, assigned, assigned_form, started, declared}
 use Rattle.ckc_blame_sound.specs.Bodies.{globals_of_text}
 use Rattle.ckc_blame_sound.specs.Calls.{store_in}
-use Rattle.ckc_blame_sound.specs.Settings.{Setting, IsFunction}
+use Rattle.ckc_blame_sound.specs.Settings.{Setting}
 use Rattle.ckc_blame_sound.specs.Sound.{Sound}
 use Rattle.ckc_blame_sound.specs.Steps.{IsStep}
 use Rattle.ckc_blame_runs.specs.Moves.{IsSoundMove}
@@ -47,9 +46,9 @@ use Rattle.ckc_blame_locals.specs.Stored.{IsAssignJudged, next_fresh, AreAssigns
 use Rattle.ckc_blame_locals.proofs.Fitting.{step_fits}
 use Rattle.ckc_blame_locals.proofs.Stored.{assignment_stored, bundle_stored}
 use Rattle.ckc_blame_steps.specs.Granted.{IsGranted, IsCoveredAct, HaveRoom, HasRoomAct}
-use Rattle.ckc_blame_steps.specs.Plans.{BecomesPart, BecomeParts, IsAt, AllocateSoundly}
+use Rattle.ckc_blame_steps.specs.Plans.{BecomesPart, BecomeParts, AllocateSoundly}
 use Rattle.ckc_blame_steps.proofs.Declarations.{local_made}
-use Rattle.ckc_blame_steps.proofs.Origins.{is_ending, IsCallAlone, Kind, kind}
+use Rattle.ckc_blame_steps.proofs.Origins.{Kind, kind}
 use Rattle.ckc_blame_steps.proofs.Plans.{AllFit, StayCovered}
 use Rattle.ckc_blame_steps.proofs.Stores.{planning}
 use Rattle.ckc_blame_steps.proofs.Steps.{covered_there, parts_sound, row_of, side_fits, typed_act}

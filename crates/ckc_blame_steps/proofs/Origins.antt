@@ -1,5 +1,5 @@
 -- Which statement a step comes from.
-use Rattle.std.proofs.Common.{◌≡◌, refl, sym, ap, subst, ◌∙◌, ℕ, Bool, true, false, List, [], ◌∷◌, map}
+use Rattle.std.proofs.Common.{◌≡◌, refl, sym, ap, ◌∙◌, Bool, true, false, List, [], ◌∷◌, map}
 use Rattle.std.specs.Prelude.{not, Option, Ok}
 use Rattle.ckc_base.specs.Outcomes.{bind, unless}
 use Rattle.ckc_syntax.specs.declared.tree.Name.{Name}

@@ -1,9 +1,8 @@
 -- Each step that is an assignment keeps states sound.
-use Rattle.std.proofs.Common.{◌≡◌, refl, sym, ap, subst, ◌∙◌, ℕ, true, List, [], ◌∷◌}
+use Rattle.std.proofs.Common.{◌≡◌, subst, ℕ, List, ◌∷◌}
 use Rattle.ckc_base.specs.declared.arithmetic.Mode.TheVariants.{Checked}
 use Rattle.ckc_syntax.specs.declared.tree.Name.{Name}
 use Rattle.ckc_syntax.specs.declared.tree.Node.{Node-F, out-Node}
-use Rattle.ckc_syntax.specs.declared.tree.Act.{Act-F, out-Act}
 use Rattle.ckc_typed.specs.declared.typed.Note.{Note}
 use Rattle.ckc_typed.specs.declared.typed.Typed.{Typed}
 use Rattle.ckc_typed.specs.Trees.{NotedExpr, NotedLayer}
@@ -26,7 +25,7 @@ use Rattle.ckc_blame_steps.specs.Granted.{IsGranted, IsCoveredAct, IsCoveredAlon
 use Rattle.ckc_blame_steps.specs.Plans.{AllocateSoundly}
 use Rattle.ckc_blame_steps.proofs.Becomes.{call_none}
 use Rattle.ckc_blame_steps.proofs.Declarations.{declaration_sound}
-use Rattle.ckc_blame_steps.proofs.Origins.{IsCallAlone, Kind, kind}
+use Rattle.ckc_blame_steps.proofs.Origins.{Kind, kind}
 use Rattle.ckc_blame_steps.proofs.Steps.{assignment_sound, at_b, covered_there}
 
 -- no call that is a statement is an assignment

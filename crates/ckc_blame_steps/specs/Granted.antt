@@ -78,7 +78,8 @@ AreCoveredSides s store seen a = ⊥
 
 -- the assignments of a bundle
 abbrev pub AreCoveredParts : Setting → Store → List ℕ → List NotedStmt → Type 0
-AreCoveredParts s store seen ss = AllByRecursion (λ (st : NotedStmt). AreCoveredSides s store seen (out-Act Name Note st.body)) ss
+AreCoveredParts s store seen ss =
+    AllByRecursion (λ (st : NotedStmt). AreCoveredSides s store seen (out-Act Name Note st.body)) ss
 
 -- The expressions of a statement that is a step by itself, after it is judged.
 abbrev pub IsCoveredAct : Setting → Store → List ℕ → Act-F Name Note NotedAct NotedStmt → Type 0
@@ -145,8 +146,8 @@ pub record IsGranted (p : Typed) : Type 0 where
       (next : ℕ) → IsFunction p s f → (is : IsStep s here step there) → (spot_in end (step End)).mode ≡ Checked
       → IsSoundStore s store next → AreFilled p store
       → IsCoveredAct s store here.seen (out-Act Name Note is.after.body)
-  pub declared : (s : Setting) (f : Function) (here there : Here) (step : Code → Code) (d : NotedDecl) → IsFunction p s f
-      → (is : IsStep s here step there) → out-Act Name Note is.before.body ≡ Act-F.Local d
+  pub declared : (s : Setting) (f : Function) (here there : Here) (step : Code → Code) (d : NotedDecl)
+      → IsFunction p s f → (is : IsStep s here step there) → out-Act Name Note is.before.body ≡ Act-F.Local d
       → (k : ℕ) × (l : Local) × IsDeclared s here d k l
   pub together : (s : Setting) (f : Function) (here there : Here) (step : Code → Code) (ss : List NotedStmt)
       (locals : List ℕ) → IsFunction p s f → (is : IsStep s here step there)
