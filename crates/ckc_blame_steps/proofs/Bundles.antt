@@ -1,6 +1,8 @@
 -- Bundles keep states sound.
-use Rattle.std.proofs.Common.{◌≡◌, inr, refl, sym, ap, subst, ◌∙◌, ℕ, ◌+◌, Bool, true, false, List, [], ◌∷◌, ◌++◌, map}
+use Rattle.std.proofs.Common.{◌≡◌, inl, inr, refl, sym, ap, subst, ◌∙◌, ℕ, ◌+◌, Bool, true, false, List, [], ◌∷◌, ◌++◌, map}
+use Rattle.std.specs.Prelude.{length}
 use Rattle.std.specs.List.{All, AllByRecursion}
+use Rattle.std.proofs.lemmas.List.Elements.{All-nil, All-cons, All-contains}
 use Rattle.ckc_base.specs.declared.arithmetic.Mode.TheVariants.{Checked}
 use Rattle.ckc_base.specs.declared.places.Pos.{Pos}
 use Rattle.ckc_syntax.specs.declared.tree.Name.{Name}
@@ -15,7 +17,8 @@ use Rattle.ckc_typed.specs.Trees.{NotedDecl, NotedExpr, NotedInit, NotedLayer, N
 use Rattle.ckc_typed.specs.Types.{type_written}
 use Rattle.ckc_typed_welltyped.specs.Statements.{act_rows, WellTypedStmt}
 use Rattle.ckc_bounds_points.specs.Flow as flow
-use Rattle.ckc_bounds_stores.specs.Stores.{stores_of, numbered}
+use Rattle.ckc_bounds_stores.specs.Stores as stores
+use Rattle.ckc_bounds_stores.specs.Stores.{with_store, stores_of, numbered}
 use Rattle.ckc_bounds_statements.specs.Paths.{Here}
 use Rattle.ckc_source.specs.declared.program.Shape.{Shape}
 use Rattle.ckc_source.specs.declared.stmt.Spot.{Spot}
@@ -35,13 +38,16 @@ use Rattle.ckc_blame_sound.specs.Settings.{Setting}
 use Rattle.ckc_blame_sound.specs.Sound.{Sound}
 use Rattle.ckc_blame_sound.specs.Steps.{IsStep}
 use Rattle.ckc_blame_runs.specs.Moves.{IsSoundMove}
-use Rattle.ckc_blame_numbers.specs.Typed.{AreTypedSides, IsTypedAct}
+use Rattle.ckc_blame_numbers.specs.Typed.{IsTyped, AreTypedSides, IsTypedAct}
 use Rattle.ckc_blame_numbers.proofs.Stepping.{ActLayer, act_back, parted, code_is, first_step}
+use Rattle.ckc_blame_numbers.proofs.Judging.{judged_typed}
 use Rattle.ckc_blame_texts.specs.Judged.{globals_in}
+use Rattle.ckc_blame_targets.specs.Together.{AreTogether}
+use Rattle.ckc_blame_targets.proofs.Bundles.{bundle_together}
 use Rattle.ckc_blame_control.specs.Ready.{Faces}
 use Rattle.ckc_blame_control.proofs.Faced.{faces_bundle}
 use Rattle.ckc_blame_control.proofs.Moved.{stands_ready, move_by}
-use Rattle.ckc_blame_locals.specs.Written.{IsFitting}
+use Rattle.ckc_blame_locals.specs.Written.{AreOne, IsFitting}
 use Rattle.ckc_blame_locals.specs.Stored.{IsAssignJudged, next_fresh, AreAssignsJudged, AreStored}
 use Rattle.ckc_blame_locals.proofs.Fitting.{step_fits}
 use Rattle.ckc_blame_locals.proofs.Stored.{assignment_stored, bundle_stored}
@@ -200,10 +206,37 @@ module _ (p : Typed) (g : IsGranted p) (allocations : AllocateSoundly p) (st : S
   fitting : All (IsFitting t) (numbered t.frame f.here.at 0 f.here.next (stores_of ts))
   fitting = step_fits p t st.frame.function g.judged h.stands.function f.judged.before f.judged.inside ss ts f.here.at f.here.next (inr is) judged f.here.at 0 f.here.next
 
+  all_typed : (befores afters : List NotedStmt) (fresh : ℕ) → AreAssignsJudged t f.here.at fresh befores afters
+      → AllByRecursion (λ (x : NotedStmt). AreTypedSides (globals_in p) t (out-Act Name Note x.body)) befores
+      → All (λ (q : stores.Store). IsTyped (globals_in p) t q.target) (stores_of afters)
+  unfolding AreAssignsJudged
+  all_typed [] [] fresh j typed = All-nil (λ (q : stores.Store). IsTyped (globals_in p) t q.target)
+  all_typed [] (y ∷ ys) fresh j typed = absurd j
+  all_typed (x ∷ xs) [] fresh j typed = absurd j
+  all_typed (x ∷ xs) (y ∷ ys) fresh j typed =
+      let a : IsAssignJudged t f.here.at fresh x y = j.0 in
+      let sides : IsTyped (globals_in p) t a.target × IsTyped (globals_in p) t a.right = subst (AreTypedSides (globals_in p) t) a.is typed.0 in
+      subst (λ z. All (λ (q : stores.Store). IsTyped (globals_in p) t q.target) (with_store z y.pos (stores_of ys))) (sym a.becomes)
+      (All-cons (λ (q : stores.Store). IsTyped (globals_in p) t q.target) (record { target = a.place; right = a.value; pos = y.pos }) (stores_of ys)
+      (judged_typed (globals_in p) t a.target a.place fresh f.here.at sides.0 a.target_judged).0 (all_typed xs ys (next_fresh t f.here.at fresh x y a) j.1 typed.1))
+
+  all_together : (befores afters : List NotedStmt) → AreAssignsJudged t f.here.at f.here.next befores afters → AreOne afters
+      → All (λ (q : stores.Store). IsTyped (globals_in p) t q.target) (stores_of afters) → (locals : List ℕ)
+      → AreTogether t locals (numbered t.frame f.here.at 0 f.here.next (stores_of afters))
+  unfolding AreAssignsJudged
+  all_together befores [] j one typed locals =
+      bundle_together (globals_in p) t locals [] f.here.at 0 f.here.next one (λ q c. All-contains (λ (q : stores.Store). IsTyped (globals_in p) t q.target) (stores_of []) q typed c)
+  all_together [] (y ∷ []) j one typed locals = absurd j
+  all_together (x ∷ xs) (y ∷ []) j one typed locals =
+      inl (subst (λ z. length (numbered t.frame f.here.at 0 f.here.next (with_store z y.pos [])) ≡ 1) (sym j.0.becomes) refl)
+  all_together befores (y ∷ z ∷ ys) j one typed locals =
+      bundle_together (globals_in p) t locals (y ∷ z ∷ ys) f.here.at 0 f.here.next one
+      (λ q c. All-contains (λ (q : stores.Store). IsTyped (globals_in p) t q.target) (stores_of (y ∷ z ∷ ys)) q typed c)
+
   pub bundle_comes : IsSoundMove p (comes_to [] (bundled list (planning p g st h step next f) assigns))
   bundle_comes =
       parts_sound p g allocations st h step next f ss ts assigns judged leads fit covered become room fitting
-      (λ locals. g.together t st.frame.function f.here f.exits.ends step ts locals h.stands.function f.judged layer)
+      (all_together ss ts judged leads.one (all_typed ss ts f.here.next judged (subst (IsTypedAct (globals_in p) t) is (typed_act p g allocations st h step next f))))
 
 pub every_bundle : (p : Typed) (st : State) (h : Sound p st) (sp : Spot) (assigns : List (Target × Right)) (rest : Code) (next : List Work) → IsGranted p → AllocateSoundly p
     → settled st.frame.work ≡ Rest (Bundle sp assigns rest) ∷ next → (spot_of st).mode ≡ Checked → IsSoundMove p (source_step (elaborated p) st)

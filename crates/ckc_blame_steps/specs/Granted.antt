@@ -17,7 +17,7 @@ use Rattle.ckc_bounds_views.specs.Parts.{capped, fresh_behind}
 use Rattle.ckc_bounds_views.specs.Views.{view}
 use Rattle.ckc_bounds_statements.specs.Paths.{Here}
 use Rattle.ckc_bounds_stores.specs.Stores as stores
-use Rattle.ckc_bounds_stores.specs.Stores.{stores_of, numbered}
+use Rattle.ckc_bounds_stores.specs.Stores.{stores_of}
 use Rattle.ckc_source.specs.declared.stmt.Spot.{Spot}
 use Rattle.ckc_source.specs.Code.{Code, End, Function}
 use Rattle.ckc_source.specs.Eval.{Store}
@@ -32,7 +32,7 @@ use Rattle.ckc_blame_texts.specs.Judged.{IsJudged}
 use Rattle.ckc_blame_pointers.specs.Covered.{DeclareLocals, IsSoundStore, IsCovered}
 use Rattle.ckc_blame_locals.specs.Written.{IsDeclared}
 use Rattle.ckc_blame_targets.specs.Targets.{KeepRunsFree, IsCoveredTarget}
-use Rattle.ckc_blame_targets.specs.Together.{HaveSmallNames, AreTogether}
+use Rattle.ckc_blame_targets.specs.Together.{HaveSmallNames}
 
 -- ---- expressions that are covered
 
@@ -149,9 +149,5 @@ pub record IsGranted (p : Typed) : Type 0 where
   pub declared : (s : Setting) (f : Function) (here there : Here) (step : Code → Code) (d : NotedDecl)
       → IsFunction p s f → (is : IsStep s here step there) → out-Act Name Note is.before.body ≡ Act-F.Local d
       → (k : ℕ) × (l : Local) × IsDeclared s here d k l
-  pub together : (s : Setting) (f : Function) (here there : Here) (step : Code → Code) (ss : List NotedStmt)
-      (locals : List ℕ) → IsFunction p s f → (is : IsStep s here step there)
-      → out-Act Name Note is.after.body ≡ Act-F.Bundle ss
-      → AreTogether s locals (numbered s.frame here.at 0 here.next (stores_of ss))
   pub room : (s : Setting) (f : Function) (here there : Here) (step : Code → Code) → IsFunction p s f
       → (is : IsStep s here step there) → HasRoomAct s.frame here.at here.next (out-Act Name Note is.after.body)
