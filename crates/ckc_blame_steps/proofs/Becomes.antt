@@ -1,6 +1,5 @@
 -- What judged assignments become.
-use Rattle.std.proofs.Common.{◌≡◌, refl, sym, ap, subst, ◌∙◌, ℕ, ◌+◌, Bool, List, [], ◌∷◌}
-use Rattle.ckc_base.specs.declared.arithmetic.Mode.TheVariants.{Checked}
+use Rattle.std.proofs.Common.{◌≡◌, refl, sym, ap, subst, ◌∙◌, ℕ, ◌+◌, List, [], ◌∷◌}
 use Rattle.ckc_base.specs.declared.places.Pos.{Pos}
 use Rattle.ckc_syntax.specs.declared.tree.Name.{Name}
 use Rattle.ckc_syntax.specs.declared.tree.Name.TheVariants as name
@@ -9,10 +8,10 @@ use Rattle.ckc_syntax.specs.declared.tree.Act.{Act-F, out-Act}
 use Rattle.ckc_typed.specs.declared.typed.Note.{Note}
 use Rattle.ckc_typed.specs.Trees.{NotedExpr, NotedLayer, NotedStmt}
 use Rattle.ckc_source.specs.declared.stmt.Spot.{Spot}
-use Rattle.ckc_source.specs.Code.{Target, Right, Code, End, Assign}
+use Rattle.ckc_source.specs.Code.{Target, Right, End, Assign}
 use Rattle.ckc_source.specs.Eval.{Store}
 use Rattle.ckc_build_values.specs.Expressions.{literals_of}
-use Rattle.ckc_build_elaborate.specs.Steps.{Destination, spot, destination_of, target_of, right_form, right_of, is_terminated, called, assigned, assigned_form}
+use Rattle.ckc_build_elaborate.specs.Steps.{Destination, spot, destination_of, right_of, called, assigned, assigned_form}
 use Rattle.ckc_build_elaborate.specs.Statements.{act_code, stmt_elaborated}
 use Rattle.ckc_blame_sound.specs.Settings.{Setting}
 use Rattle.ckc_blame_numbers.proofs.Stepping.{parted, code_is, first_step}
@@ -28,7 +27,7 @@ module _ (s : Setting) where
     pub covered : (store : Store) (seen : List ℕ) → IsCoveredRight s store seen f (out-Node Name Note f.node) → IsCoveredValue s store seen f (out-Node Name Note f.node)
 
   -- a call of anything else is not covered
-  call_none : (n : Name) (es : List NotedExpr) (sp at : Spot) (to : Destination) (literals : ℕ) (pos : Pos) (target : Target) (right : Right)
+  pub call_none : (n : Name) (es : List NotedExpr) (sp at : Spot) (to : Destination) (literals : ℕ) (pos : Pos) (target : Target) (right : Right)
       → called s.text s.variables at to literals n es pos End ≡ Assign sp target right End → (store : Store) (seen : List ℕ) → IsCoveredCall s store seen n es → ⊥
   call_none (name.Function k) es sp at to literals pos target right h store seen c = absurd (cc)
   call_none name.Getchar es sp at to literals pos target right h store seen c = absurd (cc)

@@ -1,5 +1,5 @@
 -- Evaluations that are not stuck, one after another.
-use Rattle.std.proofs.Common.{◌≡◌, refl, ap, subst, sym, ◌∙◌, ℕ, Bool, true, false, List, [], ◌∷◌, ◌++◌, append_assoc}
+use Rattle.std.proofs.Common.{◌≡◌, refl, ap, sym, ◌∙◌, ℕ, Bool, true, false, [], ◌++◌, append_assoc}
 use Rattle.std.specs.Prelude.{◌==◌, if◌then◌else◌, Option, None, Some, Result, Ok, Err}
 use Rattle.std.proofs.lemmas.List.{append-nil}
 use Rattle.ckc_base.specs.declared.places.Pos.{Pos}
@@ -9,7 +9,6 @@ use Rattle.ckc_source.specs.declared.outcome.Halt.{Halt}
 use Rattle.ckc_source.specs.declared.outcome.Halt.TheVariants as halt
 use Rattle.ckc_source.specs.declared.outcome.Place.{Place}
 use Rattle.ckc_source.specs.declared.outcome.Place.TheVariants as place
-use Rattle.ckc_source.specs.Blocks.{Block}
 use Rattle.ckc_source.specs.Eval.{given}
 use Rattle.ckc_source.specs.States.{State}
 use Rattle.ckc_source.specs.Steps.{refuses, allowed}

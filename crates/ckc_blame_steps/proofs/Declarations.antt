@@ -1,16 +1,13 @@
 -- Declarations keep states sound.
-use Rattle.std.proofs.Common.{◌≡◌, inl, refl, sym, ap, subst, ◌∙◌, ℕ, ◌+◌, Bool, true, false, List, [], ◌∷◌, arith}
-use Rattle.std.specs.Prelude.{◌<◌, ◌^◌, ◌*◌, not, if◌then◌else◌, length, slice_set, slice_get, Some, Result, Ok, Err}
-use Rattle.std.specs.List.{All, Contains}
+use Rattle.std.proofs.Common.{◌≡◌, inl, refl, sym, ap, subst, ◌∙◌, ℕ, ◌+◌, true, false, List, [], ◌∷◌}
+use Rattle.std.specs.Prelude.{◌*◌, not, if◌then◌else◌, slice_set, Result, Ok, Err}
 use Rattle.ckc_base.specs.Outcomes.{bind, unless}
 use Rattle.ckc_base.specs.Memory.{kept_part}
 use Rattle.ckc_base.specs.Lists.{AreBytes}
 use Rattle.ckc_base.specs.declared.arithmetic.Mode.TheVariants.{Checked}
-use Rattle.ckc_types.specs.declared.types.CType.{CType}
 use Rattle.ckc_syntax.specs.declared.tree.Name.{Name}
 use Rattle.ckc_syntax.specs.declared.tree.Name.TheVariants as name
 use Rattle.ckc_syntax.specs.declared.tree.Init.TheVariants as init
-use Rattle.ckc_syntax.specs.declared.tree.Node.{out-Node}
 use Rattle.ckc_syntax.specs.declared.tree.Act.{Act-F, out-Act}
 use Rattle.ckc_syntax.specs.declared.tree.Act.TheVariants as act
 use Rattle.ckc_typed.specs.declared.typed.Note.{Note}
@@ -18,44 +15,43 @@ use Rattle.ckc_typed.specs.declared.typed.Typed.{Typed}
 use Rattle.ckc_typed.specs.Conversions.{converts}
 use Rattle.ckc_typed.specs.Trees.{NotedDecl, NotedExpr, NotedInit, NotedStmt}
 use Rattle.ckc_typed.specs.Types.{type_written}
-use Rattle.ckc_typed_welltyped.specs.Declarations.{StartsLocal, WellTypedLocal}
+use Rattle.ckc_typed_welltyped.specs.Declarations.{StartsLocal}
 use Rattle.ckc_typed_welltyped.specs.Statements.{act_rows, WellTypedStmt}
 use Rattle.ckc_bounds_points.specs.declared.frame.Local.{Local}
 use Rattle.ckc_bounds_points.specs.Codes.{not_contained}
 use Rattle.ckc_bounds_views.specs.Parts.{fresh_behind}
 use Rattle.ckc_bounds_views.specs.Views.{view}
-use Rattle.ckc_bounds_statements.specs.Paths.{Here, expr_judged, value_judged, values_judged, init_judged, bounds_judged, decl_judged, starts_within, declared_here, local_judged, act_judged, path, stated}
+use Rattle.ckc_bounds_statements.specs.Paths.{Here, expr_judged, value_judged, init_judged, bounds_judged, decl_judged, starts_within, declared_here, local_judged, act_judged, path, stated}
 use Rattle.ckc_source.specs.declared.outcome.Halt.{Halt}
 use Rattle.ckc_source.specs.declared.outcome.Halt.TheVariants as halt
 use Rattle.ckc_source.specs.declared.outcome.Place.TheVariants as place
 use Rattle.ckc_source.specs.declared.program.Shape.{Shape}
 use Rattle.ckc_source.specs.declared.stmt.Spot.{Spot}
-use Rattle.ckc_source.specs.Blocks.{Block}
 use Rattle.ckc_source.specs.declared.expr.Count.{Count}
 use Rattle.ckc_source.specs.declared.expr.Count.TheVariants as count
 use Rattle.ckc_source.specs.Code as code
 use Rattle.ckc_source.specs.Code.{Target, Variable, Right, Value, Number, Code, End, Assign}
-use Rattle.ckc_source.specs.Eval.{Store, given}
+use Rattle.ckc_source.specs.Eval.{given}
 use Rattle.ckc_source.specs.Runs.{is_true}
 use Rattle.ckc_source.specs.States.{Work, Rest, State, settled}
-use Rattle.ckc_source.specs.Steps.{store_of, Drawn, drawn, Planned, planned, all_written, bundled, comes_to, source_step, spot_at, spot_of}
+use Rattle.ckc_source.specs.Steps.{store_of, Drawn, drawn, Planned, all_written, bundled, comes_to, source_step, spot_at, spot_of}
 use Rattle.ckc_build_values.specs.Kinds.{width_of}
 use Rattle.ckc_build_elaborate.specs.Elaborated.{elaborated}
 use Rattle.ckc_build_elaborate.specs.Literals.{literals_of_bounds}
 use Rattle.ckc_build_elaborate.specs.Shapes.{shapes_elaborated}
 use Rattle.ckc_build_elaborate.specs.Statements.{act_code}
-use Rattle.ckc_build_elaborate.specs.Steps.{Destination, spot, destination_for, local_target, started, declared, assigned, right_of, is_terminated}
+use Rattle.ckc_build_elaborate.specs.Steps.{Destination, spot, destination_for, local_target, started, declared, right_of, is_terminated}
 use Rattle.ckc_blame_sound.specs.Bodies.{globals_of_text}
 use Rattle.ckc_blame_sound.specs.Calls.{store_in}
 use Rattle.ckc_blame_sound.specs.Points.{HoldsAt}
 use Rattle.ckc_blame_sound.specs.Settings.{Setting, IsFunction}
-use Rattle.ckc_blame_sound.specs.Slots.{Slot, slots_of, AreFilled}
+use Rattle.ckc_blame_sound.specs.Slots.{Slot, AreFilled}
 use Rattle.ckc_blame_sound.specs.Sound.{Sound}
 use Rattle.ckc_blame_sound.specs.Valuations.{Valuation, IsValuationOf, AreFacts}
 use Rattle.ckc_blame_sound.proofs.Kept.{point_kept}
 use Rattle.ckc_blame_runs.specs.Moves.{IsSoundMove}
 use Rattle.ckc_blame_slots.specs.Cells.{AreSound}
-use Rattle.ckc_blame_slots.specs.Limited.{AreSlotParts, store_with, IsCountSpared, IsSpared, AreSparedOrFilled}
+use Rattle.ckc_blame_slots.specs.Limited.{AreSlotParts, store_with, IsCountSpared, IsSpared}
 use Rattle.ckc_blame_slots.specs.Writes.{AreCellWrites, AreElsewhere}
 use Rattle.ckc_blame_slots.proofs.Filled.{filled_after}
 use Rattle.ckc_blame_slots.proofs.Written.{all_keep}
@@ -64,23 +60,22 @@ use Rattle.ckc_blame_numbers.proofs.Statements.{made_of, pair_same, passes, out_
 use Rattle.ckc_blame_numbers.proofs.Stepping.{ActLayer as Layer, viewed, judged_is, parted, code_is, first_step}
 use Rattle.ckc_blame_texts.specs.Judged.{globals_in}
 use Rattle.ckc_blame_texts.proofs.Frames.{frames_agree}
-use Rattle.ckc_blame_contained.specs.Given.{StayTrue}
 use Rattle.ckc_blame_contained.proofs.Agree.{facts_agree}
 use Rattle.ckc_blame_declared.proofs.HaveEnds.{locals_have_ends}
 use Rattle.ckc_blame_control.specs.Kept.{KeepRanges, IsSameCall}
 use Rattle.ckc_blame_control.specs.Ready.{Faces}
 use Rattle.ckc_blame_control.proofs.Kept.{faced_sound, blocks_keep_ranges}
 use Rattle.ckc_blame_control.proofs.Moved.{stopped, move_by}
-use Rattle.ckc_blame_locals.specs.Written.{IsReceived, IsStart, IsDeclared}
+use Rattle.ckc_blame_locals.specs.Written.{IsStart, IsDeclared}
 use Rattle.ckc_blame_locals.proofs.Declared.{declared_after}
 use Rattle.ckc_blame_targets.specs.Targets.{ComesTo}
-use Rattle.ckc_blame_steps.specs.Granted.{IsGranted, IsCoveredRight, IsCoveredInit, IsCoveredAct, HasRoom, HasRoomInit, HasRoomAct}
+use Rattle.ckc_blame_steps.specs.Granted.{IsGranted, IsCoveredInit, IsCoveredAct, HasRoom, HasRoomInit, HasRoomAct}
 use Rattle.ckc_blame_steps.specs.Plans.{IsAt, HasMore, IsDrawnOn, IsDrawn, AllocateSoundly}
 use Rattle.ckc_blame_steps.proofs.Becomes.{IsPlain, plain}
-use Rattle.ckc_blame_steps.proofs.Comes.{same_state, comes_on}
+use Rattle.ckc_blame_steps.proofs.Comes.{same_state}
 use Rattle.ckc_blame_steps.proofs.Own.{own_valuation, own_values}
 use Rattle.ckc_blame_steps.proofs.Plans.{right_drawn}
-use Rattle.ckc_blame_steps.proofs.Stores.{text_is, move_on, planning, is_at}
+use Rattle.ckc_blame_steps.proofs.Stores.{text_is, planning, is_at}
 use Rattle.ckc_blame_steps.proofs.Steps.{covered_there, typed_act, row_of, known, free}
 
 -- ---- memory
@@ -286,11 +281,11 @@ module _ (p : Typed) (g : IsGranted p) (allocations : AllocateSoundly p) (st : S
     one_starts = (
       plain_there.target_is,
       subst (λ r. ComesTo Starts (drawn shapes b r)) (sym right_there)
-      (weaker (drawn shapes b (right_of s.text s.variables literals (is_terminated l.ctype) y))
-      (right_drawn (globals_in p) s (frames_agree p s st.frame.function g.judged function) (g.declares s st.frame.function function) (free p g allocations st h step next f) shapes st.frame.entry f.here
-      (allocations s st.frame.function f.here f.exits.ends step st.frame.entry function f.judged) b (is_at p g st h step next f) l.ctype x y f.here.next literals typed goes judged room_there.variables
-      (known p g allocations st h step next f).fresh
-      (plain_there.covered (store_of shapes b) f.here.seen (subst (IsCoveredInit s (store_of shapes b) f.here.seen) one (is_covered b (is_at p g st h step next f)))))),
+          (weaker (drawn shapes b (right_of s.text s.variables literals (is_terminated l.ctype) y))
+          (right_drawn (globals_in p) s (frames_agree p s st.frame.function g.judged function) (g.declares s st.frame.function function) (free p g allocations st h step next f) shapes st.frame.entry f.here
+          (allocations s st.frame.function f.here f.exits.ends step st.frame.entry function f.judged) b (is_at p g st h step next f) l.ctype x y f.here.next literals typed goes judged room_there.variables
+          (known p g allocations st h step next f).fresh
+          (plain_there.covered (store_of shapes b) f.here.seen (subst (IsCoveredInit s (store_of shapes b) f.here.seen) one (is_covered b (is_at p g st h step next f)))))),
     )
       where
         weaker : (r : Result Drawn Halt) → ComesTo (IsDrawn s shapes st.frame.entry f.here b l.ctype y) r → ComesTo Starts r

@@ -1,5 +1,5 @@
 -- What right sides give to places.
-use Rattle.std.proofs.Common.{◌≡◌, refl, sym, ap, subst, ◌∙◌, ℕ, Bool, true, false, List, arith}
+use Rattle.std.proofs.Common.{◌≡◌, sym, ap, subst, ◌∙◌, ℕ, Bool, true, false, List, arith}
 use Rattle.std.specs.Prelude.{◌+◌, ◌<◌, ◌^◌, if◌then◌else◌, length, Some, Result, Ok, Err}
 use Rattle.ckc_types.specs.declared.types.CType.{CType}
 use Rattle.ckc_syntax.specs.declared.tree.Expr.{every_here-Expr}
@@ -23,7 +23,7 @@ use Rattle.ckc_source.specs.declared.program.Shape.{Shape}
 use Rattle.ckc_source.specs.Code.{Value}
 use Rattle.ckc_source.specs.Eval.{Store, given, evaluated}
 use Rattle.ckc_source.specs.States.{State}
-use Rattle.ckc_source.specs.Steps.{store_of, Drawn, drawn}
+use Rattle.ckc_source.specs.Steps.{store_of, drawn}
 use Rattle.ckc_build_values.specs.Expressions.{expr_elaborated}
 use Rattle.ckc_blame_sound.specs.Bodies.{AreFresh}
 use Rattle.ckc_blame_sound.specs.Settings.{Setting}

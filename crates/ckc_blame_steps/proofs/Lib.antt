@@ -7,3 +7,6 @@ pub mod Stores
 pub mod Own
 pub mod Steps
 pub mod Declarations
+pub mod Origins
+pub mod Whole
+pub mod Bundles

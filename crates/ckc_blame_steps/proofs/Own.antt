@@ -1,11 +1,9 @@
 -- A valuation that says nothing of values and of fresh variables.
-use Rattle.std.proofs.Common.{◌≡◌, refl, ap, ◌∙◌, ℕ, suc, Bool, true, List, ℤ}
-use Rattle.std.specs.Prelude.{pos, if◌then◌else◌, slice_index, Option, None, Some}
+use Rattle.std.proofs.Common.{refl, ap, ◌∙◌, ℕ, Bool, List, ℤ}
+use Rattle.std.specs.Prelude.{pos, if◌then◌else◌, slice_index, Option, Some}
 use Rattle.ckc_linear.specs.declared.forms.Base.{Base}
 use Rattle.ckc_linear.specs.declared.forms.Base.TheVariants as base
-use Rattle.ckc_typed.specs.Types.{is_integer}
 use Rattle.ckc_bounds_points.specs.declared.frame.Local.{Local}
-use Rattle.ckc_bounds_points.specs.Frames.{local_at}
 use Rattle.ckc_source.specs.Words.{exact}
 use Rattle.ckc_build_values.specs.Kinds.{integer_of}
 use Rattle.ckc_build_values.specs.Names.{address_of}

@@ -1,6 +1,6 @@
 -- What assignments are going to write is planned soundly.
-use Rattle.std.proofs.Common.{◌≡◌, refl, sym, ap, subst, ◌∙◌, ℕ, Bool, true, false, List, [], ◌∷◌, ◌++◌, arith}
-use Rattle.std.specs.Prelude.{◌+◌, ◌<◌, ◌≤◌, ◌^◌, length, slice_get, is_some, Option, None, Some, Result, Ok, Err}
+use Rattle.std.proofs.Common.{◌≡◌, refl, sym, ap, subst, ◌∙◌, ℕ, true, false, List, [], ◌∷◌, arith}
+use Rattle.std.specs.Prelude.{◌+◌, ◌<◌, ◌≤◌, ◌^◌, length, slice_get, is_some, Option, None, Some, Result, Ok}
 use Rattle.std.specs.List.{AllByRecursion}
 use Rattle.ckc_base.specs.declared.places.Pos.{Pos}
 use Rattle.ckc_types.specs.declared.types.CType.{CType}
@@ -12,8 +12,6 @@ use Rattle.ckc_typed.specs.declared.typed.Note.{Note}
 use Rattle.ckc_typed.specs.Conversions.{converts, is_allocation_form, is_allocation}
 use Rattle.ckc_typed.specs.Trees.{NotedAct, NotedExpr, NotedLayer, NotedStmt}
 use Rattle.ckc_typed.specs.Types.{is_scalar}
-use Rattle.ckc_bounds_points.specs.Frames.{local_at}
-use Rattle.ckc_bounds_views.specs.declared.variables.Member.{Member}
 use Rattle.ckc_bounds_views.specs.Parts.{View, capped, fresh_behind}
 use Rattle.ckc_bounds_views.specs.Views.{view}
 use Rattle.ckc_bounds_statements.specs.Paths.{Here}
@@ -25,24 +23,22 @@ use Rattle.ckc_source.specs.declared.outcome.Halt.{Halt}
 use Rattle.ckc_source.specs.declared.outcome.Place.{Place}
 use Rattle.ckc_source.specs.declared.outcome.Place.TheVariants as place
 use Rattle.ckc_source.specs.declared.program.Shape.{Shape}
-use Rattle.ckc_source.specs.Blocks.{Block}
 use Rattle.ckc_source.specs.Code.{Target, Right}
-use Rattle.ckc_source.specs.Eval.{Store, given}
+use Rattle.ckc_source.specs.Eval.{given}
 use Rattle.ckc_source.specs.Runs.{is_true}
 use Rattle.ckc_source.specs.States.{State}
 use Rattle.ckc_source.specs.Steps.{store_of, aimed, Drawn, drawn, allowed, Planned, planned, and_then_written}
-use Rattle.ckc_build_elaborate.specs.Steps.{target_of, right_form, right_of, is_terminated}
+use Rattle.ckc_build_elaborate.specs.Steps.{right_form, right_of, is_terminated}
 use Rattle.ckc_blame_sound.specs.Bodies.{AreFresh}
 use Rattle.ckc_blame_sound.specs.Settings.{Setting}
-use Rattle.ckc_blame_sound.specs.Slots.{AreFilled}
 use Rattle.ckc_blame_slots.specs.Cells.{IsCell}
 use Rattle.ckc_blame_slots.specs.Writes.{IsCellWrite}
 use Rattle.ckc_blame_slots.proofs.Fresh.{get_before, cell_before, true_before}
-use Rattle.ckc_blame_numbers.specs.Typed.{IsTyped, Agrees, AreTypedSides}
+use Rattle.ckc_blame_numbers.specs.Typed.{IsTyped, Agrees}
 use Rattle.ckc_blame_texts.proofs.SameViews.{same_view}
 use Rattle.ckc_blame_sound.specs.Valuations.{Valuation, IsValuationOf}
 use Rattle.ckc_blame_contained.specs.Given.{StayTrue}
-use Rattle.ckc_blame_pointers.specs.Covered.{DeclareLocals, IsSoundStore, IsCovered}
+use Rattle.ckc_blame_pointers.specs.Covered.{DeclareLocals}
 use Rattle.ckc_blame_given.specs.Gives.{Continues}
 use Rattle.ckc_blame_given.specs.Planned.{IsTarget, IsPlanned, ArePlanned}
 use Rattle.ckc_blame_given.proofs.Views.{allocates_is}
@@ -50,11 +46,11 @@ use Rattle.ckc_blame_locals.specs.Written.{IsReceived}
 use Rattle.ckc_blame_locals.specs.Stored.{IsAssignJudged, next_fresh, AreAssignsJudged}
 use Rattle.ckc_blame_locals.proofs.Fitting.{same_type}
 use Rattle.ckc_blame_locals.proofs.Given.{from_stays}
-use Rattle.ckc_blame_targets.specs.Targets.{KeepRunsFree, IsCoveredTarget, LiesIn, begin_of, GoesThere, ComesTo}
+use Rattle.ckc_blame_targets.specs.Targets.{KeepRunsFree, LiesIn, begin_of, GoesThere, ComesTo}
 use Rattle.ckc_blame_targets.specs.Together.{AreIn}
 use Rattle.ckc_blame_targets.proofs.Aims.{judged_aims}
-use Rattle.ckc_blame_steps.specs.Granted.{IsCoveredValue, AreCoveredSides, AreCoveredParts, HasRoom, HaveRoomSides, HaveRoom}
-use Rattle.ckc_blame_steps.specs.Plans.{BecomesSides, BecomesPart, BecomeParts, IsAt, HasMore, IsDrawnOn, IsDrawn, IsSoundPlan, counted_in, AllocationsDraw}
+use Rattle.ckc_blame_steps.specs.Granted.{IsCoveredValue, AreCoveredSides, AreCoveredParts, HaveRoom}
+use Rattle.ckc_blame_steps.specs.Plans.{BecomesPart, BecomeParts, IsAt, HasMore, IsDrawnOn, IsDrawn, IsSoundPlan, counted_in, AllocationsDraw}
 use Rattle.ckc_blame_steps.proofs.Comes.{comes_on, allowed_comes, same_state, more_on, same_locals}
 use Rattle.ckc_blame_steps.proofs.Drawn.{value_drawn}
 
@@ -290,6 +286,7 @@ module _ (globals : Globals) (s : Setting) (agrees : Agrees globals s) (declares
         (λ pl sound.
         one_more b first_of (numbers_of (capped value (view s.frame right).values) (fresh_behind (view s.frame right) next here.at) (stores_of afters)) value fresh before small little refl w d dr on
         (goes d.number w word is) pl sound))))
+
   pub all_planned : (befores afters : List NotedStmt) (others : List (Target × Right)) (b : State) → IsAt s shapes entry here b → (value fresh : ℕ) (before : Valuation) → IsValuationOf s b.frame.locals before
       → value < 2 ^ 32 → fresh < 2 ^ 32 → AreFresh s.frame fresh → AreAssignsJudged s here.at fresh befores afters → AllFit globals s befores → StayCovered s shapes entry here afters → BecomeParts s afters others
       → HaveRoom s.frame here.at value fresh (stores_of afters) → ComesTo (IsPlan b (numbers_of value fresh (stores_of afters)) value fresh before) (planned shapes b others)

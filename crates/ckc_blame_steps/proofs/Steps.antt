@@ -1,24 +1,21 @@
 -- Steps that assign keep states sound.
-use Rattle.std.proofs.Common.{◌≡◌, inl, refl, sym, ap, subst, ◌∙◌, ℕ, Bool, true, List, [], ◌∷◌, arith}
-use Rattle.std.specs.Prelude.{◌<◌, ◌^◌, length, Result, Ok, Err}
+use Rattle.std.proofs.Common.{◌≡◌, inl, refl, sym, subst, ℕ, Bool, List, [], ◌∷◌, arith}
+use Rattle.std.specs.Prelude.{◌<◌, ◌^◌, length}
 use Rattle.std.specs.List.{All}
 use Rattle.ckc_base.specs.declared.arithmetic.Mode.{Mode}
 use Rattle.ckc_base.specs.declared.arithmetic.Mode.TheVariants.{Checked}
 use Rattle.ckc_syntax.specs.declared.tree.Name.{Name}
 use Rattle.ckc_syntax.specs.declared.tree.Node.{out-Node}
 use Rattle.ckc_syntax.specs.declared.tree.Act.{Act-F, out-Act}
-use Rattle.ckc_typed.specs.declared.environment.Globals.{Globals}
 use Rattle.ckc_typed.specs.declared.typed.Note.{Note}
 use Rattle.ckc_typed.specs.declared.typed.Typed.{Typed}
 use Rattle.ckc_typed.specs.Trees.{NotedAct, NotedExpr, NotedStmt}
-use Rattle.ckc_bounds_stores.specs.Stores.{Placed, with_store, stores_of, numbered}
-use Rattle.ckc_bounds_statements.specs.Paths.{Here}
+use Rattle.ckc_bounds_stores.specs.Stores.{with_store, stores_of, numbered}
 use Rattle.ckc_source.specs.declared.program.Shape.{Shape}
 use Rattle.ckc_source.specs.declared.stmt.Spot.{Spot}
 use Rattle.ckc_source.specs.Code.{Target, Right, Code, End, Assign}
-use Rattle.ckc_source.specs.Eval.{Store}
 use Rattle.ckc_source.specs.States.{Work, Rest, State, settled}
-use Rattle.ckc_source.specs.Steps.{store_of, Planned, planned, all_written, bundled, comes_to, source_step, spot_in, spot_at, spot_of}
+use Rattle.ckc_source.specs.Steps.{store_of, planned, bundled, comes_to, source_step, spot_in, spot_at, spot_of}
 use Rattle.ckc_build_elaborate.specs.Elaborated.{elaborated}
 use Rattle.ckc_build_elaborate.specs.Shapes.{shapes_elaborated}
 use Rattle.ckc_blame_sound.specs.Calls.{store_in}
@@ -31,19 +28,18 @@ use Rattle.ckc_blame_texts.specs.Judged.{globals_in}
 use Rattle.ckc_blame_texts.proofs.Frames.{frames_agree}
 use Rattle.ckc_blame_control.specs.Known.{IsKnownPoint}
 use Rattle.ckc_blame_control.specs.Ready.{Faces}
-use Rattle.ckc_blame_control.proofs.Faced.{faces_assign}
-use Rattle.ckc_blame_control.proofs.Moved.{stands_ready, move_by}
+use Rattle.ckc_blame_control.proofs.Moved.{move_by}
 use Rattle.ckc_blame_control.proofs.Typed.{statement_typed, point_known}
 use Rattle.ckc_blame_locals.specs.Written.{IsFitting}
 use Rattle.ckc_blame_locals.specs.Stored.{IsAssignJudged, AreAssignsJudged, AreStored}
 use Rattle.ckc_blame_locals.proofs.Fitting.{step_fits}
 use Rattle.ckc_blame_locals.proofs.Stored.{assignment_stored}
-use Rattle.ckc_blame_targets.specs.Targets.{KeepRunsFree, IsCoveredTarget, ComesTo}
+use Rattle.ckc_blame_targets.specs.Targets.{KeepRunsFree, IsCoveredTarget}
 use Rattle.ckc_blame_targets.specs.Together.{AreTogether}
-use Rattle.ckc_typed_welltyped.specs.Statements.{IsAssignment, act_rows, WellTypedStmt}
+use Rattle.ckc_typed_welltyped.specs.Statements.{act_rows, WellTypedStmt}
 use Rattle.ckc_typed_welltyped.proofs.ByParts.{stmt_by_parts}
 use Rattle.ckc_blame_sound.specs.Bodies.{globals_of_text}
-use Rattle.ckc_blame_steps.specs.Granted.{IsGranted, IsCoveredRight, IsCoveredAct, AreCoveredSides, HaveRoom, HaveRoomSides, HasRoomAct}
+use Rattle.ckc_blame_steps.specs.Granted.{IsGranted, IsCoveredRight, IsCoveredAct, AreCoveredSides, HaveRoom, HasRoomAct}
 use Rattle.ckc_blame_steps.specs.Plans.{BecomesPart, BecomeParts, IsAt, IsSoundPlan, AllocateSoundly}
 use Rattle.ckc_blame_steps.proofs.Becomes.{IsPlainStep, assign_plain}
 use Rattle.ckc_blame_steps.proofs.Own.{own_valuation, own_values}
@@ -87,7 +83,7 @@ module _ (p : Typed) (g : IsGranted p) (allocations : AllocateSoundly p) (st : S
       (subst (λ q. AreFilled q (store_of shapes c)) (text_is p s st.frame.function function) at_c.filled)
 
   -- assignments that are judged as one
-  parts_sound : (befores afters : List NotedStmt) (others : List (Target × Right)) → AreAssignsJudged s f.here.at f.here.next befores afters → AreStored s f.here afters f.judged.behind
+  pub parts_sound : (befores afters : List NotedStmt) (others : List (Target × Right)) → AreAssignsJudged s f.here.at f.here.next befores afters → AreStored s f.here afters f.judged.behind
       → AllFit (globals_in p) s befores → StayCovered s shapes st.frame.entry f.here afters → BecomeParts s afters others → HaveRoom s.frame f.here.at 0 f.here.next (stores_of afters)
       → All (IsFitting s) (numbered s.frame f.here.at 0 f.here.next (stores_of afters))
       → ((locals : List ℕ) → AreTogether s locals (numbered s.frame f.here.at 0 f.here.next (stores_of afters))) → IsSoundMove p (comes_to [] (bundled shapes b others))
@@ -103,7 +99,7 @@ module _ (p : Typed) (g : IsGranted p) (allocations : AllocateSoundly p) (st : S
       → act_rows (globals_of_text s.text) s.variables s.result (WellTypedStmt (globals_of_text s.text) s.variables s.result) (out-Act Name Note st.body) mode looped
   row_of st mode looped w = ((stmt_by_parts (globals_of_text s.text) s.variables s.result st mode looped).0 w).row
 
-  side_fits : (mode : Mode) (looped : Bool) (x : ActLayer) (e y : NotedExpr) → x ≡ Act-F.Assign e y → AreTypedSides (globals_in p) s x
+  pub side_fits : (mode : Mode) (looped : Bool) (x : ActLayer) (e y : NotedExpr) → x ≡ Act-F.Assign e y → AreTypedSides (globals_in p) s x
       → act_rows (globals_of_text s.text) s.variables s.result (WellTypedStmt (globals_of_text s.text) s.variables s.result) x mode looped → AreFit (globals_in p) s x
   side_fits mode looped (Act-F.Assign a b) e y is typed row = (typed.0, typed.1, row.converted, row.target.0)
   side_fits mode looped x e y is typed row = absurd (cc)
@@ -166,10 +162,12 @@ module _ (p : Typed) (g : IsGranted p) (allocations : AllocateSoundly p) (st : S
       (subst (HasRoomAct t.frame f.here.at f.here.next) one.becomes (g.room t st.frame.function f.here f.exits.ends step h.stands.function f.judged), tt)
 
   fit : AllFit (globals_in p) t (f.judged.before ∷ [])
-  fit =
-      (side_fits p g allocations st h step next f f.judged.inside.mode f.judged.inside.looped (out-Act Name Note f.judged.before.body) e x is
-      (typed_sides p g allocations st h step next f (out-Act Name Note f.judged.before.body) e x is (typed_act p g allocations st h step next f))
-      (row_of p g allocations st h step next f f.judged.before f.judged.inside.mode f.judged.inside.looped f.judged.inside.typed), tt)
+  fit = (
+    side_fits p g allocations st h step next f f.judged.inside.mode f.judged.inside.looped (out-Act Name Note f.judged.before.body) e x is
+        (typed_sides p g allocations st h step next f (out-Act Name Note f.judged.before.body) e x is (typed_act p g allocations st h step next f))
+        (row_of p g allocations st h step next f f.judged.before f.judged.inside.mode f.judged.inside.looped f.judged.inside.typed),
+    tt,
+  )
 
   fitting : All (IsFitting t) (numbered t.frame f.here.at 0 f.here.next (stores_of afters))
   fitting =

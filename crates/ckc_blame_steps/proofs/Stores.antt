@@ -1,32 +1,26 @@
 -- Assignments that are judged as one keep states sound.
-use Rattle.std.proofs.Common.{◌≡◌, inl, refl, sym, ap, subst, ◌∙◌, ℕ, true, List, [], ◌∷◌, ◌++◌, arith}
-use Rattle.std.specs.Prelude.{◌<◌, ◌^◌, length, Result, Ok, Err}
+use Rattle.std.proofs.Common.{◌≡◌, refl, sym, ap, subst, ◌∙◌, ℕ, true, List, [], ◌∷◌}
+use Rattle.std.specs.Prelude.{Result, Ok, Err}
 use Rattle.std.specs.List.{All}
 use Rattle.std.proofs.lemmas.List.{append-nil}
 use Rattle.ckc_base.specs.Lists.{AreBytes}
-use Rattle.ckc_base.specs.Steps.{Move, Goes, Halts}
-use Rattle.ckc_base.specs.declared.arithmetic.Mode.TheVariants.{Checked}
 use Rattle.ckc_typed.specs.declared.typed.Typed.{Typed}
 use Rattle.ckc_typed.specs.Trees.{NotedStmt}
 use Rattle.ckc_bounds_points.specs.Flow as flow
 use Rattle.ckc_bounds_stores.specs.Stores.{Placed, stores_of, numbered}
-use Rattle.ckc_bounds_statements.specs.Paths.{Here}
 use Rattle.ckc_source.specs.declared.outcome.Halt.{Halt}
 use Rattle.ckc_source.specs.declared.outcome.Halt.TheVariants as halt
 use Rattle.ckc_source.specs.declared.program.Shape.{Shape}
-use Rattle.ckc_source.specs.declared.stmt.Spot.{Spot}
-use Rattle.ckc_source.specs.Code.{Target, Right, Code, Function}
+use Rattle.ckc_source.specs.Code.{Code, Function}
 use Rattle.ckc_source.specs.Eval.{Store, given}
 use Rattle.ckc_source.specs.Runs.{is_true}
 use Rattle.ckc_source.specs.States.{Work, State}
-use Rattle.ckc_source.specs.Steps.{Write, store_of, Planned, planned, all_written, bundled, comes_to, at_work}
+use Rattle.ckc_source.specs.Steps.{Write, store_of, Planned, planned, all_written, comes_to, at_work}
 use Rattle.ckc_build_elaborate.specs.Shapes.{shapes_elaborated}
-use Rattle.ckc_blame_sound.specs.Bodies.{AreFresh}
 use Rattle.ckc_blame_sound.specs.Calls.{store_in}
 use Rattle.ckc_blame_sound.specs.Points.{HoldsAt}
 use Rattle.ckc_blame_sound.specs.Settings.{Setting, IsFunction, setting_of}
 use Rattle.ckc_blame_sound.specs.Sound.{Sound}
-use Rattle.ckc_blame_sound.specs.Steps.{IsStep}
 use Rattle.ckc_blame_sound.specs.Valuations.{Valuation, AreFacts}
 use Rattle.ckc_blame_sound.proofs.Kept.{point_kept}
 use Rattle.ckc_blame_runs.specs.Moves.{IsSoundMove}
@@ -34,11 +28,9 @@ use Rattle.ckc_blame_sound.specs.Slots.{AreFilled}
 use Rattle.ckc_blame_slots.specs.Cells.{AreSound, HaveOwnNames}
 use Rattle.ckc_blame_slots.specs.Writes.{AreCellWrites}
 use Rattle.ckc_blame_slots.specs.Limited.{AreSlotParts}
-use Rattle.ckc_blame_texts.specs.Judged.{IsJudged, globals_in}
 use Rattle.ckc_blame_texts.proofs.Frames.{frames_agree}
 use Rattle.ckc_blame_texts.proofs.Members.{have_own_names}
 use Rattle.ckc_blame_contained.specs.Elements.{NameIntegerMembers}
-use Rattle.ckc_blame_contained.specs.Given.{StayTrue}
 use Rattle.ckc_blame_contained.proofs.Agree.{facts_agree}
 use Rattle.ckc_blame_declared.proofs.HaveEnds.{locals_have_ends}
 use Rattle.ckc_blame_control.specs.Kept.{KeepRanges, IsSameCall}
@@ -46,7 +38,7 @@ use Rattle.ckc_blame_control.specs.Ready.{Faces}
 use Rattle.ckc_blame_control.proofs.Kept.{faced_sound, writes_keep_ranges, blocks_keep_ranges}
 use Rattle.ckc_blame_control.proofs.Moved.{stopped}
 use Rattle.ckc_blame_given.specs.Planned.{ArePlanned}
-use Rattle.ckc_blame_locals.specs.Written.{AreOne, IsFitting}
+use Rattle.ckc_blame_locals.specs.Written.{IsFitting}
 use Rattle.ckc_blame_locals.specs.Stored.{AreStored}
 use Rattle.ckc_blame_locals.proofs.Apart.{ones_apart}
 use Rattle.ckc_blame_locals.proofs.Points.{point_after, all_planned}
@@ -55,8 +47,8 @@ use Rattle.ckc_blame_targets.specs.Targets.{ComesTo}
 use Rattle.ckc_blame_targets.specs.Together.{HaveSmallNames, AreTogether}
 use Rattle.ckc_blame_targets.proofs.Filled.{stays_filled}
 use Rattle.ckc_blame_steps.specs.Granted.{IsGranted}
-use Rattle.ckc_blame_steps.specs.Plans.{IsAt, HasMore, IsSoundPlan}
-use Rattle.ckc_blame_steps.proofs.Writes.{IsLeft, AreWrittenAll, all_come}
+use Rattle.ckc_blame_steps.specs.Plans.{IsAt, IsSoundPlan}
+use Rattle.ckc_blame_steps.proofs.Writes.{AreWrittenAll, all_come}
 
 pub text_is : (p : Typed) (s : Setting) (f : Function) → IsFunction p s f → s.text ≡ p
 unfolding setting_of

@@ -1,8 +1,7 @@
 -- Writes to objects of their own types are never stuck.
-use Rattle.std.proofs.Common.{◌≡◌, refl, sym, ap, subst, ◌∙◌, ℕ, true, List, [], ◌∷◌}
+use Rattle.std.proofs.Common.{◌≡◌, refl, sym, ap, subst, ◌∙◌, ℕ, List, [], ◌∷◌}
 use Rattle.std.specs.Prelude.{is_some, slice_set, Option, None, Some, IsSome, Ok}
 use Rattle.ckc_base.specs.declared.arithmetic.Width.{Width}
-use Rattle.ckc_base.specs.declared.places.Pos.{Pos}
 use Rattle.ckc_base.specs.Memory.{kept_part}
 use Rattle.ckc_types.specs.declared.types.Structs.{Structs}
 use Rattle.ckc_typed.specs.declared.typed.Typed.{Typed}

@@ -58,6 +58,11 @@ abbrev pub IsCoveredRight : Setting → Store → List ℕ → NotedExpr → Not
 IsCoveredRight s store seen e (Node-F.Call n es) = IsCoveredCall s store seen n es
 IsCoveredRight s store seen e node = IsCoveredValue s store seen e node
 
+-- a statement that is an expression is a call
+abbrev pub IsCoveredAlone : Setting → Store → List ℕ → NotedLayer → Type 0
+IsCoveredAlone s store seen (Node-F.Call n es) = IsCoveredCall s store seen n es
+IsCoveredAlone s store seen node = ⊥
+
 -- an initialiser; no local has a list in braces
 abbrev pub IsCoveredInit : Setting → Store → List ℕ → NotedInit → Type 0
 IsCoveredInit s store seen init.Nothing = Unit {0}
@@ -73,7 +78,8 @@ AreCoveredSides s store seen a = ⊥
 
 -- the assignments of a bundle
 abbrev pub AreCoveredParts : Setting → Store → List ℕ → List NotedStmt → Type 0
-AreCoveredParts s store seen ss = AllByRecursion (λ (st : NotedStmt). AreCoveredSides s store seen (out-Act Name Note st.body)) ss
+AreCoveredParts s store seen ss =
+    AllByRecursion (λ (st : NotedStmt). AreCoveredSides s store seen (out-Act Name Note st.body)) ss
 
 -- The expressions of a statement that is a step by itself, after it is judged.
 abbrev pub IsCoveredAct : Setting → Store → List ℕ → Act-F Name Note NotedAct NotedStmt → Type 0
@@ -81,7 +87,7 @@ IsCoveredAct s store seen (Act-F.Local d) = IsCoveredInit s store seen d.init
 IsCoveredAct s store seen (Act-F.Assign e f) =
     IsCoveredTarget s store seen e (out-Node Name Note e.node)
     × IsCoveredRight s store seen f (out-Node Name Note f.node)
-IsCoveredAct s store seen (Act-F.Call e) = IsCoveredRight s store seen e (out-Node Name Note e.node)
+IsCoveredAct s store seen (Act-F.Call e) = IsCoveredAlone s store seen (out-Node Name Note e.node)
 IsCoveredAct s store seen (Act-F.Return e) = IfSome e (IsCovered s store seen)
 IsCoveredAct s store seen (Act-F.Check e) = IsCovered s store seen e
 IsCoveredAct s store seen (Act-F.Bundle ss) = AreCoveredParts s store seen ss
@@ -140,8 +146,8 @@ pub record IsGranted (p : Typed) : Type 0 where
       (next : ℕ) → IsFunction p s f → (is : IsStep s here step there) → (spot_in end (step End)).mode ≡ Checked
       → IsSoundStore s store next → AreFilled p store
       → IsCoveredAct s store here.seen (out-Act Name Note is.after.body)
-  pub declared : (s : Setting) (f : Function) (here there : Here) (step : Code → Code) (d : NotedDecl) → IsFunction p s f
-      → (is : IsStep s here step there) → out-Act Name Note is.before.body ≡ Act-F.Local d
+  pub declared : (s : Setting) (f : Function) (here there : Here) (step : Code → Code) (d : NotedDecl)
+      → IsFunction p s f → (is : IsStep s here step there) → out-Act Name Note is.before.body ≡ Act-F.Local d
       → (k : ℕ) × (l : Local) × IsDeclared s here d k l
   pub room : (s : Setting) (f : Function) (here there : Here) (step : Code → Code) → IsFunction p s f
       → (is : IsStep s here step there) → HasRoomAct s.frame here.at here.next (out-Act Name Note is.after.body)

@@ -80,7 +80,8 @@ pub record IsDrawnOn (s : Setting) (shapes : List Shape) (here : Here) (t : CTyp
   pub values : IsValuationOf s d.state.frame.locals after
   pub continues : Continues from.value from.fresh before after
   pub received : (later : Valuation) → IsValuationOf s d.state.frame.locals later
-      → Continues (capped from.value (view s.frame e).values) (fresh_behind (view s.frame e) from.fresh here.at) after later
+      → Continues (capped from.value (view s.frame e).values) (fresh_behind (view s.frame e) from.fresh here.at) after
+      later
       → IsReceived s (store_of shapes d.state) later here.at t e from d.number
 
 -- A right side gives a word to a place of type t, in a state that has perhaps more blocks, whatever is known of the
@@ -94,8 +95,8 @@ pub record IsDrawn (s : Setting) (shapes : List Shape) (entry : List ℕ) (here 
       → IsDrawnOn s shapes here t e from before d
 
 -- What assignments are going to write is planned under one valuation, in a state that has perhaps more blocks.
-pub record IsSoundPlan (s : Setting) (shapes : List Shape) (entry : List ℕ) (here : Here) (b : State) (ps : List Placed)
-    (value fresh : ℕ) (before : Valuation) (plan : Planned) : Type 0 where
+pub record IsSoundPlan (s : Setting) (shapes : List Shape) (entry : List ℕ) (here : Here) (b : State)
+    (ps : List Placed) (value fresh : ℕ) (before : Valuation) (plan : Planned) : Type 0 where
   pub grown : HasMore b plan.state
   pub at : IsAt s shapes entry here plan.state
   pub after : Valuation
@@ -118,7 +119,8 @@ AllocationsDraw globals s shapes entry here =
     (fresh literals : ℕ) → counted_in (out-Node Name Note g.node) ≡ Some n → IsTyped globals s f → converts t f ≡ true
     → (view s.frame f).judged fresh here.at ≡ Ok g → fresh + length ((view s.frame g).fresh here.at) < 2 ^ 32
     → AreFresh s.frame fresh → IsCovered s (store_of shapes b) here.seen n
-    → ComesTo (IsDrawn s shapes entry here b t g) (drawn shapes b (right_of s.text s.variables literals (is_terminated t) g))
+    → ComesTo (IsDrawn s shapes entry here b t g)
+    (drawn shapes b (right_of s.text s.variables literals (is_terminated t) g))
 
 -- this at each step of a text
 abbrev pub AllocateSoundly : Typed → Type 0

@@ -2,40 +2,26 @@
 
 ghost use Rattle.std.specs.Prelude.{◌≡◌, List, ◌∷◌};
 ghost use Rattle.ckc_base.specs.declared.arithmetic.Mode.TheVariants.{Checked};
-ghost use Rattle.ckc_syntax.specs.declared.tree.Name.{Name};
-ghost use Rattle.ckc_syntax.specs.declared.tree.Act.{Act-F, out-Act};
-ghost use Rattle.ckc_typed.specs.declared.typed.Note.{Note};
 ghost use Rattle.ckc_typed.specs.declared.typed.Typed.{Typed};
-ghost use Rattle.ckc_typed.specs.Trees.{NotedDecl, NotedExpr};
 ghost use Rattle.ckc_source.specs.declared.stmt.Spot.{Spot};
-ghost use Rattle.ckc_source.specs.Code.{Target, Right, Code, Assign};
+ghost use Rattle.ckc_source.specs.Code.{Target, Right, Code, Assign, Bundle};
 ghost use Rattle.ckc_source.specs.States.{Work, Rest, State, settled};
 ghost use Rattle.ckc_source.specs.Steps.{source_step, spot_of};
 ghost use Rattle.ckc_build_elaborate.specs.Elaborated.{elaborated};
-ghost use Rattle.ckc_blame_sound.specs.Calls.{store_in};
 ghost use Rattle.ckc_blame_sound.specs.Sound.{Sound};
 ghost use Rattle.ckc_blame_runs.specs.Moves.{IsSoundMove};
-ghost use Rattle.ckc_blame_control.specs.Ready.{Faces};
 ghost use Rattle.ckc_blame_steps.specs.Granted.{IsGranted};
 ghost use Rattle.ckc_blame_steps.specs.Plans.{AllocateSoundly};
 
-/// An assignment of mode Checked that is the next step of a sound state leads to a sound state, or
-/// stops at a named check. It is not stuck.
+/// An assignment, a declaration and a bundle of mode Checked that is the next step of a sound state
+/// leads to a sound state, or stops at a named check. It is not stuck.
 pub fn assignments_keep_sound()
-    ensures alone { (p : Typed) (s : State) (h : Sound p s) (spot : Spot) (target : Target)
+    ensures assignment { (p : Typed) (s : State) (h : Sound p s) (spot : Spot) (target : Target)
         (right : Right) (rest : Code) (next : List Work) → IsGranted p → AllocateSoundly p
         → settled s.frame.work ≡ Rest (Assign spot target right rest) ∷ next
-        → (spot_of s).mode ≡ Checked
-        → (f : Faces h.setting (store_in p s.blocks s.frame) s.frame.entry
-        (Assign spot target right) (Rest rest ∷ next)) → (e x : NotedExpr)
-        → out-Act Name Note f.judged.before.body ≡ Act-F.Assign e x
-        → IsSoundMove p (source_step (elaborated p) s) }
-    ensures declaration { (p : Typed) (s : State) (h : Sound p s) (spot : Spot) (target : Target)
-        (right : Right) (rest : Code) (next : List Work) → IsGranted p → AllocateSoundly p
-        → settled s.frame.work ≡ Rest (Assign spot target right rest) ∷ next
-        → (spot_of s).mode ≡ Checked
-        → (f : Faces h.setting (store_in p s.blocks s.frame) s.frame.entry
-        (Assign spot target right) (Rest rest ∷ next)) → (d : NotedDecl)
-        → out-Act Name Note f.judged.before.body ≡ Act-F.Local d
-        → IsSoundMove p (source_step (elaborated p) s) }
+        → (spot_of s).mode ≡ Checked → IsSoundMove p (source_step (elaborated p) s) }
+    ensures bundle { (p : Typed) (s : State) (h : Sound p s) (spot : Spot)
+        (assigns : List (Target × Right)) (rest : Code) (next : List Work) → IsGranted p
+        → AllocateSoundly p → settled s.frame.work ≡ Rest (Bundle spot assigns rest) ∷ next
+        → (spot_of s).mode ≡ Checked → IsSoundMove p (source_step (elaborated p) s) }
 {}

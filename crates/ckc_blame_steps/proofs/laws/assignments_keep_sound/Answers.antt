@@ -1,6 +1,6 @@
-use Rattle.ckc_blame_steps.proofs.Steps.{assignment_sound}
-use Rattle.ckc_blame_steps.proofs.Declarations.{declaration_sound}
+use Rattle.ckc_blame_steps.proofs.Whole.{every_assignment}
+use Rattle.ckc_blame_steps.proofs.Bundles.{every_bundle}
 use Rattle.ckc_blame_steps.proofs.laws.assignments_keep_sound.Goals as goal
 
 pub returns : goal.returns
-returns c = record { alone = assignment_sound; declaration = declaration_sound }
+returns c = record { assignment = every_assignment; bundle = every_bundle }
