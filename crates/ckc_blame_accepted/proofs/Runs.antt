@@ -1,5 +1,5 @@
 -- A static object that is declared with bounds is one that pointers with known limits do not point into.
-use Rattle.std.proofs.Common.{◌≡◌, ◌∙◌, ◌⊎◌, inl, inr, sym, ap, refl, arith, ℕ, false}
+use Rattle.std.proofs.Common.{◌≡◌, ◌∙◌, ◌⊎◌, inl, inr, sym, ap, refl, ℕ, false}
 use Rattle.std.specs.Prelude.{Option, Some, None, is_none, slice_get}
 use Rattle.std.specs.List.{flat_map}
 use Rattle.ckc_syntax.specs.declared.tree.Name.TheVariants as name

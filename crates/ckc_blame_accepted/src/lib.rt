@@ -3,4 +3,4 @@
 
 mod laws;
 
-pub use laws::{names_of_members_are_small, runs_are_free};
+pub use laws::{declared_types_are_fine, names_of_members_are_small, runs_are_free};
