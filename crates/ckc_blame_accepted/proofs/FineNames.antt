@@ -94,11 +94,12 @@ items_fine globals mode (item.Struct n members at ∷ items) w = more (item.Stru
 items_fine globals mode (item.Static d ∷ items) w = more (item.Static d) items (used_fine d.length (type_written d.ctype) w.0.element) (items_fine globals _ items w.1)
 items_fine globals mode (item.Proto h ∷ items) w = more (item.Proto h) items tt (items_fine globals _ items w.1)
 items_fine globals mode (item.Function h body ∷ items) w =
-    more (item.Function h body) items
-    (result_fine (type_written h.result) w.0.0.result,
-     joined (map (λ (d : Decl). variable_declared d) (map (λ (d : NotedDecl). bare_decl d) h.params)) (locals_of (bare_stmt body))
-     (params_fine (map (λ (d : NotedDecl). bare_decl d) h.params) (bares_fine globals _ _ h.params w.0.0.params))
-     (subst AreFineVariables (sym (stmt_declares body).same) (statement_fine globals _ (type_written h.result) body (head_mode mode h) false w.0.1)))
+    more (item.Function h body) items (
+      result_fine (type_written h.result) w.0.0.result,
+      joined (map (λ (d : Decl). variable_declared d) (map (λ (d : NotedDecl). bare_decl d) h.params)) (locals_of (bare_stmt body))
+          (params_fine (map (λ (d : NotedDecl). bare_decl d) h.params) (bares_fine globals _ _ h.params w.0.0.params))
+          (subst AreFineVariables (sym (stmt_declares body).same) (statement_fine globals _ (type_written h.result) body (head_mode mode h) false w.0.1)),
+    )
     (items_fine globals _ items w.1)
 
 named_fine : (p : Typed) (j : IsJudged p) → All FineItem j.named.tree.items

@@ -20,10 +20,11 @@ module _ (p : Typed) (j : IsJudged p) where
   -- the object of a declaration with bounds
   shut : (k : ℕ) (d : NotedDecl) (l : NotedLimits) → slice_get (decls p.tree.items) k ≡ Some d → d.bounds ≡ Some l → IsShut k
   shut k d l at is =
-      let o = has_object p j k d at in
-      (object_elaborated p.layout (Some (is_none d.bounds)) o.object,
-       beside_at (object_elaborated p.layout) (flat_map run_in p.tree.items) p.statics k (is_none d.bounds) o.object (runs_at p j k d at) o.there,
-       ap (λ b. is_none b) is)
+      let o = has_object p j k d at in (
+        object_elaborated p.layout (Some (is_none d.bounds)) o.object,
+        beside_at (object_elaborated p.layout) (flat_map run_in p.tree.items) p.statics k (is_none d.bounds) o.object (runs_at p j k d at) o.there,
+        ap (λ b. is_none b) is,
+      )
 
   by_limits : (k : ℕ) (b : Option NotedLimits) → limits_declared p (name.Static k) ≡ b → (limits_declared p (name.Static k) ≡ None) ⊎ IsShut k
   by_limits k None e = inl e
