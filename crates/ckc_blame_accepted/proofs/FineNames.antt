@@ -7,7 +7,6 @@ use Rattle.std.proofs.lemmas.List.Elements.{All-nil, All-cons, All-head, All-tai
 use Rattle.ckc_base.specs.declared.arithmetic.Mode.{Mode}
 use Rattle.ckc_base.specs.declared.arithmetic.Mode.TheVariants.{Unchecked}
 use Rattle.ckc_types.specs.declared.types.CType.{CType}
-use Rattle.ckc_types.specs.declared.types.CType.TheVariants as ctype
 use Rattle.ckc_types.specs.declared.types.Kind.TheVariants as kind
 use Rattle.ckc_types.specs.declared.types.MemberShape.{MemberShape}
 use Rattle.ckc_types.specs.Layout.{members_of}
