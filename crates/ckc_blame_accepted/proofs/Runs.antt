@@ -1,5 +1,5 @@
 -- A static object that is declared with bounds is one that pointers with known limits do not point into.
-use Rattle.std.proofs.Common.{◌≡◌, ◌∙◌, ◌⊎◌, inl, inr, sym, ap, refl, arith, ℕ, false}
+use Rattle.std.proofs.Common.{◌≡◌, ◌∙◌, ◌⊎◌, inl, inr, sym, ap, refl, ℕ, false}
 use Rattle.std.specs.Prelude.{Option, Some, None, is_none, slice_get}
 use Rattle.std.specs.List.{flat_map}
 use Rattle.ckc_syntax.specs.declared.tree.Name.TheVariants as name
@@ -20,10 +20,11 @@ module _ (p : Typed) (j : IsJudged p) where
   -- the object of a declaration with bounds
   shut : (k : ℕ) (d : NotedDecl) (l : NotedLimits) → slice_get (decls p.tree.items) k ≡ Some d → d.bounds ≡ Some l → IsShut k
   shut k d l at is =
-      let o = has_object p j k d at in
-      (object_elaborated p.layout (Some (is_none d.bounds)) o.object,
-       beside_at (object_elaborated p.layout) (flat_map run_in p.tree.items) p.statics k (is_none d.bounds) o.object (runs_at p j k d at) o.there,
-       ap (λ b. is_none b) is)
+      let o = has_object p j k d at in (
+        object_elaborated p.layout (Some (is_none d.bounds)) o.object,
+        beside_at (object_elaborated p.layout) (flat_map run_in p.tree.items) p.statics k (is_none d.bounds) o.object (runs_at p j k d at) o.there,
+        ap (λ b. is_none b) is,
+      )
 
   by_limits : (k : ℕ) (b : Option NotedLimits) → limits_declared p (name.Static k) ≡ b → (limits_declared p (name.Static k) ≡ None) ⊎ IsShut k
   by_limits k None e = inl e

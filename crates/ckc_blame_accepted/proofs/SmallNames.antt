@@ -1,7 +1,7 @@
 -- Members are numbered in the order of a text, so a small text has small numbers.
 use Rattle.std.proofs.Common.{◌≡◌, ◌∙◌, sym, ap, subst, arith, refl, not, cond, ℕ, ◌+◌, ◌<◌, ◌≤◌, ◌^◌, Bool, true, false, List, [], ◌∷◌, ◌++◌, map, length, length-append}
-use Rattle.std.specs.Prelude.{All, Option, Some, None, Ok, if◌then◌else◌, fold, unwrap_or}
-use Rattle.std.specs.List.{Contains, flat_map, prefix_len}
+use Rattle.std.specs.Prelude.{All, Option, Some, None, if◌then◌else◌, fold, unwrap_or}
+use Rattle.std.specs.List.{flat_map, prefix_len}
 use Rattle.std.specs.Str.{bytes_eq}
 use Rattle.std.proofs.lemmas.List.Elements.{All-nil, All-cons, All-head, All-tail, All-contains}
 use Rattle.ckc_types.specs.declared.types.MemberShape.{MemberShape}
@@ -11,7 +11,7 @@ use Rattle.ckc_syntax.specs.declared.tree.Name.{Name}
 use Rattle.ckc_syntax.specs.declared.tree.Name.TheVariants as name
 use Rattle.ckc_syntax.specs.declared.tree.Item.TheVariants as item
 use Rattle.ckc_syntax.specs.Inside.{listed, inside_each}
-use Rattle.ckc_syntax_limits.specs.Marks.{Mark, node, is_node, marks_of_decl, marks_of_bounds, marks_of_init, marks_of_item, marks_of}
+use Rattle.ckc_syntax_limits.specs.Marks.{Mark, is_node, marks_of_decl, marks_of_item, marks_of}
 use Rattle.ckc_syntax_limits.specs.Small.{Small}
 use Rattle.ckc_resolve.specs.declared.names.Names.{Names}
 use Rattle.ckc_resolve.specs.declared.scopes.Scopes.{Scopes}
@@ -25,7 +25,6 @@ use Rattle.ckc_typed_fit.proofs.NamedItems as items
 use Rattle.ckc_typed_fit.proofs.NamedItems.{MembersNamed, ItemNamed, ItemsNamed, text_is}
 use Rattle.ckc_blame_texts.specs.Judged.{IsJudged}
 use Rattle.ckc_blame_texts.proofs.Bounded.{layout_kept}
-use Rattle.ckc_blame_texts.proofs.Lists.{all_by}
 use Rattle.ckc_blame_texts.proofs.Members.{members_are}
 use Rattle.ckc_blame_facts.proofs.Tallies.{tally, is_tally, tally-append}
 use Rattle.ckc_blame_targets.specs.Together.{HaveSmallNames}

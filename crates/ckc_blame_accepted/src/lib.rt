@@ -3,4 +3,7 @@
 
 mod laws;
 
-pub use laws::{names_of_members_are_small, runs_are_free};
+pub use laws::{
+    declared_types_are_fine, locals_are_spared, names_of_members_are_small, objects_begin_as_bytes,
+    runs_are_free,
+};

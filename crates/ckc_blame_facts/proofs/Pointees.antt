@@ -19,7 +19,7 @@ use Rattle.ckc_typed.specs.Operands.{promoted, common, arithmetic_type, shift_ty
 use Rattle.ckc_typed.specs.Trees.{NotedLimits, NotedNode, NotedExpr, NotedLayer}
 use Rattle.ckc_typed.specs.declared.typed.Note.{Note}
 use Rattle.ckc_typed.specs.Conversions.{is_null}
-use Rattle.ckc_typed.specs.Types.{type_written, is_integer, is_integer_form, is_pointer, is_scalar, is_unsigned, is_void, kind_in, kind_of, element_in, element_of, pointer_parts, object_parts, integer_object, is_object_type}
+use Rattle.ckc_typed.specs.Types.{type_written, is_integer, is_integer_form, is_pointer, is_scalar, is_unsigned, is_void, is_void_form, kind_in, kind_of, element_in, element_of, pointer_parts, object_parts, integer_object, is_object_type}
 use Rattle.ckc_typed_welltyped.specs.Expressions.{AnyLimits, AnyNode, HasType, unary_row}
 use Rattle.ckc_blame_sound.specs.Settings.{Setting}
 use Rattle.ckc_blame_numbers.specs.Typed.{HasRow, IsTyped}
@@ -37,7 +37,7 @@ fine_out t = fold_out-CType Fine parts_fine t
 pointer_out : (k : Kind) (t : CType) → out-CType (ctype.Pointer k t) ≡ CType-F.Pointer k t
 pointer_out k t = search (rules, the_lemmas)
 
-fine_pointer : (k : Kind) (t : CType) → fineness (ctype.Pointer k t) ≡ pointer_fine k (fineness t)
+pub fine_pointer : (k : Kind) (t : CType) → fineness (ctype.Pointer k t) ≡ pointer_fine k (fineness t)
 fine_pointer k t = fine_out (ctype.Pointer k t) ∙ ap (λ x. parts_fine (fine_in x)) (pointer_out k t)
 
 int_out : out-CType ctype.Int ≡ CType-F.Int
@@ -52,7 +52,7 @@ char_out = search (rules, the_lemmas)
 void_out : out-CType ctype.Void ≡ CType-F.Void
 void_out = search (rules, the_lemmas)
 
-fine_int : IsFine ctype.Int
+pub fine_int : IsFine ctype.Int
 fine_int = ap (λ (f : Fine). f.fine) (fine_out ctype.Int ∙ ap (λ x. parts_fine (fine_in x)) int_out)
 
 fine_unsigned : IsFine ctype.Unsigned
@@ -75,8 +75,31 @@ integer_flag (CType-F.Pointer kind.One t) = refl
 integer_flag (CType-F.Pointer kind.Arr t) = refl
 integer_flag (CType-F.Pointer kind.Nt t) = refl
 
-integer_is : (t : CType) → (fineness t).integer ≡ is_integer t
+pub integer_is : (t : CType) → (fineness t).integer ≡ is_integer t
 integer_is t = ap (λ (f : Fine). f.integer) (fine_out t) ∙ integer_flag (out-CType t)
+
+-- an integer type is fine, and so is `void`
+integer_form_fine : (x : CType-F CType) → is_integer_form x ≡ true → (parts_fine (fine_in x)).fine ≡ true
+integer_form_fine CType-F.Int e = refl
+integer_form_fine CType-F.Unsigned e = refl
+integer_form_fine CType-F.Char e = refl
+integer_form_fine CType-F.Void e = refl
+integer_form_fine (CType-F.Struct tag) e = refl
+integer_form_fine (CType-F.Pointer k t) e = absurd cc
+
+pub integer_fine : (t : CType) → is_integer t ≡ true → IsFine t
+integer_fine t e = ap (λ (f : Fine). f.fine) (fine_out t) ∙ integer_form_fine (out-CType t) e
+
+void_form_fine : (x : CType-F CType) → is_void_form x ≡ true → (parts_fine (fine_in x)).fine ≡ true
+void_form_fine CType-F.Int e = refl
+void_form_fine CType-F.Unsigned e = refl
+void_form_fine CType-F.Char e = refl
+void_form_fine CType-F.Void e = refl
+void_form_fine (CType-F.Struct tag) e = refl
+void_form_fine (CType-F.Pointer k t) e = absurd cc
+
+pub void_fine : (t : CType) → is_void t ≡ true → IsFine t
+void_fine t e = ap (λ (f : Fine). f.fine) (fine_out t) ∙ void_form_fine (out-CType t) e
 
 both : (a b : Bool) → (a && b) ≡ true → (a ≡ true) × (b ≡ true)
 both true b e = (refl, e)

@@ -162,7 +162,7 @@ few_variables p j h body small c =
       length-append (map (λ (d : Decl). variable_declared d) (map bare_decl h.params)) (locals_of (bare_stmt body)),
     )
 
-variables_are : (p : Typed) (h : NotedHead) (body : NotedStmt) → (setting_of p h body).variables ≡ variables_of h body
+pub variables_are : (p : Typed) (h : NotedHead) (body : NotedStmt) → (setting_of p h body).variables ≡ variables_of h body
 unfolding setting_of
 variables_are p h body = refl
 
