@@ -1,6 +1,6 @@
 -- The claims of all expressions that are covered, by induction.
 use Rattle.std.proofs.Common.{⊎_elim, ◌≡◌, [], inl, inr, refl, sym, ap, subst, ◌∙◌, ℕ, ◌+◌, Bool, true, false, List, ◌++◌}
-use Rattle.std.specs.Prelude.{◌==◌, ◌<◌, ◌^◌, ◌&&◌, not, length, pos, ◌+ℤ◌, if◌then◌else◌, Option, None, Some, Ok}
+use Rattle.std.specs.Prelude.{◌==◌, ◌<◌, ◌^◌, ◌&&◌, not, length, ◌+ℤ◌, if◌then◌else◌, Option, None, Some, Ok}
 use Rattle.ckc_base.specs.declared.places.Pos.{Pos}
 use Rattle.ckc_types.specs.declared.types.Kind.TheVariants as kind
 use Rattle.ckc_types.specs.declared.types.CType.{CType, CType-F, out-CType}

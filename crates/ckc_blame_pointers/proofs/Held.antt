@@ -1,6 +1,6 @@
 -- The claims of a pointer that is a member of a structure, however that is reached.
 use Rattle.std.proofs.Common.{◌≡◌, ◌⊎◌, refl, sym, ap, subst, ◌∙◌, ℕ, Bool, true, false, List, [], ◌∷◌, ◌++◌, arith}
-use Rattle.std.specs.Prelude.{◌+◌, ◌<◌, ◌≤◌, ◌^◌, ◌&&◌, if◌then◌else◌, find, flat_map, ℤ, pos, ◌+ℤ◌, Option, None, Some, IfSome, Result, Ok, Err, IsOk}
+use Rattle.std.specs.Prelude.{◌<◌, ◌≤◌, ◌^◌, ◌&&◌, if◌then◌else◌, find, flat_map, ℤ, pos, ◌+ℤ◌, Option, None, Some, IfSome, Result, Ok, Err, IsOk}
 use Rattle.std.specs.List.{Contains}
 use Rattle.std.specs.Option.{option_map}
 use Rattle.std.proofs.lemmas.Bool.{eqb-true}

@@ -4,12 +4,8 @@ use Rattle.std.specs.Prelude.{◌<◌, ◌^◌, length, pos, Option, None, Some,
 use Rattle.ckc_base.specs.declared.places.Pos.{Pos}
 use Rattle.ckc_types.specs.declared.types.Kind.{Kind}
 use Rattle.ckc_types.specs.declared.types.Kind.TheVariants as kind
-use Rattle.ckc_types.specs.declared.types.CType.TheVariants as ctype
 use Rattle.ckc_linear.specs.declared.forms.Form.{Form}
-use Rattle.ckc_syntax.specs.declared.tree.Name.TheVariants as name
-use Rattle.ckc_syntax.specs.declared.tree.TreeOp.TheVariants as op
 use Rattle.ckc_typed.specs.declared.environment.Globals.{Globals}
-use Rattle.ckc_typed.specs.declared.typed.Range.TheVariants as range
 use Rattle.ckc_typed.specs.Trees.{NotedExpr}
 use Rattle.ckc_typed.specs.Types.{kind_of, element_of}
 use Rattle.ckc_bounds_views.specs.Parts.{NodeOfViews}
@@ -27,7 +23,6 @@ use Rattle.ckc_build_values.specs.Places.{element_place, read_at}
 use Rattle.ckc_blame_sound.specs.Settings.{Setting}
 use Rattle.ckc_blame_sound.specs.Points.{HoldsAt}
 use Rattle.ckc_blame_numbers.specs.Typed.{Agrees}
-use Rattle.ckc_blame_numbers.proofs.Exprs as numbers
 use Rattle.ckc_blame_sound.specs.Bodies.{AreFresh}
 use Rattle.ckc_blame_pointers.specs.Valuations.{address_by}
 use Rattle.ckc_blame_pointers.specs.Covered.{DeclareLocals, IsSoundStore, IsElement}
