@@ -1,12 +1,10 @@
 -- The claims of all expressions that are covered, by induction.
 use Rattle.std.proofs.Common.{⊎_elim, ◌≡◌, [], inl, inr, refl, sym, ap, subst, ◌∙◌, ℕ, ◌+◌, Bool, true, false, List, ◌++◌}
-use Rattle.std.specs.Prelude.{◌==◌, ◌<◌, ◌^◌, ◌&&◌, not, length, pos, ◌+ℤ◌, if◌then◌else◌, Option, None, Some, Ok}
+use Rattle.std.specs.Prelude.{◌==◌, ◌<◌, ◌^◌, ◌&&◌, not, length, ◌+ℤ◌, if◌then◌else◌, Option, None, Some, Ok}
 use Rattle.ckc_base.specs.declared.places.Pos.{Pos}
-use Rattle.ckc_types.specs.declared.types.Kind.{Kind}
 use Rattle.ckc_types.specs.declared.types.Kind.TheVariants as kind
 use Rattle.ckc_types.specs.declared.types.CType.{CType, CType-F, out-CType}
 use Rattle.ckc_types.specs.declared.types.CType.TheVariants as ctype
-use Rattle.ckc_linear.specs.declared.forms.Form.{Form}
 use Rattle.ckc_syntax.specs.declared.tree.Name.{Name}
 use Rattle.ckc_syntax.specs.declared.tree.Name.TheVariants as name
 use Rattle.ckc_syntax.specs.declared.tree.TreeOp.{TreeOp}
@@ -41,7 +39,7 @@ use Rattle.ckc_source.specs.declared.expr.Integer.{Integer}
 use Rattle.ckc_source.specs.declared.expr.Integer.TheVariants.{Int}
 use Rattle.ckc_source.specs.Code.{Expr, Number, Tested}
 use Rattle.ckc_source.specs.Eval.{Store, evaluated}
-use Rattle.ckc_source.specs.Words.{exact, elements_behind}
+use Rattle.ckc_source.specs.Words.{exact}
 use Rattle.ckc_typed.specs.Layouts.{member_number}
 use Rattle.ckc_build_values.specs.Kinds.{integer_of, width_of, size_behind, count_of_kind, tag_of}
 use Rattle.ckc_build_values.specs.Members.{offset_of, count_of_member}
@@ -67,8 +65,7 @@ use Rattle.ckc_blame_pointers.proofs.Binary.{ExprClaims, other_claims, unequal_c
 use Rattle.ckc_blame_pointers.proofs.Sums.{IsIndex, fresh_on, sum_claims, difference_claims}
 use Rattle.ckc_blame_pointers.proofs.Later.{next_more, next_both, left_room, right_room, parts_room}
 use Rattle.ckc_blame_pointers.proofs.Unwidened.{fresh_same, right_fresh_is}
-use Rattle.ckc_blame_pointers.proofs.Elements.{at_pointer, IsRanged, ranged_pointer, WidensThere, target_aims, element_aims, element_claims, wide_terminated, narrow_there}
-use Rattle.ckc_blame_pointers.proofs.Claims.{IsOfLocal}
+use Rattle.ckc_blame_pointers.proofs.Elements.{IsRanged, ranged_pointer, target_aims, element_aims, element_claims, narrow_there}
 use Rattle.ckc_blame_pointers.proofs.Loads.{integer_part, no_count}
 use Rattle.ckc_blame_slots.specs.Cells.{IsPart}
 use Rattle.ckc_blame_pointers.proofs.Addresses.{address_row, target_claims, index_claims}
@@ -76,6 +73,7 @@ use Rattle.ckc_blame_pointers.proofs.Rows.{counted_pointer}
 use Rattle.ckc_blame_pointers.proofs.Arrows.{arrow_node}
 use Rattle.ckc_blame_pointers.proofs.Held.{held_claims}
 use Rattle.ckc_blame_pointers.proofs.Through.{target_reached, element_reached, target_structure, element_structure}
+use Rattle.ckc_blame_pointers.proofs.ReadThrough.{read_claims}
 use Rattle.ckc_blame_pointers.proofs.Casts.{one_claims, counted_claims, no_limits, whole_elements}
 use Rattle.ckc_blame_pointers.proofs.Operands.{tested_pointer, operand_scalar, operand_testable}
 use Rattle.ckc_blame_pointers.proofs.Reach.{IsStructurePlace}
@@ -259,40 +257,6 @@ module _ (globals : Globals) (s : Setting) (agrees : Agrees globals s) (declares
     some_if true t r e = cc
     some_if false t r e = absurd (cc)
 
-    -- `*p` and `p[e]`
-    read_claims : (n : NodeOfViews) (e : KeptExpr) → IsElement e.0 → (place : Pos) (index : Integer) (v w : Expr) (R : Value → Type 0) → IsNotStuck (ExprClaims s store entry here e.0) (evaluated store v)
-        → IsNotStuck R (evaluated store w) → (few : (view s.frame e.0).values + 1 < 2 ^ 32) (fresh : ℕ) (little : fresh + length ((view s.frame e.0).fresh here.at) < 2 ^ 32) (are : AreFresh s.frame fresh) → access_fault (view s.frame e.0) place fresh here.at ≡ None
-        → (node_view s.frame n).null ≡ false → (node_view s.frame n).is_zero ≡ false
-        → ((b : Bool) → (node_view s.frame n).side b here.at ≡ widening_side s.frame (node_view s.frame n).behind ((node_view s.frame n).target 0) b here.at) → (node_view s.frame n).behind ≡ kind_of e.0.note.ctype
-        → ((x : Value) (c : ExprClaims s store entry here e.0 x) (j : Value) → evaluated store w ≡ Ok j → (a : ℕ) → pos a ≡ elements_behind x.number (size_behind s.text.layout e.0.note.ctype) (exact index j.number)
-        → (f : Form) → (node_view s.frame n).target 0 here.at.facts ≡ Some f
-        → (pos a ≡ address_by s store.locals (at_pointer s store entry next ready here h e.0 fresh few little are x c).after (size_behind s.text.layout e.0.note.ctype) f) × IsOfLocal s e.0.note.ctype f.base)
-        → IsNotStuck (NodeClaims s store entry here h (element_of e.0.note.ctype) (node_view s.frame n))
-        (evaluated store (read_at s.text.layout (element_of e.0.note.ctype) (count_of_kind (kind_of (element_of e.0.note.ctype))) (element_place s.text.layout e.0.note.ctype place index v w)))
-    read_claims n e node place index v w R left right few fresh little are fault known some same behind aims =
-        subst (λ x. IsNotStuck (NodeClaims s store entry here h (element_of e.0.note.ctype) (node_view s.frame n)) (evaluated store x))
-        (sym (ap (λ o. read_at s.text.layout (element_of e.0.note.ctype) o (element_place s.text.layout e.0.note.ctype place index v w)) (no_count (element_of e.0.note.ctype) node.integer)))
-        (element_claims s store entry next ready here h e.0 fresh few little are place index v w R left right counted
-        ranged 0 (element_of e.0.note.ctype) (integer_part s.text.layout (element_of e.0.note.ctype) node.integer) node.integer (node_view s.frame n) known some same (widens (kind_of e.0.note.ctype) refl counted))
-      where
-        counted : is_counted_kind (kind_of e.0.note.ctype) ≡ true
-        counted = node.counted
-
-        ranged : (x : Value) → ExprClaims s store entry here e.0 x → IsRanged s store entry next ready here h e.0 fresh few little are x
-        ranged = ranged_pointer s store entry next ready here h e.0 fresh few little are place (ap is_counted_kind (ap kind_of (viewed_type e.0)) ∙ counted) fault
-
-        widens : (q : Option Kind) → kind_of e.0.note.ctype ≡ q → is_counted_kind q ≡ true
-            → WidensThere s store entry next ready here h e.0 fresh few little are place index v w R left right counted node.integer ranged (node_view s.frame n)
-        widens (Some kind.Arr) is c =
-            narrow_there s store entry next ready here h e.0 fresh few little are place index v w R left right counted ranged 0 (element_of e.0.note.ctype)
-            (integer_part s.text.layout (element_of e.0.note.ctype) node.integer) (node_view s.frame n) (ap (λ q. widening s.frame q ((node_view s.frame n).target 0 here.at.facts) here.at) (behind ∙ is))
-        widens (Some kind.Nt) is c =
-            wide_terminated s store entry next ready here h e.0 fresh few little are place index v w R left right counted node.integer ranged globals agrees declares (node_view s.frame n) (behind ∙ is)
-            (λ x j c d there a at f target. aims x c j there a at f target)
-        widens (Some kind.One) is c = absurd (cc)
-        widens (Some kind.Raw) is c = absurd (cc)
-        widens None is c = absurd (cc)
-
     covered_sized : (e : NotedExpr) → AreCovered s store here.seen e → size_behind s.text.layout e.note.ctype < 2 ^ 32
     covered_sized e c = (every_here-Expr Name Note AnyLimits AnyNode (IsCoveredExpr s store here.seen) e c).sized
 
@@ -406,7 +370,7 @@ module _ (globals : Globals) (s : Setting) (agrees : Agrees globals s) (declares
 
         several : IsElement e.0 → Of (element_of e.0.note.ctype) e.0.note.ctype
         several node =
-            read_claims (Node-F.Un op.Deref (view s.frame e.0)) e node place Int ((part_of e.0).value s.text s.variables k) (Number 0) (λ x. Unit {0})
+            read_claims globals s agrees declares store entry next ready here h (Node-F.Un op.Deref (view s.frame e.0)) e.0 (viewed_type e.0) node place Int ((part_of e.0).value s.text s.variables k) (Number 0) (λ x. Unit {0})
             inside tt (covered_few e.0 covered) fresh little are fault
             refl refl (λ b. refl) (ap kind_of (viewed_type e.0)) (λ x c j there a at f target. target_aims s store entry next ready here h e.0 fresh (covered_few e.0 covered) little are x c j there a at f target)
     node_step (Node-F.Un op.Address e) note place row typed covered node checked scalar fresh little are fault judged noted k =
@@ -415,7 +379,7 @@ module _ (globals : Globals) (s : Setting) (agrees : Agrees globals s) (declares
     node_step (Node-F.Index e f) note place row typed covered node checked scalar fresh little are fault judged noted k =
         let parts = two_parts (λ a b. Node-F.Index a b) (λ a b c d e. (cc, cc)) _ _ e.0 f.0 judged in
         subst (λ t. Of t (part_of e.0).ctype (part_of f.0).ctype) is (subst (λ u. Of (element_of e.0.note.ctype) u (part_of f.0).ctype) (sym (parted_type e.0)) (subst (λ q. Of (element_of e.0.note.ctype) e.0.note.ctype q) (sym (parted_type f.0))
-        (⊎_elim (λ node. read_claims (Node-F.Index (view s.frame e.0) (view s.frame f.0)) e node place (integer_of f.0.note.ctype) ((part_of e.0).value s.text s.variables k)
+        (⊎_elim (λ node. read_claims globals s agrees declares store entry next ready here h (Node-F.Index (view s.frame e.0) (view s.frame f.0)) e.0 (viewed_type e.0) node place (integer_of f.0.note.ctype) ((part_of e.0).value s.text s.variables k)
         ((part_of f.0).value s.text s.variables (k + (part_of e.0).literals)) (ExprClaims s store entry here f.0)
         (e.1.claims typed.0 here covered.0 scalars.0 h fresh first are parts.0 k)
         (f.1.claims typed.1 here covered.1 scalars.1 h (fresh_behind (view s.frame e.0) fresh here.at) (right_room fresh ((view s.frame e.0).fresh here.at) ((view s.frame f.0).fresh here.at) little) (are_on e.0 fresh first are) parts.1 (k + (part_of e.0).literals))

@@ -40,3 +40,4 @@ pub mod Shorter
 pub mod Casts
 pub mod Operands
 pub mod Literals
+pub mod ReadThrough
