@@ -399,6 +399,11 @@ module _ (p : Typed) (j : IsJudged p) where
   unfolding setting_of
   head_in h body = refl
 
+  -- a call of a function is judged by the head of the function itself
+  pub head_is : (s : Setting) (f : Function) (k : ℕ) (h : NotedHead) (body : NotedStmt) → IsFunction p s f → Contains p.tree.items (item.Function h body) → h.name ≡ name.Function k
+      → slice_get s.frame.heads k ≡ Some (setting_of p h body).head
+  head_is s f k h body is c n = ap (λ hs. slice_get hs k) (heads_in s f is) ∙ head_at k h body c n ∙ ap Some (sym (head_in h body))
+
   pub called : (s : Setting) (f callee : Function) (k : ℕ) → IsFunction p s f → slice_get (functions_elaborated p) (number_of (name.Function k) p.tree.items) ≡ Some callee
       → (called : Setting) × IsFunction p called callee × (slice_get s.frame.heads k ≡ Some called.head)
   called s f callee k is e =
@@ -406,7 +411,7 @@ module _ (p : Typed) (j : IsJudged p) where
       let S = setting_of p c.head c.body in (
         S,
         record { head = c.head; body = c.body; literals = c.literals; there = c.there; judged = refl; runs = c.runs },
-        ap (λ hs. slice_get hs k) (heads_in s f is) ∙ head_at k c.head c.body c.there c.named ∙ ap Some (sym (head_in c.head c.body)),
+        head_is s f k c.head c.body is c.there c.named,
       )
 
   pub judged : (s : Setting) (f : Function) (k : ℕ) (h : HeadBounds) → IsFunction p s f → slice_get s.frame.heads k ≡ Some h

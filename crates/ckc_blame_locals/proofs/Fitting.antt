@@ -85,7 +85,7 @@ fold_is e =
 
 module _ (frame : Frame) (e f : NotedExpr) (fresh : ℕ) (at : State) (is : (view frame e).judged fresh at ≡ Ok f) where
   -- judging keeps which local an expression is
-  same_local : local_of f ≡ local_of e
+  pub same_local : local_of f ≡ local_of e
   same_local =
       sym (fold_is f) ∙ same_fold frame (Unit {0}) (Option ℕ) (Option ℕ) limits_any local_layer whole (λ n pos note r. refl) e f fresh at is ∙ fold_is e
 
