@@ -43,7 +43,8 @@ pub fn targets_aim()
     ensures aims { (globals : Globals) (s : Setting) (entry : List ℕ) (here : Here)
         (before : NotedExpr) (p : Placed) (fresh literals next : ℕ) (store : Store) →
         Agrees globals s → DeclareLocals s → KeepRunsFree s.text → IsSoundStore s store next
-        → fresh + length ((view s.frame before).fresh here.at) < 2 ^ 32 → AreFresh s.frame fresh → IsTyped globals s before
+        → fresh + length ((view s.frame before).fresh here.at) < 2 ^ 32 → AreFresh s.frame fresh
+        → IsTyped globals s before
         → (view s.frame before).judged fresh here.at ≡ Ok p.target
         → is_scalar p.target.note.ctype ≡ true
         → IsCoveredTarget s store here.seen p.target (out-Node Name Note p.target.node)
