@@ -10,3 +10,4 @@ pub mod Values
 pub mod StaticTargets
 pub mod Pointees
 pub mod Few
+pub mod Rooms

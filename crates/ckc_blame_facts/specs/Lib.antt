@@ -1,3 +1,4 @@
 pub mod Statics
 pub mod Pointees
 pub mod Values
+pub mod Rooms

@@ -1,6 +1,6 @@
 //! What follows from the definitions alone, each the contract of a function that does nothing.
 
-ghost use Rattle.std.specs.Prelude.{◌+◌, ◌^◌, ◌≡◌, ◌<◌, ◌≤◌, ℕ, length, true, None, Some, slice_get};
+ghost use Rattle.std.specs.Prelude.{◌+◌, ◌^◌, ◌≡◌, ◌⊎◌, ◌<◌, ◌≤◌, ℕ, List, [], ◌∷◌, length, true, None, Some, IfSome, slice_get};
 ghost use Rattle.ckc_types.specs.declared.types.CType.{CType};
 ghost use Rattle.ckc_types.specs.declared.types.Kind.{Kind};
 ghost use Rattle.ckc_types.specs.declared.types.Kind.TheVariants as kind;
@@ -11,7 +11,7 @@ ghost use Rattle.ckc_typed.specs.declared.typed.Note.{Note};
 ghost use Rattle.ckc_syntax_limits.specs.Marks.{is_node, marks_of_expr};
 ghost use Rattle.ckc_syntax_limits.specs.Small.{Small, how_many};
 ghost use Rattle.ckc_typed.specs.declared.typed.Typed.{Typed};
-ghost use Rattle.ckc_typed.specs.Trees.{NotedExpr};
+ghost use Rattle.ckc_typed.specs.Trees.{NotedExpr, NotedStmt};
 ghost use Rattle.ckc_bounds_points.specs.declared.frame.Frame.{Frame};
 ghost use Rattle.ckc_bounds_views.specs.Views.{view};
 ghost use Rattle.ckc_typed.specs.Environment.{type_of_name};
@@ -26,7 +26,7 @@ ghost use Rattle.ckc_source.specs.declared.expr.Count.{Count};
 ghost use Rattle.ckc_build_values.specs.Names.{count_of_static};
 ghost use Rattle.ckc_blame_contained.specs.Elements.{AreCounted};
 ghost use Rattle.ckc_bounds_points.specs.declared.frame.HeadBounds.{HeadBounds};
-ghost use Rattle.ckc_source.specs.Code.{Function};
+ghost use Rattle.ckc_source.specs.Code.{Code, Expr, Function};
 ghost use Rattle.ckc_build_elaborate.specs.Functions.{functions_elaborated};
 ghost use Rattle.ckc_build_elaborate.specs.Names.{number_of};
 ghost use Rattle.ckc_blame_sound.specs.Settings.{Setting, IsFunction};
@@ -35,6 +35,14 @@ ghost use Rattle.ckc_blame_sound.specs.Slots.{AreFilled};
 ghost use Rattle.ckc_blame_pointers.specs.Covered.{IsStaticInteger, IsStaticArray, IsStaticPointer};
 ghost use Rattle.ckc_blame_texts.specs.Judged.{IsJudged, globals_in};
 ghost use Rattle.ckc_blame_facts.specs.Values.{HaveFewValues};
+ghost use Rattle.ckc_blame_facts.specs.Rooms.{HasPlaces, HavePlaces, HaveSides};
+ghost use Rattle.ckc_base.specs.declared.arithmetic.Mode.{Mode};
+ghost use Rattle.ckc_syntax.specs.declared.tree.Act.{Act-F, out-Act};
+ghost use Rattle.ckc_bounds_statements.specs.Paths.{Here};
+ghost use Rattle.ckc_bounds_stores.specs.Stores.{stores_of};
+ghost use Rattle.ckc_blame_sound.specs.Few.{AreFew};
+ghost use Rattle.ckc_blame_sound.specs.Steps.{IsStep, IsCondition};
+ghost use Rattle.ckc_blame_sound.specs.Words.{exprs_in};
 ghost use Rattle.ckc_blame_facts.specs.Statics.{IsStatic, range_counted};
 
 /// The head by which a call of a function is judged is that of the function that the program
@@ -100,4 +108,23 @@ pub fn pointees_are_integers()
         → IsTyped globals s e → IsFine e.note.ctype }
     ensures integers { (t : CType) → IsFine t → kind_of t ≡ Some kind.Nt
         → is_integer (element_of t) ≡ true }
+{}
+
+/// In a text that keeps the limits of a text, of which the bodies have few nodes, there is room for
+/// the values and the fresh variables of the expressions of each step and of each condition, also of
+/// the two sides of an assignment, one after the other, and of those of a bundle.
+pub fn steps_have_room()
+    ensures step { (p : Typed) (s : Setting) (f : Function) (j : IsJudged p) → Small j.named.tree
+        → AreFew p → IsFunction p s f → (here there : Here) (step : Code → Code)
+        (st : IsStep s here step there)
+        → HavePlaces s.frame here.at here.next (exprs_in st.before) }
+    ensures sides { (p : Typed) (s : Setting) (f : Function) (j : IsJudged p) → Small j.named.tree
+        → AreFew p → IsFunction p s f → (here there : Here) (step : Code → Code)
+        (st : IsStep s here step there) (ss : List NotedStmt)
+        → (ss ≡ st.before ∷ []) ⊎ (out-Act Name Note st.before.body ≡ Act-F.Bundle ss)
+        → HaveSides s.frame here.at here.next (stores_of ss) }
+    ensures condition { (p : Typed) (s : Setting) (f : Function) (j : IsJudged p) →
+        Small j.named.tree → AreFew p → IsFunction p s f → (mode : Mode) (here yes no : Here)
+        (e : Expr) (c : IsCondition s mode here e yes no)
+        → IfSome c.before (HasPlaces s.frame here.at here.next) }
 {}

@@ -3,4 +3,7 @@
 
 mod laws;
 
-pub use laws::{callees_have_heads, functions_are_small, pointees_are_integers, statics_are_told};
+pub use laws::{
+    callees_have_heads, functions_are_small, pointees_are_integers, statics_are_told,
+    steps_have_room,
+};
