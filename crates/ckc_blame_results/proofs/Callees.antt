@@ -1,28 +1,26 @@
 -- Functions that are called, as they are judged and as they run.
 use Rattle.std.proofs.Common.{◌≡◌, ◌∙◌, sym, ap, refl, arith, ℕ, suc, ◌+◌, Bool, true, false, List, [], ◌∷◌, ◌++◌, map}
-use Rattle.std.specs.Prelude.{if◌then◌else◌, Option, None, Some, slice_get}
+use Rattle.std.specs.Prelude.{if◌then◌else◌, Option, Some, slice_get}
 use Rattle.std.specs.List.{Contains, find, flat_map}
 use Rattle.std.proofs.lemmas.Bool.{eqb-true}
 use Rattle.ckc_syntax.specs.declared.tree.Name.{Name}
 use Rattle.ckc_syntax.specs.declared.tree.Name.TheVariants as name
 use Rattle.ckc_syntax.specs.declared.tree.Item.TheVariants as item
-use Rattle.ckc_types.specs.declared.types.CType.{CType}
 use Rattle.ckc_typed.specs.declared.environment.Signature.{Signature}
 use Rattle.ckc_typed.specs.declared.typed.Typed.{Typed}
-use Rattle.ckc_typed.specs.Environment.{same_name, signature_declared, signatures_of_item, signature_named, type_declared}
+use Rattle.ckc_typed.specs.Environment.{same_name, signature_declared, signatures_of_item, type_declared}
 use Rattle.ckc_typed.specs.Trees.{NotedDecl, NotedHead, NotedItem, NotedStmt}
 use Rattle.ckc_typed.specs.Types.{type_written}
 use Rattle.ckc_typed_welltyped.specs.Noteless.{bare_decl, bare_head, bare_item}
 use Rattle.ckc_source.specs.Code.{Function}
-use Rattle.ckc_build_elaborate.specs.Functions.{function_elaborated, functions_in, functions_elaborated, literals_of_item}
+use Rattle.ckc_build_elaborate.specs.Functions.{function_elaborated, functions_in, literals_of_item}
 use Rattle.ckc_build_elaborate.specs.Lists.{numbered}
 use Rattle.ckc_build_elaborate.specs.Names.{number_of, params_of}
 use Rattle.ckc_build_elaborate.specs.Objects.{count_declared}
-use Rattle.ckc_blame_sound.specs.Settings.{Setting, IsFunction, setting_of}
-use Rattle.ckc_blame_sound.specs.Bodies.{globals_of_text}
+use Rattle.ckc_blame_sound.specs.Settings.{setting_of}
 use Rattle.ckc_blame_texts.specs.Judged.{IsJudged}
 use Rattle.ckc_blame_facts.proofs.Callees.{first_in, later_in, head_is}
-use Rattle.ckc_blame_calls.specs.Callees.{IsCallee, HaveCallees}
+use Rattle.ckc_blame_calls.specs.Callees.{HaveCallees}
 
 -- a function of some items with this signature, at the number that its name has
 record IsFound (p : Typed) (k c : ℕ) (items : List NotedItem) (t : Signature) : Type 0 where

@@ -1,17 +1,15 @@
 -- What a call gives, said of what it is judged to be and of the place that gets it.
-use Rattle.std.proofs.Common.{◌≡◌, refl, sym, ap, subst, ◌∙◌, ℕ, arith}
-use Rattle.std.specs.Prelude.{◌≤◌, ◌^◌, ◌-◌, Bool, true, false, Option, None}
+use Rattle.std.proofs.Common.{◌≡◌, sym, ap, subst, ◌∙◌, ℕ, arith}
+use Rattle.std.specs.Prelude.{◌≤◌, ◌^◌, ◌-◌, true, false}
 use Rattle.ckc_syntax.specs.declared.tree.Name.{Name}
 use Rattle.ckc_syntax.specs.declared.tree.Node.{Node-F, out-Node}
 use Rattle.ckc_types.specs.declared.types.CType.{CType}
-use Rattle.ckc_linear.specs.declared.forms.Form.{Form}
 use Rattle.ckc_typed.specs.declared.typed.Note.{Note}
 use Rattle.ckc_typed.specs.Trees.{NotedExpr}
 use Rattle.ckc_typed.specs.Types.{is_char, is_pointer}
 use Rattle.ckc_bounds_points.specs.declared.frame.Frame.{Frame}
 use Rattle.ckc_bounds_points.specs.Flow.{State}
 use Rattle.ckc_bounds_points.specs.Forms.{in_type}
-use Rattle.ckc_bounds_points.specs.Shown.{Known}
 use Rattle.ckc_bounds_views.specs.Parts.{View, capped, fresh_behind}
 use Rattle.ckc_bounds_views.specs.Views.{node_view, expr_view, view}
 use Rattle.ckc_bounds_stores.specs.declared.values.Numbered.{Numbered}

@@ -16,26 +16,23 @@ use Rattle.ckc_syntax.specs.declared.tree.Act.TheVariants as act
 use Rattle.ckc_types.specs.declared.types.CType.{CType}
 use Rattle.ckc_typed.specs.declared.typed.Note.{Note}
 use Rattle.ckc_typed.specs.declared.typed.Typed.{Typed}
-use Rattle.ckc_typed.specs.Environment.{type_of_name, variable_declared}
+use Rattle.ckc_typed.specs.Environment.{type_of_name}
 use Rattle.ckc_typed.specs.Trees.{NotedDecl, NotedExpr, NotedInit, NotedLayer, NotedStmt}
 use Rattle.ckc_typed.specs.Types.{is_char, is_pointer, type_written}
 use Rattle.ckc_typed_welltyped.specs.Declarations.{StartsLocal}
 use Rattle.ckc_typed_welltyped.specs.Expressions.{AnyLimits, AnyNode, HasType, IsNoted, WellTypedExpr}
 use Rattle.ckc_typed_welltyped.specs.Statements.{act_rows, WellTypedStmt}
 use Rattle.ckc_bounds_points.specs.Codes.{not_contained}
-use Rattle.ckc_bounds_points.specs.declared.frame.Local.{Local}
-use Rattle.ckc_bounds_points.specs.Frames.{local_at}
-use Rattle.ckc_bounds_points.specs.Flow.{State}
 use Rattle.ckc_bounds_views.specs.Parts.{fresh_behind}
 use Rattle.ckc_bounds_views.specs.Views.{view}
 use Rattle.ckc_bounds_stores.specs.Stores.{Placed, numbered, stores_of, stored_placed, with_store}
 use Rattle.ckc_bounds_stores.specs.Targets.{local_in, local_of}
-use Rattle.ckc_bounds_statements.specs.Paths.{Here, path, value_judged, init_judged, bounds_judged, starts_within, declared_here, decl_judged, stated, act_judged}
+use Rattle.ckc_bounds_statements.specs.Paths.{Here, value_judged, init_judged, bounds_judged, starts_within, declared_here, decl_judged, stated, act_judged}
 use Rattle.ckc_source.specs.declared.stmt.Kept.{Kept}
 use Rattle.ckc_source.specs.declared.stmt.Kept.TheVariants as kept
 use Rattle.ckc_source.specs.declared.stmt.Spot.{Spot}
 use Rattle.ckc_source.specs.Blocks.{Block}
-use Rattle.ckc_source.specs.Code.{Code, Call, End, Expr, Function}
+use Rattle.ckc_source.specs.Code.{Code, Call, End, Expr}
 use Rattle.ckc_source.specs.States as states
 use Rattle.ckc_build_elaborate.specs.Literals.{literals_of_bounds}
 use Rattle.ckc_build_elaborate.specs.Statements.{act_code}
@@ -53,7 +50,7 @@ use Rattle.ckc_blame_sound.proofs.Kept.{point_kept}
 use Rattle.ckc_blame_slots.specs.Cells.{AreSound}
 use Rattle.ckc_blame_numbers.proofs.Statements.{made_of, pair_same, passes}
 use Rattle.ckc_blame_numbers.proofs.Stepping.{ActLayer, viewed, judged_is, parted, code_is, out_call, first_step}
-use Rattle.ckc_blame_texts.specs.Judged.{IsJudged, globals_in}
+use Rattle.ckc_blame_texts.specs.Judged.{IsJudged}
 use Rattle.ckc_blame_texts.proofs.Frames.{frames_agree, locals_are_there}
 use Rattle.ckc_blame_texts.proofs.SameViews.{same_view}
 use Rattle.ckc_blame_declared.proofs.HaveEnds.{locals_have_ends}
@@ -69,9 +66,9 @@ use Rattle.ckc_blame_locals.proofs.Stored.{assignment_stored}
 use Rattle.ckc_blame_scopes.proofs.Layers.{declared_are}
 use Rattle.ckc_blame_scopes.proofs.Seen.{declared_unnamed}
 use Rattle.ckc_blame_calls.specs.Callees.{HaveFewVariables}
-use Rattle.ckc_blame_calls.specs.Results.{IsResultGiven, IsResultOf, ResultsLeadOn, kept_in, type_of, type_of_act, value_of, value_of_act, value_of_init}
+use Rattle.ckc_blame_calls.specs.Results.{IsResultGiven, IsResultOf, ResultsLeadOn, kept_in, type_of, type_of_act, value_of_act, value_of_init}
 use Rattle.ckc_blame_calls.proofs.Calls.{value_is_judged}
-use Rattle.ckc_blame_calls.proofs.Stepping.{IsCalled, assigned_called, out_assign, out_local}
+use Rattle.ckc_blame_calls.proofs.Stepping.{assigned_called, out_local}
 use Rattle.ckc_blame_results.specs.Spared.{SpareResults}
 use Rattle.ckc_blame_results.proofs.Given.{name_needs_none, result_received}
 use Rattle.ckc_blame_results.proofs.Kept.{IsLocalThere, elsewhere, goes_local}

@@ -15,6 +15,6 @@ use Rattle.ckc_blame_sound.specs.Steps.{IsStep}
 -- The bounds of no result name a local that a step of the function declares.
 abbrev pub SpareResults : Typed → Type 0
 SpareResults p =
-    (s : Setting) (f : Function) (here there : Here) (step : Code → Code) (is : IsStep s here step there) (d : NotedDecl)
-    (k : ℕ) → IsFunction p s f → out-Act Name Note is.before.body ≡ Act-F.Local d → d.name ≡ name.Local k
-    → in_bounds k s.head.bounds ≡ false
+    (s : Setting) (f : Function) (here there : Here) (step : Code → Code) (is : IsStep s here step there)
+    (d : NotedDecl) (k : ℕ) → IsFunction p s f → out-Act Name Note is.before.body ≡ Act-F.Local d
+    → d.name ≡ name.Local k → in_bounds k s.head.bounds ≡ false

@@ -1,5 +1,5 @@
-//! What the laws of calls and returns ask of a text, of each judged one: its functions, the points after results, and
-//! the words that arguments give.
+//! What the laws of calls and returns ask of each judged text: its functions, the points after
+//! results, and the words that arguments give.
 #![tactic(auto)]
 
 mod laws;
