@@ -1,5 +1,5 @@
 -- What is said of a `calloc`, and what judging makes of it.
-use Rattle.std.proofs.Common.{◌≡◌, refl, sym, ap, subst, ◌∙◌, ℕ, Bool, true, false, List, [], rules}
+use Rattle.std.proofs.Common.{◌≡◌, refl, sym, ap, subst, ◌∙◌, ℕ, Bool, true, false, rules}
 use Rattle.std.specs.Prelude.{◌&&◌, if◌then◌else◌, is_some, Option, None, Some, Ok, Err}
 use Rattle.ckc_base.specs.Outcomes.{Outcome, bind}
 use Rattle.ckc_types.specs.declared.types.CType.{CType}
@@ -14,7 +14,7 @@ use Rattle.ckc_typed.specs.declared.environment.Globals.{Globals}
 use Rattle.ckc_typed.specs.declared.typed.Note.{Note}
 use Rattle.ckc_typed.specs.declared.typed.Range.TheVariants as range
 use Rattle.ckc_typed.specs.Conversions.{is_allocation, is_allocation_form}
-use Rattle.ckc_typed.specs.Trees.{NotedExpr, NotedLayer, NotedNode, TypeTree}
+use Rattle.ckc_typed.specs.Trees.{NotedExpr, NotedLayer, TypeTree}
 use Rattle.ckc_typed.specs.Types.{is_integer, is_pointer, type_written}
 use Rattle.ckc_typed_welltyped.specs.Expressions.{AnyLimits, AnyNode, HasType, IsAllocation}
 use Rattle.ckc_bounds_points.specs.declared.frame.Frame.{Frame}

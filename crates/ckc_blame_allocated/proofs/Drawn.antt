@@ -1,6 +1,6 @@
 -- A `calloc` that is drawn keeps what is judged of it.
 use Rattle.std.proofs.Common.{◌≡◌, ◌≢◌, ⊎_elim, refl, sym, ap, subst, ◌∙◌, ℕ, Bool, true, false, List, [], ◌∷◌, ◌++◌, rules, arith}
-use Rattle.std.specs.Prelude.{◌+◌, ◌*◌, ◌<◌, ◌≤◌, ◌^◌, ◌&&◌, ◌||◌, if◌then◌else◌, is_some, length, ℤ, pos, Option, None, Some, Result, Ok, Err}
+use Rattle.std.specs.Prelude.{◌+◌, ◌*◌, ◌<◌, ◌≤◌, ◌^◌, ◌&&◌, ◌||◌, if◌then◌else◌, is_some, length, pos, Option, None, Some, Result, Ok, Err}
 use Rattle.std.specs.List.{All}
 use Rattle.std.proofs.lemmas.Bool.{and_parts}
 use Rattle.ckc_base.specs.declared.arithmetic.Width.TheVariants.{Byte, Word}
@@ -18,11 +18,10 @@ use Rattle.ckc_typed.specs.declared.typed.Range.{Range}
 use Rattle.ckc_typed.specs.declared.typed.Range.TheVariants as range
 use Rattle.ckc_typed.specs.declared.typed.Typed.{Typed}
 use Rattle.ckc_typed.specs.Constants.{size_of}
-use Rattle.ckc_typed.specs.Conversions.{converts, is_null, is_null_form, is_string, is_string_form, is_allocation, is_terminated_kind, kinds_allow, kind_converts}
+use Rattle.ckc_typed.specs.Conversions.{converts, is_null, is_null_form, is_string_form, is_allocation, is_terminated_kind, kinds_allow, kind_converts}
 use Rattle.ckc_typed.specs.Operands.{same_element}
 use Rattle.ckc_typed.specs.Trees.{NotedExpr}
 use Rattle.ckc_typed.specs.Types.{element_in, element_of, is_char, is_char_form, is_integer, is_integer_form, is_pointer, is_pointer_form, kind_of, same_type, type_written}
-use Rattle.ckc_bounds_points.specs.Flow as flow
 use Rattle.ckc_bounds_points.specs.Forms.{base_form, in_type}
 use Rattle.ckc_bounds_points.specs.Shown.{Known}
 use Rattle.ckc_bounds_ranges.specs.Rows.{range_from}
@@ -38,14 +37,14 @@ use Rattle.ckc_source.specs.declared.outcome.Halt.{Halt}
 use Rattle.ckc_source.specs.declared.outcome.Halt.TheVariants as halt
 use Rattle.ckc_source.specs.declared.outcome.Value.{Value as Given}
 use Rattle.ckc_source.specs.declared.program.Shape.{Shape}
-use Rattle.ckc_source.specs.Blocks.{Block, fresh as fresh_block}
+use Rattle.ckc_source.specs.Blocks.{fresh as fresh_block}
 use Rattle.ckc_source.specs.Code.{Right, Fresh, Function}
 use Rattle.ckc_source.specs.Eval.{given, evaluated}
 use Rattle.ckc_source.specs.States.{State}
 use Rattle.ckc_source.specs.Steps.{Drawn, allocated, drawn, store_of}
 use Rattle.ckc_source.specs.Words.{exact}
 use Rattle.ckc_build_values.specs.Expressions.{expr_elaborated}
-use Rattle.ckc_build_values.specs.Kinds.{integer_in, integer_of, pointee_of, size_behind}
+use Rattle.ckc_build_values.specs.Kinds.{integer_in, pointee_of, size_behind}
 use Rattle.ckc_build_elaborate.specs.Shapes.{shapes_elaborated}
 use Rattle.ckc_build_elaborate.specs.Steps.{is_terminated, right_form, right_of}
 use Rattle.ckc_blame_sound.specs.Bodies.{AreFresh}
@@ -66,7 +65,7 @@ use Rattle.ckc_blame_texts.proofs.Frames.{frames_agree}
 use Rattle.ckc_blame_texts.proofs.SameViews.{same_view}
 use Rattle.ckc_blame_contained.specs.Containment.{IsNarrowed, IsRanged, IsReadWithin, HasElement}
 use Rattle.ckc_blame_contained.specs.Elements.{number_kept}
-use Rattle.ckc_blame_contained.specs.Given.{memory_of, IsNew}
+use Rattle.ckc_blame_contained.specs.Given.{memory_of}
 use Rattle.ckc_blame_contained.proofs.Agree.{facts_agree}
 use Rattle.ckc_blame_control.proofs.Kept.{holds_kept, blocks_keep_ranges}
 use Rattle.ckc_blame_pointers.specs.Covered.{DeclareLocals, IsCovered}

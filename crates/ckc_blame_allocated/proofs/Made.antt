@@ -1,41 +1,33 @@
 -- The new block of a `calloc`, and what may be read of it.
 use Rattle.std.proofs.Common.{◌≡◌, refl, sym, ap, subst, ◌∙◌, ℕ, Bool, true, false, List, [], ◌∷◌, ◌++◌, arith}
-use Rattle.std.specs.Prelude.{◌==◌, ◌+◌, ◌-◌, ◌*◌, ◌%◌, ◌<◌, ◌≤◌, ◌^◌, nat_lt, nat_le, not, ◌&&◌, ◌||◌, if◌then◌else◌, ℤ, pos, negsuc, ◌+ℤ◌, ◌*ℤ◌, ◌≤ℤ◌, Option, None, Some, Err, IsOk}
+use Rattle.std.specs.Prelude.{◌==◌, ◌+◌, ◌-◌, ◌*◌, ◌<◌, ◌≤◌, ◌^◌, nat_lt, nat_le, not, ◌&&◌, ◌||◌, if◌then◌else◌, ℤ, pos, negsuc, ◌+ℤ◌, ◌*ℤ◌, ◌≤ℤ◌, None, Some, Err, IsOk}
 use Rattle.std.specs.List.{list_any}
 use Rattle.std.proofs.lemmas.Bool.{and_parts, ltb-true, leb-true}
 use Rattle.std.proofs.lemmas.Int.{ints}
 use Rattle.std.proofs.Math.IntN.{pos-*ℤ-pos}
 use Rattle.std.proofs.Math.Nat.{add-mul-mod_self_left, mul_comm}
 use Rattle.ckc_base.specs.Memory.{heap_has_room, data_end}
-use Rattle.ckc_types.specs.declared.types.CType.{CType}
 use Rattle.ckc_linear.specs.declared.forms.Base.TheVariants as base
 use Rattle.ckc_linear.specs.declared.forms.Form.{Form}
 use Rattle.ckc_typed.specs.declared.typed.Range.{Range}
 use Rattle.ckc_typed.specs.declared.typed.Range.TheVariants as range
-use Rattle.ckc_typed.specs.Conversions.{is_terminated_kind}
-use Rattle.ckc_typed.specs.Types.{kind_of, same_type}
+use Rattle.ckc_typed.specs.Types.{same_type}
 use Rattle.ckc_bounds_points.specs.Forms.{base_form, is_small}
 use Rattle.ckc_bounds_ranges.specs.Rows.{range_from, range_moved}
-use Rattle.ckc_bounds_stores.specs.Values.{received_range, has_element, one_less}
+use Rattle.ckc_bounds_stores.specs.Values.{one_less}
 use Rattle.ckc_source.specs.declared.expr.Pointee.{Pointee}
 use Rattle.ckc_source.specs.declared.outcome.Halt.TheVariants as halt
 use Rattle.ckc_source.specs.declared.program.Shape.{Shape}
 use Rattle.ckc_source.specs.Blocks.{Block, end_of, fresh}
 use Rattle.ckc_source.specs.Eval.{plain, ranged, reads_within, reads}
 use Rattle.ckc_source.specs.Runs.{is_within, is_in_block, is_in_member, member_runs, is_in, is_true}
-use Rattle.ckc_source.specs.Words.{exact}
-use Rattle.ckc_source.specs.declared.expr.Integer.TheVariants.{Int}
-use Rattle.ckc_build_values.specs.Kinds.{pointee_of, size_behind}
-use Rattle.ckc_blame_sound.specs.Settings.{Setting}
 use Rattle.ckc_blame_sound.specs.Values.{number_of}
 use Rattle.ckc_blame_sound.specs.Valuations.{Valuation, form_address}
-use Rattle.ckc_blame_slots.specs.Cells.{IsMade}
 use Rattle.ckc_blame_slots.proofs.Fresh.{fresh_length}
 use Rattle.ckc_blame_slots.proofs.Places.{element_between}
 use Rattle.ckc_blame_contained.specs.Containment.{Memory, IsReadBetween, IsReadWithin, HasElement}
 use Rattle.ckc_blame_pointers.proofs.Arrays.{type_same}
-use Rattle.ckc_blame_pointers.proofs.Widening.{any_at, within_tests}
-use Rattle.ckc_blame_allocated.specs.Allocated.{HasPlaces}
+use Rattle.ckc_blame_pointers.proofs.Widening.{within_tests}
 
 -- ---- counts
 

@@ -1,6 +1,6 @@
 -- A valuation in which a `calloc` stands for an address, and its fresh variable for what it counts.
-use Rattle.std.proofs.Common.{◌≡◌, ◌⊎◌, ⊎_elim, inl, inr, refl, sym, ap, subst, ◌∙◌, ℕ, suc, Bool, true, false, List, [], ◌∷◌, ◌++◌, length, length-append, arith}
-use Rattle.std.specs.Prelude.{◌==◌, ◌+◌, ◌<◌, ◌≤◌, ◌^◌, if◌then◌else◌, is_some, ℤ, pos, ◌+ℤ◌, Option, None, Some, IfSome}
+use Rattle.std.proofs.Common.{◌≡◌, ◌⊎◌, ⊎_elim, refl, sym, ap, subst, ◌∙◌, ℕ, suc, Bool, true, false, List, [], ◌∷◌, ◌++◌, length, length-append, arith}
+use Rattle.std.specs.Prelude.{◌==◌, ◌+◌, ◌<◌, ◌≤◌, ◌^◌, if◌then◌else◌, is_some, ℤ, pos, ◌+ℤ◌, Option, None, Some}
 use Rattle.std.proofs.lemmas.Bool.Decides.{nat_tests}
 use Rattle.std.proofs.lemmas.Int.{ints}
 use Rattle.ckc_types.specs.declared.types.CType.{CType}
@@ -8,7 +8,6 @@ use Rattle.ckc_types.specs.declared.types.CType.TheVariants as ctype
 use Rattle.ckc_linear.specs.declared.forms.Base.{Base}
 use Rattle.ckc_linear.specs.declared.forms.Base.TheVariants as base
 use Rattle.ckc_linear.specs.declared.forms.Form.{Form}
-use Rattle.ckc_typed.specs.Trees.{NotedExpr}
 use Rattle.ckc_typed.specs.Types.{is_integer}
 use Rattle.ckc_bounds_points.specs.declared.frame.Local.{Local}
 use Rattle.ckc_bounds_points.specs.Frames.{local_at}
@@ -16,22 +15,15 @@ use Rattle.ckc_bounds_points.specs.Flow.{State}
 use Rattle.ckc_bounds_points.specs.Forms.{in_type}
 use Rattle.ckc_bounds_views.specs.Parts.{View, capped, next_behind, fresh_behind, with_last}
 use Rattle.ckc_bounds_views.specs.Ranges.{form_or_fresh}
-use Rattle.ckc_bounds_views.specs.Views.{view}
 use Rattle.ckc_bounds_stores.specs.declared.values.Numbered.{Numbered}
-use Rattle.ckc_source.specs.Eval.{Store}
-use Rattle.ckc_source.specs.Words.{exact}
 use Rattle.ckc_source.specs.declared.expr.Integer.TheVariants.{Int}
 use Rattle.ckc_blame_sound.specs.Bodies.{AreFresh}
 use Rattle.ckc_blame_sound.specs.Settings.{Setting}
 use Rattle.ckc_blame_sound.specs.Values.{number_of, IsNumberOf}
-use Rattle.ckc_blame_sound.specs.Valuations.{Valuation, AreFacts, IsValuationOf, AreNumbersOf}
-use Rattle.ckc_blame_sound.proofs.Flow.{word_lies}
-use Rattle.ckc_blame_numbers.proofs.Types.{word_wide}
+use Rattle.ckc_blame_sound.specs.Valuations.{Valuation, IsValuationOf, AreNumbersOf}
 use Rattle.ckc_blame_slots.proofs.Apart.{three}
 use Rattle.ckc_blame_pointers.proofs.Later.{parts_room, next_more}
-use Rattle.ckc_blame_given.specs.Gives.{Continues, Gives}
-use Rattle.ckc_blame_given.proofs.Converted.{Becomes}
-use Rattle.ckc_blame_given.proofs.From.{kept_number}
+use Rattle.ckc_blame_given.specs.Gives.{Continues}
 use Rattle.ckc_blame_allocated.proofs.Callocs.{IsCalloc, count_type}
 
 -- ---- numbers
