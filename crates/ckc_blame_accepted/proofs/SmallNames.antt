@@ -26,7 +26,7 @@ use Rattle.ckc_typed_fit.proofs.NamedItems.{MembersNamed, ItemNamed, ItemsNamed,
 use Rattle.ckc_blame_texts.specs.Judged.{IsJudged}
 use Rattle.ckc_blame_texts.proofs.Bounded.{layout_kept}
 use Rattle.ckc_blame_texts.proofs.Members.{members_are}
-use Rattle.ckc_blame_facts.proofs.Tallies.{tally, is_tally, tally-append}
+use Rattle.ckc_blame_sound.proofs.Tallies.{tally, is_tally, tally-append}
 use Rattle.ckc_blame_targets.specs.Together.{HaveSmallNames}
 
 -- ---- spellings are numbered by their places
