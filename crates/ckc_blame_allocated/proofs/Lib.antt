@@ -1,0 +1,4 @@
+pub mod Callocs
+pub mod Valued
+pub mod Made
+pub mod Drawn

@@ -1,0 +1,5 @@
+pub mod Callees
+pub mod Given
+pub mod Kept
+pub mod Results
+pub mod Words
