@@ -32,7 +32,7 @@ use Rattle.ckc_blame_sound.specs.Settings.{Setting, IsFunction, frame_of_text, s
 use Rattle.ckc_blame_texts.specs.Judged.{IsJudged}
 use Rattle.ckc_blame_texts.proofs.Functions.{tree_named}
 use Rattle.ckc_blame_texts.proofs.Lists.{more_at}
-use Rattle.ckc_blame_first.proofs.Main.{find_function}
+use Rattle.ckc_blame_walk.proofs.Main.{find_function}
 use Rattle.ckc_blame_facts.proofs.SameHeads.{heads_same, same_bounds}
 
 -- ---- lists

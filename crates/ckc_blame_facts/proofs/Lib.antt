@@ -11,3 +11,24 @@ pub mod StaticTargets
 pub mod Pointees
 pub mod Few
 pub mod Rooms
+mod Down
+mod Spots
+mod Fine
+mod Scoped
+mod Modes
+mod Checked
+mod Ranges
+mod FewValues
+mod Cover
+mod Judged
+mod Layouts
+mod Members
+mod CoveredStatics
+mod Texts
+pub mod Runs
+pub mod SmallNames
+pub mod FineStatements
+pub mod FineNames
+pub mod TreeStrings
+pub mod Spared
+pub mod LaidOut

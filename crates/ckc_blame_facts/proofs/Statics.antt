@@ -30,7 +30,7 @@ use Rattle.ckc_bounds.specs.Texts.{outside, members_judged, body_judged, item_ju
 use Rattle.ckc_build_values.specs.Names.{declares, limits_in}
 use Rattle.ckc_build_elaborate.specs.Lists.{beside}
 use Rattle.ckc_build_elaborate.specs.Objects.{run_in}
-use Rattle.ckc_blame_first.proofs.Named.{HasStatic}
+use Rattle.ckc_blame_walk.proofs.NamedStatics.{HasStatic}
 use Rattle.ckc_blame_walk.proofs.Pieces.{Gives, through, nested, given}
 use Rattle.ckc_blame_facts.proofs.Callees.{first_in, later_in}
 

@@ -48,7 +48,7 @@ use Rattle.ckc_blame_texts.proofs.Functions.{tree_named, numbered}
 use Rattle.ckc_blame_texts.proofs.Lists.{more_at, found}
 use Rattle.ckc_blame_texts.proofs.Locals.{names_declared, variables_declared}
 use Rattle.ckc_blame_declared.proofs.More.{declared_stays}
-use Rattle.ckc_blame_first.proofs.Named.{HasStatic, items_static}
+use Rattle.ckc_blame_walk.proofs.NamedStatics.{HasStatic, items_static}
 use Rattle.ckc_blame_walk.proofs.Texts.{text_same}
 use Rattle.ckc_blame_facts.specs.Statics.{IsStatic, bounds_counted, range_counted}
 use Rattle.ckc_blame_facts.proofs.Statics.{decls, AreStatics, IsAgain, limits_found, limits_of, objects_are, runs_are, blocks_are, placed_at, beside_at, object_is, decl_there, have_elements, element_at, items_again, again_at, found_at, index_of, name_at, statics_numbered}

@@ -2,3 +2,5 @@ pub mod Statics
 pub mod Pointees
 pub mod Values
 pub mod Rooms
+pub mod Checked
+pub mod Told

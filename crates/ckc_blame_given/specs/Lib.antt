@@ -1,3 +1,7 @@
 pub mod Gives
 pub mod Planned
 pub mod At
+pub mod Targets
+pub mod Together
+pub mod Written
+pub mod Stored

@@ -42,15 +42,15 @@ use Rattle.ckc_blame_numbers.specs.Typed.{IsTyped, AreTypedSides, IsTypedAct}
 use Rattle.ckc_blame_numbers.proofs.Stepping.{ActLayer, act_back, parted, code_is, first_step}
 use Rattle.ckc_blame_numbers.proofs.Judging.{judged_typed}
 use Rattle.ckc_blame_texts.specs.Judged.{globals_in}
-use Rattle.ckc_blame_targets.specs.Together.{AreTogether}
-use Rattle.ckc_blame_targets.proofs.Bundles.{bundle_together}
+use Rattle.ckc_blame_given.specs.Together.{AreTogether}
+use Rattle.ckc_blame_given.proofs.Bundles.{bundle_together}
 use Rattle.ckc_blame_control.specs.Ready.{Faces}
 use Rattle.ckc_blame_control.proofs.Faced.{faces_bundle}
 use Rattle.ckc_blame_control.proofs.Moved.{stands_ready, move_by}
-use Rattle.ckc_blame_locals.specs.Written.{AreOne, IsFitting}
-use Rattle.ckc_blame_locals.specs.Stored.{IsAssignJudged, next_fresh, AreAssignsJudged, AreStored}
-use Rattle.ckc_blame_locals.proofs.Fitting.{step_fits}
-use Rattle.ckc_blame_locals.proofs.Stored.{assignment_stored, bundle_stored}
+use Rattle.ckc_blame_given.specs.Written.{AreOne, IsFitting}
+use Rattle.ckc_blame_given.specs.Stored.{IsAssignJudged, next_fresh, AreAssignsJudged, AreStored}
+use Rattle.ckc_blame_given.proofs.Fitting.{step_fits}
+use Rattle.ckc_blame_given.proofs.Stored.{assignment_stored, bundle_stored}
 use Rattle.ckc_blame_steps.specs.Granted.{IsGranted, IsCoveredAct, HaveRoom, HasRoomAct}
 use Rattle.ckc_blame_steps.specs.Plans.{BecomesPart, BecomeParts, AllocateSoundly}
 use Rattle.ckc_blame_steps.proofs.Declarations.{local_made}

@@ -12,7 +12,7 @@ use Rattle.ckc_source.specs.declared.outcome.Place.TheVariants as place
 use Rattle.ckc_source.specs.Eval.{given}
 use Rattle.ckc_source.specs.States.{State}
 use Rattle.ckc_source.specs.Steps.{refuses, allowed}
-use Rattle.ckc_blame_targets.specs.Targets.{ComesTo}
+use Rattle.ckc_blame_given.specs.Targets.{ComesTo}
 use Rattle.ckc_blame_steps.specs.Plans.{HasMore}
 
 pub comes_on : {A B : Type 0} (P : A → Type 0) (Q : B → Type 0) (r : Result A Halt) (f : A → Result B Halt) → ComesTo P r → ((x : A) → P x → ComesTo Q (f x)) → ComesTo Q (given r f)

@@ -66,9 +66,9 @@ use Rattle.ckc_blame_control.specs.Kept.{KeepRanges, IsSameCall}
 use Rattle.ckc_blame_control.specs.Ready.{Faces}
 use Rattle.ckc_blame_control.proofs.Kept.{faced_sound, blocks_keep_ranges}
 use Rattle.ckc_blame_control.proofs.Moved.{stopped, move_by}
-use Rattle.ckc_blame_locals.specs.Written.{IsStart, IsDeclared}
-use Rattle.ckc_blame_locals.proofs.Declared.{declared_after}
-use Rattle.ckc_blame_targets.specs.Targets.{ComesTo}
+use Rattle.ckc_blame_given.specs.Written.{IsStart, IsDeclared}
+use Rattle.ckc_blame_given.proofs.Declared.{declared_after}
+use Rattle.ckc_blame_given.specs.Targets.{ComesTo}
 use Rattle.ckc_blame_steps.specs.Granted.{IsGranted, IsCoveredInit, IsCoveredAct, HasRoom, HasRoomInit, HasRoomAct}
 use Rattle.ckc_blame_steps.specs.Plans.{IsAt, HasMore, IsDrawnOn, IsDrawn, AllocateSoundly}
 use Rattle.ckc_blame_steps.proofs.Becomes.{IsPlain, plain}

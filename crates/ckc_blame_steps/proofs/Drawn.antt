@@ -39,9 +39,9 @@ use Rattle.ckc_blame_given.specs.At.{GivesAt}
 use Rattle.ckc_blame_given.specs.Gives.{Continues, Gives}
 use Rattle.ckc_blame_given.proofs.Bridge.{judged_gives}
 use Rattle.ckc_blame_given.proofs.From.{becomes_typed, given_from, kept_number}
-use Rattle.ckc_blame_locals.specs.Written.{IsReceived}
-use Rattle.ckc_blame_locals.proofs.Fitting.{same_type, char_bare}
-use Rattle.ckc_blame_targets.specs.Targets.{ComesTo}
+use Rattle.ckc_blame_given.specs.Written.{IsReceived}
+use Rattle.ckc_blame_given.proofs.Fitting.{same_type, char_bare}
+use Rattle.ckc_blame_given.specs.Targets.{ComesTo}
 use Rattle.ckc_blame_steps.specs.Plans.{IsAt, IsDrawn}
 use Rattle.ckc_blame_steps.proofs.Comes.{same_state}
 

@@ -42,13 +42,13 @@ use Rattle.ckc_blame_pointers.specs.Covered.{DeclareLocals}
 use Rattle.ckc_blame_given.specs.Gives.{Continues}
 use Rattle.ckc_blame_given.specs.Planned.{IsTarget, IsPlanned, ArePlanned}
 use Rattle.ckc_blame_given.proofs.Views.{allocates_is}
-use Rattle.ckc_blame_locals.specs.Written.{IsReceived}
-use Rattle.ckc_blame_locals.specs.Stored.{IsAssignJudged, next_fresh, AreAssignsJudged}
-use Rattle.ckc_blame_locals.proofs.Fitting.{same_type}
-use Rattle.ckc_blame_locals.proofs.Given.{from_stays}
-use Rattle.ckc_blame_targets.specs.Targets.{KeepRunsFree, LiesIn, begin_of, GoesThere, ComesTo}
-use Rattle.ckc_blame_targets.specs.Together.{AreIn}
-use Rattle.ckc_blame_targets.proofs.Aims.{judged_aims}
+use Rattle.ckc_blame_given.specs.Written.{IsReceived}
+use Rattle.ckc_blame_given.specs.Stored.{IsAssignJudged, next_fresh, AreAssignsJudged}
+use Rattle.ckc_blame_given.proofs.Fitting.{same_type}
+use Rattle.ckc_blame_given.proofs.Given.{from_stays}
+use Rattle.ckc_blame_given.specs.Targets.{KeepRunsFree, LiesIn, begin_of, GoesThere, ComesTo}
+use Rattle.ckc_blame_given.specs.Together.{AreIn}
+use Rattle.ckc_blame_given.proofs.Aims.{judged_aims}
 use Rattle.ckc_blame_steps.specs.Granted.{IsCoveredValue, AreCoveredSides, AreCoveredParts, HaveRoom}
 use Rattle.ckc_blame_steps.specs.Plans.{BecomesPart, BecomeParts, IsAt, HasMore, IsDrawnOn, IsDrawn, IsSoundPlan, counted_in, AllocationsDraw}
 use Rattle.ckc_blame_steps.proofs.Comes.{comes_on, allowed_comes, same_state, more_on, same_locals}

@@ -30,12 +30,12 @@ use Rattle.ckc_blame_control.specs.Known.{IsKnownPoint}
 use Rattle.ckc_blame_control.specs.Ready.{Faces}
 use Rattle.ckc_blame_control.proofs.Moved.{move_by}
 use Rattle.ckc_blame_control.proofs.Typed.{statement_typed, point_known}
-use Rattle.ckc_blame_locals.specs.Written.{IsFitting}
-use Rattle.ckc_blame_locals.specs.Stored.{IsAssignJudged, AreAssignsJudged, AreStored}
-use Rattle.ckc_blame_locals.proofs.Fitting.{step_fits}
-use Rattle.ckc_blame_locals.proofs.Stored.{assignment_stored}
-use Rattle.ckc_blame_targets.specs.Targets.{KeepRunsFree, IsCoveredTarget}
-use Rattle.ckc_blame_targets.specs.Together.{AreTogether}
+use Rattle.ckc_blame_given.specs.Written.{IsFitting}
+use Rattle.ckc_blame_given.specs.Stored.{IsAssignJudged, AreAssignsJudged, AreStored}
+use Rattle.ckc_blame_given.proofs.Fitting.{step_fits}
+use Rattle.ckc_blame_given.proofs.Stored.{assignment_stored}
+use Rattle.ckc_blame_given.specs.Targets.{KeepRunsFree, IsCoveredTarget}
+use Rattle.ckc_blame_given.specs.Together.{AreTogether}
 use Rattle.ckc_typed_welltyped.specs.Statements.{act_rows, WellTypedStmt}
 use Rattle.ckc_typed_welltyped.proofs.ByParts.{stmt_by_parts}
 use Rattle.ckc_blame_sound.specs.Bodies.{globals_of_text}

@@ -38,14 +38,14 @@ use Rattle.ckc_blame_control.specs.Ready.{Faces}
 use Rattle.ckc_blame_control.proofs.Kept.{faced_sound, writes_keep_ranges, blocks_keep_ranges}
 use Rattle.ckc_blame_control.proofs.Moved.{stopped}
 use Rattle.ckc_blame_given.specs.Planned.{ArePlanned}
-use Rattle.ckc_blame_locals.specs.Written.{IsFitting}
-use Rattle.ckc_blame_locals.specs.Stored.{AreStored}
-use Rattle.ckc_blame_locals.proofs.Apart.{ones_apart}
-use Rattle.ckc_blame_locals.proofs.Points.{point_after, all_planned}
-use Rattle.ckc_blame_locals.proofs.Written.{written_locals}
-use Rattle.ckc_blame_targets.specs.Targets.{ComesTo}
-use Rattle.ckc_blame_targets.specs.Together.{HaveSmallNames, AreTogether}
-use Rattle.ckc_blame_targets.proofs.Filled.{stays_filled}
+use Rattle.ckc_blame_given.specs.Written.{IsFitting}
+use Rattle.ckc_blame_given.specs.Stored.{AreStored}
+use Rattle.ckc_blame_given.proofs.Apart.{ones_apart}
+use Rattle.ckc_blame_given.proofs.Points.{point_after, all_planned}
+use Rattle.ckc_blame_given.proofs.Written.{written_locals}
+use Rattle.ckc_blame_given.specs.Targets.{ComesTo}
+use Rattle.ckc_blame_given.specs.Together.{HaveSmallNames, AreTogether}
+use Rattle.ckc_blame_given.proofs.Filled.{stays_filled}
 use Rattle.ckc_blame_steps.specs.Granted.{IsGranted}
 use Rattle.ckc_blame_steps.specs.Plans.{IsAt, IsSoundPlan}
 use Rattle.ckc_blame_steps.proofs.Writes.{AreWrittenAll, all_come}

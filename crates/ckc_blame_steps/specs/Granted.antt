@@ -30,9 +30,9 @@ use Rattle.ckc_blame_slots.specs.Limited.{AreSlotParts}
 use Rattle.ckc_blame_contained.specs.Elements.{NameIntegerMembers}
 use Rattle.ckc_blame_texts.specs.Judged.{IsJudged}
 use Rattle.ckc_blame_pointers.specs.Covered.{DeclareLocals, IsSoundStore, IsCovered}
-use Rattle.ckc_blame_locals.specs.Written.{IsDeclared}
-use Rattle.ckc_blame_targets.specs.Targets.{KeepRunsFree, IsCoveredTarget}
-use Rattle.ckc_blame_targets.specs.Together.{HaveSmallNames}
+use Rattle.ckc_blame_given.specs.Written.{IsDeclared}
+use Rattle.ckc_blame_given.specs.Targets.{KeepRunsFree, IsCoveredTarget}
+use Rattle.ckc_blame_given.specs.Together.{HaveSmallNames}
 
 -- ---- expressions that are covered
 

@@ -1,2 +1,10 @@
 pub mod Granted
 pub mod Plans
+pub mod Tests
+pub mod Arguments
+pub mod Callees
+pub mod Results
+pub mod Spared
+pub mod Givable
+pub mod Allocated
+pub mod Known

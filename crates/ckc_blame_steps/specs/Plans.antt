@@ -32,9 +32,9 @@ use Rattle.ckc_blame_texts.specs.Judged.{globals_in}
 use Rattle.ckc_blame_pointers.specs.Covered.{IsSoundStore, IsCovered}
 use Rattle.ckc_blame_given.specs.Gives.{Continues}
 use Rattle.ckc_blame_given.specs.Planned.{ArePlanned}
-use Rattle.ckc_blame_locals.specs.Written.{IsReceived}
-use Rattle.ckc_blame_targets.specs.Targets.{ComesTo}
-use Rattle.ckc_blame_targets.specs.Together.{AreIn}
+use Rattle.ckc_blame_given.specs.Written.{IsReceived}
+use Rattle.ckc_blame_given.specs.Targets.{ComesTo}
+use Rattle.ckc_blame_given.specs.Together.{AreIn}
 use Rattle.ckc_blame_steps.specs.Granted.{HasRoom}
 
 -- ---- what assignments become

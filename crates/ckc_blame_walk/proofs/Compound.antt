@@ -38,9 +38,9 @@ use Rattle.ckc_blame_walk.proofs.Pieces.{Gives, through, nested, given, Moved, v
 use Rattle.ckc_blame_walk.proofs.Rooms.{Grows, grows_none, grows_through, room_after, room_less, value_nodes, value_grows, nodes_if, if_nodes}
 use Rattle.ckc_blame_walk.proofs.Codes.{goes_nowhere, goes_through, IsCode, closed_code}
 use Rattle.ckc_blame_walk.proofs.Exits.{may_first, may_second, may_adding}
-use Rattle.ckc_blame_scopes.specs.Scopes.{tests_of, items_of}
-use Rattle.ckc_blame_scopes.proofs.Standing.{Scope, Fits, Stands, Leads, leads_quiet, next_front, next_back, leads_both}
-use Rattle.ckc_blame_scopes.proofs.Steps.{test_stands}
+use Rattle.ckc_blame_walk.specs.Scopes.{tests_of, items_of}
+use Rattle.ckc_blame_walk.proofs.Standing.{Scope, Fits, Stands, Leads, leads_quiet, next_front, next_back, leads_both}
+use Rattle.ckc_blame_walk.proofs.Steps.{test_stands}
 use Rattle.ckc_typed_fit.specs.Tests.{Walked, act_walked, expr_passes, left_by_part, part_passes}
 use Rattle.ckc_typed_welltyped.specs.Noteless.{bare_expr}
 

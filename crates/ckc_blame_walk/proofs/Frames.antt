@@ -34,8 +34,8 @@ use Rattle.ckc_blame_walk.proofs.Again.{stmt_again}
 use Rattle.ckc_blame_walk.proofs.Texts.{SameText, text_same}
 use Rattle.ckc_blame_walk.proofs.Rooms.{statement_nodes}
 use Rattle.ckc_blame_walk.proofs.Functions.{function_goes}
-use Rattle.ckc_blame_scopes.specs.Scopes.{IsScoped}
-use Rattle.ckc_blame_scopes.proofs.Bodies.{body_scoped}
+use Rattle.ckc_blame_walk.specs.Scopes.{IsScoped}
+use Rattle.ckc_blame_walk.proofs.Bodies.{body_scoped}
 use Rattle.ckc_blame_texts.specs.Numbered.{AreLocals}
 use Rattle.ckc_blame_texts.proofs.Functions.{numbered}
 use Rattle.std.specs.List.{flat_map}

@@ -23,7 +23,7 @@ use Rattle.ckc_blame_walk.specs.Walks.{IsExit, empty_point, leaving}
 use Rattle.ckc_blame_walk.proofs.Codes.{goes_nowhere}
 use Rattle.ckc_blame_walk.proofs.Adds.{entry_small, entry_named}
 use Rattle.ckc_blame_walk.proofs.Whole.{statement_judged}
-use Rattle.ckc_blame_scopes.specs.Scopes.{IsScoped}
+use Rattle.ckc_blame_walk.specs.Scopes.{IsScoped}
 
 none_in : {X : Type 0} (x : X) → Contains {X = X} [] x → ⊥
 none_in x c = absurd (omega (arith, c.1))

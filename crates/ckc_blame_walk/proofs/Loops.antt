@@ -35,9 +35,9 @@ use Rattle.ckc_blame_walk.proofs.Rooms.{Grows, grows_through, room_after, room_l
 use Rattle.ckc_blame_walk.proofs.Codes.{goes_nowhere, goes_through, IsCode, both_code, closed_code}
 use Rattle.ckc_blame_walk.proofs.Exits.{known_before, left_back, exit_front, exit_after, exit_end, loop_left, may_not}
 use Rattle.ckc_blame_walk.proofs.Compound.{Extends, extends_none, extends_through, extended_has, extended_front, same_has, part_if, assigned_if, breaks_if, continues_if, fine_if, is_plain_if, declared_if, own_of, own_if, Next, NextIf, Whole, WholeIf, is_false, part_act, code_is}
-use Rattle.ckc_blame_scopes.specs.Scopes.{tests_of, items_of, IsScope, AreNext}
-use Rattle.ckc_blame_scopes.proofs.Standing.{Scope, Fits, Stands, Leads, scope_later, leads_quiet, next_front, next_back}
-use Rattle.ckc_blame_scopes.proofs.Steps.{test_stands}
+use Rattle.ckc_blame_walk.specs.Scopes.{tests_of, items_of, IsScope, AreNext}
+use Rattle.ckc_blame_walk.proofs.Standing.{Scope, Fits, Stands, Leads, scope_later, leads_quiet, next_front, next_back}
+use Rattle.ckc_blame_walk.proofs.Steps.{test_stands}
 use Rattle.ckc_typed_fit.specs.Tests.{Walked, act_walked, expr_passes, value_passes, left_by_part, part_passes}
 use Rattle.ckc_typed_welltyped.specs.Noteless.{bare_expr}
 use Rattle.ckc_blame_sound.specs.Scopes.{IsTestInScope}

@@ -49,10 +49,10 @@ use Rattle.ckc_blame_walk.proofs.Codes.{goes_nowhere, IsWalk, IsCode, GoesOn, st
 use Rattle.ckc_blame_walk.proofs.Exits.{exit_goes, may_first, may_after}
 use Rattle.ckc_blame_walk.proofs.Compound.{Extends, extends_none, extends_through, extended_has, extended_front, same_has, own_of, Next, Whole, whole_none, whole_some, code_is, if_gives}
 use Rattle.ckc_blame_walk.proofs.Loops.{while_gives, for_gives}
-use Rattle.ckc_blame_scopes.specs.Scopes.{items_of, scope_of}
-use Rattle.ckc_blame_scopes.proofs.Layers.{scope_of_act, act_scope, act_scope_rolled, scope_stated}
-use Rattle.ckc_blame_scopes.proofs.Standing.{Scope, Fits, Stands, Leads, leads_quiet, next_front, next_back, leads_both}
-use Rattle.ckc_blame_scopes.proofs.Steps.{IsAssignment, HasAssignments, own_of_act, step_stands, is_local, step_leaves, local_leads}
+use Rattle.ckc_blame_walk.specs.Scopes.{items_of, scope_of}
+use Rattle.ckc_blame_walk.proofs.Layers.{scope_of_act, act_scope, act_scope_rolled, scope_stated}
+use Rattle.ckc_blame_walk.proofs.Standing.{Scope, Fits, Stands, Leads, leads_quiet, next_front, next_back, leads_both}
+use Rattle.ckc_blame_walk.proofs.Steps.{IsAssignment, HasAssignments, own_of_act, step_stands, is_local, step_leaves, local_leads}
 use Rattle.ckc_typed_fit.specs.Tests as tests
 use Rattle.ckc_typed_fit.specs.Tests.{left_by, pass_in_turn}
 

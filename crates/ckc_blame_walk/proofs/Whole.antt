@@ -14,7 +14,7 @@ use Rattle.ckc_blame_walk.specs.Walks.{AreSmall, AreNamed, Stays, MayLeave}
 use Rattle.ckc_blame_walk.proofs.Codes.{goes_nowhere, IsCode}
 use Rattle.ckc_blame_walk.proofs.Compound.{own_of, Next}
 use Rattle.ckc_blame_walk.proofs.Rooms.{statement_nodes}
-use Rattle.ckc_blame_scopes.specs.Scopes.{items_of, scope_of, IsScoped}
+use Rattle.ckc_blame_walk.specs.Scopes.{items_of, scope_of, IsScoped}
 use Rattle.ckc_blame_walk.proofs.Walk.{all_hold}
 
 pub statement_next : (s : Setting) (st after : NotedStmt) (here there : Here) → (Claimed : Type 0) → (Claimed → IsInBody s st) → (nesting_of st).fine ≡ true → (path st).judged s.frame s.head here ≡ Ok (after, there)

@@ -1,1 +1,4 @@
 pub mod Walks
+pub mod Scopes
+pub mod Entries
+pub mod Ready

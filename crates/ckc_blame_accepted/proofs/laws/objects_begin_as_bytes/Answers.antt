@@ -1,5 +1,0 @@
-use Rattle.ckc_blame_accepted.proofs.LaidOut.{programs_laid_out}
-use Rattle.ckc_blame_accepted.proofs.laws.objects_begin_as_bytes.Goals as goal
-
-pub returns : goal.returns
-returns c = programs_laid_out

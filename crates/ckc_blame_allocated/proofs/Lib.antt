@@ -1,4 +1,0 @@
-pub mod Callocs
-pub mod Valued
-pub mod Made
-pub mod Drawn

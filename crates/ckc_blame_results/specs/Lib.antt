@@ -1,2 +1,0 @@
-pub mod Spared
-pub mod Givable

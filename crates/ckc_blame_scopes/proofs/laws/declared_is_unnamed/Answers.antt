@@ -1,5 +1,0 @@
-use Rattle.ckc_blame_scopes.proofs.Seen.{declared_unnamed}
-use Rattle.ckc_blame_scopes.proofs.laws.declared_is_unnamed.Goals as goal
-
-pub returns : goal.returns
-returns c = declared_unnamed

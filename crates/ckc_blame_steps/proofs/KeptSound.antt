@@ -1,0 +1,70 @@
+-- Each checked step of a known text keeps a state sound.
+use Rattle.std.proofs.Common.{◌≡◌, ℕ, List, ◌∷◌, subst, arith}
+use Rattle.std.specs.Prelude.{◌<◌, ◌^◌, length, true, Option}
+use Rattle.ckc_base.specs.declared.arithmetic.Mode.TheVariants.{Checked}
+use Rattle.ckc_typed.specs.declared.typed.Typed.{Typed}
+use Rattle.ckc_source.specs.declared.stmt.Kept.{Kept}
+use Rattle.ckc_source.specs.declared.stmt.Spot.{Spot}
+use Rattle.ckc_source.specs.Code.{Expr, Code, Assign, Bundle, Get, Put, Call, Return}
+use Rattle.ckc_source.specs.States.{Work, Rest, State, settled}
+use Rattle.ckc_source.specs.Steps.{source_step, spot_at, spot_of}
+use Rattle.ckc_build_elaborate.specs.Elaborated.{elaborated}
+use Rattle.ckc_blame_sound.specs.Calls.{store_in}
+use Rattle.ckc_blame_sound.specs.Sound.{Sound}
+use Rattle.ckc_blame_runs.specs.Moves.{IsSoundMove}
+use Rattle.ckc_blame_control.specs.Decided.{IsDecided}
+use Rattle.ckc_blame_control.specs.Whole.{KeepSound, assigns_or_calls}
+use Rattle.ckc_blame_control.proofs.Faced.{faces_call, faces_return}
+use Rattle.ckc_blame_control.proofs.Moved.{stands_ready}
+use Rattle.ckc_blame_steps.proofs.Decided.{decided}
+use Rattle.ckc_blame_steps.proofs.Known.{results_known}
+use Rattle.ckc_blame_steps.proofs.Entering.{call_keeps}
+use Rattle.ckc_blame_steps.proofs.Returned.{return_keeps, end_keeps}
+use Rattle.ckc_blame_steps.proofs.Whole.{every_assignment}
+use Rattle.ckc_blame_steps.proofs.Bundles.{every_bundle}
+use Rattle.ckc_blame_steps.specs.Known.{IsKnown}
+
+module _ (p : Typed) (k : IsKnown p) (s : State) (h : Sound p s) where
+  few : length h.setting.variables < 2 ^ 32
+  few = let m = k.granted.few h.setting s.frame.function h.stands.function in omega (arith, m)
+
+  test_decided : (e : Expr) → IsDecided h.setting Checked (store_in p s.blocks s.frame) s.frame.entry e
+  test_decided e here one other c holds =
+      decided p s h k.granted.judged k.granted.words few (k.granted.declares h.setting s.frame.function h.stands.function)
+      (k.tests h.setting s.frame.function h.stands.function) here one other e c holds
+
+  mode_of_spot : (code : Code) (next : List Work) → settled s.frame.work ≡ Rest code ∷ next → (spot_of s).mode ≡ Checked → (spot_at s.frame.function.end (Rest code ∷ next)).mode ≡ Checked
+  mode_of_spot code next is mode = subst (λ w. (spot_at s.frame.function.end w).mode ≡ Checked) is mode
+
+  call_sound : (spot : Spot) (target : Option Kept) (number : ℕ) (es : List Expr) (rest : Code) (next : List Work) → settled s.frame.work ≡ Rest (Call spot target number es rest) ∷ next
+      → (spot_of s).mode ≡ Checked → IsSoundMove p (source_step (elaborated p) s)
+  call_sound spot target number es rest next is mode =
+      let f = faces_call h.setting (store_in p s.blocks s.frame) s.frame.entry s.frame.work next (stands_ready p s h) spot target number es rest is in
+      let checked : spot.mode ≡ Checked = mode_of_spot (Call spot target number es rest) next is mode in
+      call_keeps p s h k.granted.judged k.nested k.granted.few spot target number es rest next checked f f.judged.named k.callees
+      (k.arguments s h spot target number es (Rest rest ∷ next) f checked) is
+
+  return_sound : (spot : Spot) (e : Expr) (rest : Code) (next : List Work) → settled s.frame.work ≡ Rest (Return spot e rest) ∷ next → (spot_of s).mode ≡ Checked
+      → IsSoundMove p (source_step (elaborated p) s)
+  return_sound spot e rest next is mode =
+      let f = faces_return h.setting (store_in p s.blocks s.frame) s.frame.entry s.frame.work next (stands_ready p s h) spot e rest is in
+      let checked : spot.mode ≡ Checked = mode_of_spot (Return spot e rest) next is mode in
+      return_keeps p s h k.granted.judged k.granted.few k.callees (results_known p k.granted.judged) k.leads k.objects spot e rest next checked f f.judged.named
+      (k.returned s h spot e (Rest rest ∷ next) f checked) is
+
+  step_keeps : (code : Code) (next : List Work) → settled s.frame.work ≡ Rest code ∷ next → (spot_of s).mode ≡ Checked → assigns_or_calls code ≡ true → IsSoundMove p (source_step (elaborated p) s)
+  step_keeps (Assign spot target right rest) next is mode there = every_assignment p s h spot target right rest next k.granted k.allocations is mode
+  step_keeps (Bundle spot assigns rest) next is mode there = every_bundle p s h spot assigns rest next k.granted k.allocations is mode
+  step_keeps (Get spot target rest) next is mode there = k.bytes.gets spot target rest s h next is mode
+  step_keeps (Put spot target e rest) next is mode there = k.bytes.puts spot target e rest s h next is mode
+  step_keeps (Call spot target number es rest) next is mode there = call_sound spot target number es rest next is mode
+  step_keeps (Return spot e rest) next is mode there = return_sound spot e rest next is mode
+  step_keeps code next is mode there = absurd (cc)
+
+pub known_keeps : (p : Typed) → IsKnown p → KeepSound p
+known_keeps p k = record {
+  conditions = λ s h code next e is mode there. test_decided p k s h e;
+  steps = λ s h code next is mode there. step_keeps p k s h code next is mode there;
+  falls = λ s h caller callers is some mode.
+      end_keeps p s h k.granted.judged k.granted.few k.callees (results_known p k.granted.judged) k.leads k.objects is;
+}

@@ -1,0 +1,46 @@
+//! What follows from the definitions alone, each the contract of a function that does nothing.
+
+ghost use Rattle.std.specs.Prelude.{ℕ, List};
+ghost use Rattle.ckc_typed.specs.declared.environment.Globals.{Globals};
+ghost use Rattle.ckc_typed.specs.declared.typed.Typed.{Typed};
+ghost use Rattle.ckc_typed.specs.Trees.{NotedExpr};
+ghost use Rattle.ckc_bounds_statements.specs.Paths.{Here};
+ghost use Rattle.ckc_bounds_stores.specs.declared.values.Numbered.{Numbered};
+ghost use Rattle.ckc_source.specs.Eval.{Store};
+ghost use Rattle.ckc_build_values.specs.Expressions.{expr_elaborated};
+ghost use Rattle.ckc_blame_sound.specs.Points.{HoldsAt};
+ghost use Rattle.ckc_blame_sound.specs.Settings.{Setting};
+ghost use Rattle.ckc_blame_numbers.specs.Typed.{Agrees};
+ghost use Rattle.ckc_blame_texts.specs.Judged.{IsJudged};
+ghost use Rattle.ckc_blame_pointers.specs.Covered.{DeclareLocals, IsSoundStore};
+ghost use Rattle.ckc_blame_steps.specs.Arguments.{GivesWord, GiveWords};
+ghost use Rattle.ckc_blame_steps.specs.Callees.{HaveCallees, HaveFewVariables};
+ghost use Rattle.ckc_blame_steps.specs.Results.{ResultsLeadOn};
+ghost use Rattle.ckc_blame_steps.specs.Givable.{IsGivable, AreGivable};
+ghost use Rattle.ckc_blame_steps.specs.Spared.{SpareResults};
+
+/// Each function of a judged text that has a signature is the one with its number in the program,
+/// and is called by its own head and with its own parameters.
+pub fn callees_are_known()
+    ensures { (p : Typed) → IsJudged p → HaveCallees p }
+{}
+
+/// The point after a call in a judged text holds once its result is kept, if the bounds of no
+/// result name a local that the function declares.
+pub fn points_after_results_hold()
+    ensures { (p : Typed) → IsJudged p → HaveFewVariables p → SpareResults p → ResultsLeadOn p }
+{}
+
+/// An expression that is covered gives a word to what it is returned or passed as, and the
+/// arguments of a call do if each is, with their numbers one after another.
+pub fn covered_give_words()
+    ensures one { (globals : Globals) (s : Setting) (entry : List ℕ) (here : Here) (next : ℕ)
+        (store : Store) → Agrees globals s → DeclareLocals s → IsSoundStore s store next
+        → HoldsAt s store entry here → (e f : NotedExpr) (k : ℕ) (from : Numbered)
+        → IsGivable globals s store here e f from
+        → GivesWord s store here.at e (expr_elaborated s.text s.variables k f) from }
+    ensures each { (globals : Globals) (s : Setting) (entry : List ℕ) (here : Here) (next : ℕ)
+        (store : Store) → Agrees globals s → DeclareLocals s → IsSoundStore s store next
+        → HoldsAt s store entry here → (es fs : List NotedExpr) (k : ℕ) (from : Numbered)
+        → AreGivable globals s store here es fs from → GiveWords s store here.at k es fs from }
+{}

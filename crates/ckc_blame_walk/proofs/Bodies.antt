@@ -1,0 +1,237 @@
+-- The body of each function stands in the scope of its parameters.
+use Rattle.std.proofs.Common.{◌≡◌, ⊎_elim, refl, sym, ap, subst, ◌∙◌, ℕ, suc, ◌+◌, Bool, true, false, List, [], ◌∷◌, ◌++◌, map, length, arith}
+use Rattle.std.specs.Prelude.{◌<◌, ◌≤◌, ◌&&◌, ◌||◌, All, Option, None, Some, slice_get}
+use Rattle.std.specs.List.{list_all, list_any, flat_map, Contains}
+use Rattle.std.specs.Option.{option_map}
+use Rattle.std.proofs.lemmas.Bool.{eqb-true}
+use Rattle.std.proofs.lemmas.List.Elements.{All-nil, All-cons, All-contains, Contains-append_cases, Contains-append_left, Contains-append_right, at_from_Contains}
+use Rattle.std.proofs.lemmas.Option.{slice_get-map, slice_get_read}
+use Rattle.ckc_syntax.specs.declared.tree.Name.{Name}
+use Rattle.ckc_syntax.specs.declared.tree.Name.TheVariants as name
+use Rattle.ckc_syntax.specs.declared.tree.Item.TheVariants as item
+use Rattle.ckc_typed.specs.declared.typed.Typed.{Typed}
+use Rattle.ckc_typed.specs.Environment.{same_name}
+use Rattle.ckc_typed.specs.Trees.{NotedDecl, NotedHead, NotedItem, NotedStmt}
+use Rattle.ckc_typed_welltyped.specs.Noteless.{bare_limits, bare_init, bare_decl, bare_head, bare_item}
+use Rattle.ckc_typed_fit.specs.Tests as tests
+use Rattle.ckc_typed_fit.specs.Tests.{Tests, type_passes, bounds_pass, init_passes, decl_passes, decls_pass, head_passes, item_passes, items_pass}
+use Rattle.ckc_typed_fit.proofs.Found.{names_visible}
+use Rattle.ckc_bounds_known.proofs.Reaching.{and_cases}
+use Rattle.ckc_bounds_points.specs.declared.frame.Frame.{Frame}
+use Rattle.ckc_bounds_points.specs.declared.frame.Local.{Local}
+use Rattle.ckc_bounds_points.specs.Frames.{local_at}
+use Rattle.ckc_bounds_points.specs.Flow.{in_bounds, in_bounds_of}
+use Rattle.ckc_bounds_statements.specs.Paths.{local_in, path}
+use Rattle.ckc_bounds.specs.Declarations.{local_made, types_in, declared_in}
+use Rattle.ckc_bounds.specs.Frames.{all_of, name_seen, first_fresh, nameless, function_frame}
+use Rattle.ckc_blame_sound.specs.Settings.{Setting}
+use Rattle.ckc_blame_texts.specs.Judged.{IsJudged}
+use Rattle.ckc_blame_texts.specs.Numbered.{AreLocals}
+use Rattle.ckc_blame_texts.proofs.Functions.{tree_named, all_made}
+use Rattle.ckc_blame_texts.proofs.Locals.{names_declared}
+use Rattle.ckc_blame_declared.proofs.Locals.{local_is, name_at, from_zero}
+use Rattle.ckc_blame_declared.proofs.Parameters.{all_at}
+use Rattle.ckc_blame_walk.specs.Scopes.{tests_of, items_of, scope_of, HasLocal, IsScope, HasOwnBounds, AreNext, IsScoped}
+use Rattle.ckc_blame_walk.proofs.Bounds.{declared_over}
+use Rattle.ckc_blame_walk.proofs.Elements.{no_element, one_element, local_number, number_same}
+use Rattle.ckc_blame_walk.proofs.Standing.{front_locals, next_back}
+
+-- ---- lists
+
+all_true : {A : Type 0} (p : A → Bool) (xs : List A) → list_all p xs ≡ true → All (λ x. p x ≡ true) xs
+all_true p [] h = All-nil (λ x. p x ≡ true)
+all_true p (x ∷ xs) h = let b = and_cases (p x) (list_all p xs) h in All-cons (λ x. p x ≡ true) x xs b.0 (all_true p xs b.1)
+
+-- ---- what is declared, by its number
+
+module _ (ds : List NotedDecl) (numbers : AreLocals 0 (names_declared ds)) where
+  declared_at : (d : NotedDecl) (k : ℕ) → Contains ds d → d.name ≡ name.Local k → slice_get ds k ≡ Some d
+  declared_at d k c named =
+      let at = at_from_Contains ds d c in
+      let there : slice_get ds at.0 ≡ Some d = slice_get_read ds (length ds) at.0 d refl at.1 (sym (at.2 d)) in
+      let same : d.name ≡ name.Local (0 + at.0) =
+      name_at 0 (names_declared ds) at.0 d.name numbers (slice_get-map (λ (x : NotedDecl). x.name) ds at.0 ∙ ap (option_map (λ (x : NotedDecl). x.name)) there) in
+      let number : at.0 ≡ k = sym (from_zero at.0) ∙ local_number (0 + at.0) k (sym same ∙ named) in
+      subst (λ n. slice_get ds n ≡ Some d) number there
+
+-- ---- the bounds of locals
+
+module _ (s : Setting) (frame : Frame) (h : NotedHead) (body : NotedStmt) (same : s.frame ≡ function_frame frame h body) (numbers : AreLocals 0 (names_declared (all_of h body))) where
+  abbrev ds : List NotedDecl
+  ds = all_of h body
+
+  own_bounds : (d : NotedDecl) → Contains ds d → HasOwnBounds s d
+  own_bounds d c k j visible named there passes inside =
+      by (local_at (function_frame frame h body) k) refl (subst (λ f. in_bounds_of j (local_at f k) ≡ true) same inside)
+    where
+      declared : (l : Local) → slice_get (declared_in frame ds) k ≡ Some l → in_bounds j l.bounds ≡ true → HasLocal visible j
+      declared l e g =
+          let made : slice_get (declared_in frame ds) k ≡ Some (local_made (types_in frame ds) true k d) = all_at (types_in frame ds) true ds k d (declared_at ds numbers d k c named) in
+          let is : l ≡ local_made (types_in frame ds) true k d = same_local l (local_made (types_in frame ds) true k d) (sym e ∙ made) in
+          declared_over (items_of s) visible (types_in frame ds) k there _ d.length d.bounds passes j (subst (λ (x : Local). in_bounds j x.bounds ≡ true) is g)
+        where
+          same_local : (a b : Local) → ◌≡◌ {A = Option Local} (Some a) (Some b) → a ≡ b
+          same_local a b e = cc
+
+      fresh : (l : Local) → l ≡ nameless → in_bounds j l.bounds ≡ true → HasLocal visible j
+      fresh l e g = let f : in_bounds j nameless.bounds ≡ true = subst (λ (x : Local). in_bounds j x.bounds ≡ true) e g in absurd cc
+
+      by : (o : Option Local) → local_at (function_frame frame h body) k ≡ o → in_bounds_of j (local_at (function_frame frame h body) k) ≡ true → HasLocal visible j
+      by None e g = let f : in_bounds_of j None ≡ true = subst (λ o. in_bounds_of j o ≡ true) e g in absurd cc
+      by (Some l) e g =
+          let f : in_bounds j l.bounds ≡ true = subst (λ o. in_bounds_of j o ≡ true) e g in
+          ⊎_elim (λ a. declared l a f) (λ b. fresh l b f) (local_is frame h body k l e)
+
+-- ---- parameters
+
+sees_names : (ds : List NotedDecl) (k : ℕ) → HasLocal (names_declared ds) k → Contains (flat_map name_seen ds) k
+sees_names [] k h = absurd cc
+sees_names (d ∷ ds) k h = by (same_name (name.Local k) d.name) refl h (λ g. sees_names ds k g)
+  where
+    first : (n : Name) → same_name (name.Local k) n ≡ true → Contains (local_in n) k
+    first (name.Local j) e = subst (Contains (j ∷ [])) (sym (eqb-true k j e)) (0, omega arith, refl)
+    first (name.Static j) e = absurd cc
+    first (name.Function j) e = absurd cc
+    first (name.Tag j) e = absurd cc
+    first (name.Member j) e = absurd cc
+    first name.Getchar e = absurd cc
+    first name.Putchar e = absurd cc
+
+    by : (b : Bool) → same_name (name.Local k) d.name ≡ b → (b || list_any (same_name (name.Local k)) (names_declared ds)) ≡ true → (HasLocal (names_declared ds) k → Contains (flat_map name_seen ds) k)
+        → Contains (name_seen d ++ flat_map name_seen ds) k
+    by true e h later = Contains-append_left (name_seen d) (flat_map name_seen ds) k (first d.name e)
+    by false e h later = Contains-append_right (name_seen d) (flat_map name_seen ds) k (later h)
+
+below_all : (ds : List NotedDecl) (n : ℕ) → AreLocals n (names_declared ds) → (k : ℕ) → Contains (flat_map name_seen ds) k → k < n + length ds
+below_all [] n h k c = absurd (no_element k c)
+below_all (d ∷ ds) n h k c =
+    ⊎_elim (λ a. first (one_element n k (subst (λ m. Contains (local_in m) k) h.0 a)))
+    (λ b. let r = below_all ds (n + 1) h.1 k b in omega (arith, r))
+    (Contains-append_cases (name_seen d) (flat_map name_seen ds) k c)
+  where
+    first : n ≡ k → k < n + suc (length ds)
+    first e = omega (arith, e)
+
+-- what declares a local that is in scope
+record Declares (ds : List NotedDecl) (k : ℕ) : Type 0 where
+  pub decl : NotedDecl
+  pub there : Contains ds decl
+  pub named : decl.name ≡ name.Local k
+
+declares : (ds : List NotedDecl) (n : ℕ) → AreLocals n (names_declared ds) → (k : ℕ) → Contains (flat_map name_seen ds) k → Declares ds k
+declares [] n h k c = absurd (no_element k c)
+declares (d ∷ ds) n h k c =
+    ⊎_elim (λ a. record { decl = d; there = (0, omega arith, refl); named = h.0 ∙ ap name.Local (one_element n k (subst (λ m. Contains (local_in m) k) h.0 a)) })
+    (λ b. let r : Declares ds k = declares ds (n + 1) h.1 k b in record { decl = r.decl; there = Contains-append_right (d ∷ []) ds r.decl r.there; named = r.named })
+    (Contains-append_cases (name_seen d) (flat_map name_seen ds) k c)
+
+any_named : (ns : List Name) (n : Name) (k : ℕ) → Contains ns n → n ≡ name.Local k → HasLocal ns k
+any_named [] n k c e = absurd (no_element n c)
+any_named (m ∷ ns) n k c e =
+    ⊎_elim (λ a. first (one_element m n a ∙ e)) (λ b. later (same_name (name.Local k) m) (any_named ns n k b e)) (Contains-append_cases (m ∷ []) ns n c)
+  where
+    later : (b : Bool) → list_any (same_name (name.Local k)) ns ≡ true → (b || list_any (same_name (name.Local k)) ns) ≡ true
+    later true h = refl
+    later false h = h
+
+    first : m ≡ name.Local k → (same_name (name.Local k) m || list_any (same_name (name.Local k)) ns) ≡ true
+    first f = subst (λ (x : Name). (same_name (name.Local k) x || list_any (same_name (name.Local k)) ns) ≡ true) (sym f) (by (same_name (name.Local k) (name.Local k)) (number_same k))
+      where
+        by : (b : Bool) → b ≡ true → (b || list_any (same_name (name.Local k)) ns) ≡ true
+        by true e = refl
+        by false e = absurd cc
+
+contains_name : (ds : List NotedDecl) (d : NotedDecl) → Contains ds d → Contains (names_declared ds) d.name
+contains_name [] d c = absurd (no_element d c)
+contains_name (e ∷ ds) d c =
+    ⊎_elim (λ a. subst (λ (x : NotedDecl). Contains (e.name ∷ names_declared ds) x.name) (one_element e d a) (0, omega arith, refl))
+    (λ b. Contains-append_right (e.name ∷ []) (names_declared ds) d.name (contains_name ds d b))
+    (Contains-append_cases (e ∷ []) ds d c)
+
+names_bare : (ds : List NotedDecl) → tests.names_declared (map bare_decl ds) ≡ names_declared ds
+names_bare [] = refl
+names_bare (d ∷ ds) = ap (λ ns. d.name ∷ ns) (names_bare ds)
+
+-- ---- a function
+
+module _ (p : Typed) (j : IsJudged p) (s : Setting) (frame : Frame) (h : NotedHead) (body : NotedStmt) (there : Contains j.typed.tree.items (item.Function h body)) (text : s.text ≡ p)
+    (same : s.frame ≡ function_frame frame h body) (many : length s.variables ≡ first_fresh h body) (numbers : AreLocals 0 (names_declared (all_of h body))) where
+  abbrev t : Tests
+  t = tests_of (items_of s)
+
+  items_are : items_of s ≡ j.named.tree.items
+  items_are = ap (λ (q : Typed). items_of (record s { text = q })) text ∙ ap (λ (x : _). x.items) (tree_named p j)
+
+  passed : item_passes t (bare_item (item.Function h body)) ≡ true
+  passed =
+      let all : list_all (item_passes t) j.named.tree.items ≡ true = subst (λ is. items_pass (tests_of is) j.named.tree.items ≡ true) (sym items_are) (names_visible j.spelled j.named j.has_names) in
+      let each : All (λ i. item_passes t i ≡ true) (map bare_item j.typed.tree.items) =
+      subst (λ (x : _). All (λ i. item_passes t i ≡ true) x.items) (sym j.has_types.tree) (all_true (item_passes t) j.named.tree.items all) in
+      All-contains (λ (i : NotedItem). item_passes t (bare_item i) ≡ true) j.typed.tree.items (item.Function h body) (all_made (λ i. item_passes t i ≡ true) bare_item j.typed.tree.items each) there
+
+  abbrev visible : List Name
+  visible = names_declared h.params
+
+  parts : (head_passes t (bare_head h) ≡ true) × ((scope_of (items_of s) body).passes (tests.names_declared (map bare_decl h.params)) ≡ true)
+  parts = and_cases (head_passes t (bare_head h)) ((scope_of (items_of s) body).passes (tests.names_declared (map bare_decl h.params))) passed
+
+  body_passes : (scope_of (items_of s) body).passes visible ≡ true
+  body_passes = subst (λ ns. (scope_of (items_of s) body).passes ns ≡ true) (names_bare h.params) parts.1
+
+  params_pass : All (λ (d : NotedDecl). decl_passes t (tests.names_declared (map bare_decl h.params)) (tests.names_declared (map bare_decl h.params)) (bare_decl d) ≡ true) h.params
+  params_pass =
+      let ns = tests.names_declared (map bare_decl h.params) in
+      let a = and_cases (type_passes t h.result) (decls_pass t (map bare_decl h.params) && bounds_pass t ns (option_map bare_limits h.bounds)) parts.0 in
+      let b = and_cases (decls_pass t (map bare_decl h.params)) (bounds_pass t ns (option_map bare_limits h.bounds)) a.1 in
+      all_made (λ d. decl_passes t ns ns d ≡ true) bare_decl h.params (all_true (decl_passes t ns ns) (map bare_decl h.params) b.0)
+
+  param_bounds : (d : NotedDecl) → Contains h.params d → bounds_pass t visible (option_map bare_limits d.bounds) ≡ true
+  param_bounds d c =
+      let ns = tests.names_declared (map bare_decl h.params) in
+      let all = All-contains (λ (d : NotedDecl). decl_passes t ns ns (bare_decl d) ≡ true) h.params d params_pass c in
+      let b = bounds_pass t ns (option_map bare_limits d.bounds) in
+      let i = init_passes t ns (bare_init d.init) in
+      subst (λ ms. bounds_pass t ms (option_map bare_limits d.bounds) ≡ true) (names_bare h.params) ((and_cases b i (and_cases (type_passes t d.ctype) (b && i) all).1).0)
+
+  param_numbers : AreLocals 0 visible
+  param_numbers = front_locals s h.params (path body).declared 0 numbers
+
+  zero_first : (n : ℕ) → 0 + n ≡ n
+  zero_first n = omega arith
+
+  below_params : (k : ℕ) → Contains (flat_map name_seen h.params) k → k < length h.params
+  below_params k c = subst (λ n. k < n) (zero_first (length h.params)) (below_all h.params 0 param_numbers k c)
+
+  params_scope : IsScope s visible (length h.params) (flat_map name_seen h.params)
+  params_scope = record {
+    sees = sees_names h.params;
+    below = below_params;
+    bounds = λ i k c l. by i k c l (in_bounds_of k (local_at s.frame i)) refl;
+  }
+    where
+      by : (i k : ℕ) → Contains (flat_map name_seen h.params) i → length h.params ≤ k → (b : Bool) → in_bounds_of k (local_at s.frame i) ≡ b → in_bounds_of k (local_at s.frame i) ≡ false
+      by i k c l false e = e
+      by i k c l true e =
+          let d : Declares h.params i = declares h.params 0 param_numbers i c in
+          let found : HasLocal visible k =
+          own_bounds s frame h body same numbers d.decl (Contains-append_left h.params (path body).declared d.decl d.there) i k visible d.named
+          (any_named visible d.decl.name i (contains_name h.params d.decl d.there) d.named) (param_bounds d.decl d.there) e in
+          let less = below_params k (sees_names h.params k found) in
+          absurd (omega (arith, less, l))
+
+  all_next : AreNext s 0 (all_of h body)
+  all_next = record {
+    numbers = numbers;
+    few = let e : 0 + length (all_of h body) ≡ length s.variables = zero_first (length (all_of h body)) ∙ sym many in omega (arith, e);
+    own = own_bounds s frame h body same numbers;
+  }
+
+  -- The body stands in the scope of the parameters.
+  pub body_scoped : IsScoped s body (flat_map name_seen h.params)
+  body_scoped = record {
+    visible = visible;
+    next = length h.params;
+    scope = params_scope;
+    passes = body_passes;
+    declares = subst (λ n. AreNext s n (path body).declared) (zero_first (length h.params)) (next_back s h.params (path body).declared 0 all_next);
+  }
