@@ -3,4 +3,4 @@
 
 mod laws;
 
-pub use laws::assignments_keep_sound;
+pub use laws::{assignments_keep_sound, getchar_keeps_sound};
