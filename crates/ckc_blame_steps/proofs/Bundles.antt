@@ -27,7 +27,6 @@ use Rattle.ckc_source.specs.States.{Work, Rest, State, settled}
 use Rattle.ckc_source.specs.Steps.{store_of, bundled, comes_to, source_step, spot_at, spot_of}
 use Rattle.ckc_build_values.specs.Expressions.{literals_of}
 use Rattle.ckc_build_elaborate.specs.Elaborated.{elaborated}
-use Rattle.ckc_build_elaborate.specs.Lists as lists
 use Rattle.ckc_build_elaborate.specs.Literals.{literals_of_bounds}
 use Rattle.ckc_build_elaborate.specs.Shapes.{shapes_elaborated}
 use Rattle.ckc_build_elaborate.specs.Statements.{Part, ActPart, all_assigns, assign, act_assigns, act_code, act_parts, stmt_parts, part_of_act, part_of}
@@ -180,7 +179,7 @@ module _ (p : Typed) (g : IsGranted p) (allocations : AllocateSoundly p) (st : S
   become = subst (BecomeParts t ts) (sym assigns_are) (parts_become t f.here.at f.here.next ss ts judged f.judged.literals)
 
   covered : StayCovered t list st.frame.entry f.here ts
-  covered c at_c = subst (IsCoveredAct t (store_of list c) f.here.seen) layer (covered_there p g allocations st h step next f sp mode c at_c)
+  covered c at_c = subst (IsCoveredAct t (store_of list c) f.here.seen) layer (covered_there p g st h step next f sp mode c at_c)
 
   room : HaveRoom t.frame f.here.at 0 f.here.next (stores_of ts)
   room = subst (HasRoomAct t.frame f.here.at f.here.next) layer (g.room t st.frame.function f.here f.exits.ends step h.stands.function f.judged)
@@ -192,16 +191,16 @@ module _ (p : Typed) (g : IsGranted p) (allocations : AllocateSoundly p) (st : S
   all_fit [] afters fresh j typed row = tt
   all_fit (x ∷ xs) [] fresh j typed row = absurd j
   all_fit (x ∷ xs) (y ∷ ys) fresh j typed row = (
-    side_fits p g allocations st h step next f f.judged.inside.mode f.judged.inside.looped (out-Act Name Note x.body) j.0.target j.0.right j.0.is typed.0
-        (row_of p g allocations st h step next f x f.judged.inside.mode f.judged.inside.looped row.0),
+    side_fits p g st h step next f f.judged.inside.mode f.judged.inside.looped (out-Act Name Note x.body) j.0.target j.0.right j.0.is typed.0
+        (row_of p g st h step next f x f.judged.inside.mode f.judged.inside.looped row.0),
     all_fit xs ys (next_fresh t f.here.at fresh x y j.0) j.1 typed.1 row.1,
   )
 
   fit : AllFit (globals_in p) t ss
   fit =
-      all_fit ss ts f.here.next judged (subst (IsTypedAct (globals_in p) t) is (typed_act p g allocations st h step next f))
+      all_fit ss ts f.here.next judged (subst (IsTypedAct (globals_in p) t) is (typed_act p g st h step next f))
       (subst (λ (x : ActLayer). act_rows (globals_of_text t.text) t.variables t.result (WellTypedStmt (globals_of_text t.text) t.variables t.result) x f.judged.inside.mode f.judged.inside.looped) is
-      (row_of p g allocations st h step next f f.judged.before f.judged.inside.mode f.judged.inside.looped f.judged.inside.typed))
+      (row_of p g st h step next f f.judged.before f.judged.inside.mode f.judged.inside.looped f.judged.inside.typed))
 
   fitting : All (IsFitting t) (numbered t.frame f.here.at 0 f.here.next (stores_of ts))
   fitting = step_fits p t st.frame.function g.judged h.stands.function f.judged.before f.judged.inside ss ts f.here.at f.here.next (inr is) judged f.here.at 0 f.here.next
@@ -235,8 +234,8 @@ module _ (p : Typed) (g : IsGranted p) (allocations : AllocateSoundly p) (st : S
 
   pub bundle_comes : IsSoundMove p (comes_to [] (bundled list (planning p g st h step next f) assigns))
   bundle_comes =
-      parts_sound p g allocations st h step next f ss ts assigns judged leads fit covered become room fitting
-      (all_together ss ts judged leads.one (all_typed ss ts f.here.next judged (subst (IsTypedAct (globals_in p) t) is (typed_act p g allocations st h step next f))))
+      parts_sound p g st h step next f allocations ss ts assigns judged leads fit covered become room fitting
+      (all_together ss ts judged leads.one (all_typed ss ts f.here.next judged (subst (IsTypedAct (globals_in p) t) is (typed_act p g st h step next f))))
 
 pub every_bundle : (p : Typed) (st : State) (h : Sound p st) (sp : Spot) (assigns : List (Target × Right)) (rest : Code) (next : List Work) → IsGranted p → AllocateSoundly p
     → settled st.frame.work ≡ Rest (Bundle sp assigns rest) ∷ next → (spot_of st).mode ≡ Checked → IsSoundMove p (source_step (elaborated p) st)

@@ -6,7 +6,6 @@ use Rattle.ckc_base.specs.Memory.{kept_part}
 use Rattle.ckc_base.specs.Lists.{AreBytes}
 use Rattle.ckc_base.specs.declared.arithmetic.Mode.TheVariants.{Checked}
 use Rattle.ckc_syntax.specs.declared.tree.Name.{Name}
-use Rattle.ckc_syntax.specs.declared.tree.Name.TheVariants as name
 use Rattle.ckc_syntax.specs.declared.tree.Init.TheVariants as init
 use Rattle.ckc_syntax.specs.declared.tree.Act.{Act-F, out-Act}
 use Rattle.ckc_syntax.specs.declared.tree.Act.TheVariants as act
@@ -29,12 +28,11 @@ use Rattle.ckc_source.specs.declared.program.Shape.{Shape}
 use Rattle.ckc_source.specs.declared.stmt.Spot.{Spot}
 use Rattle.ckc_source.specs.declared.expr.Count.{Count}
 use Rattle.ckc_source.specs.declared.expr.Count.TheVariants as count
-use Rattle.ckc_source.specs.Code as code
 use Rattle.ckc_source.specs.Code.{Target, Variable, Right, Value, Number, Code, End, Assign}
 use Rattle.ckc_source.specs.Eval.{given}
 use Rattle.ckc_source.specs.Runs.{is_true}
 use Rattle.ckc_source.specs.States.{Work, Rest, State, settled}
-use Rattle.ckc_source.specs.Steps.{store_of, Drawn, drawn, Planned, all_written, bundled, comes_to, source_step, spot_at, spot_of}
+use Rattle.ckc_source.specs.Steps.{store_of, Drawn, drawn, Planned, all_written, bundled, comes_to, source_step, spot_in, spot_at, spot_of}
 use Rattle.ckc_build_values.specs.Kinds.{width_of}
 use Rattle.ckc_build_elaborate.specs.Elaborated.{elaborated}
 use Rattle.ckc_build_elaborate.specs.Literals.{literals_of_bounds}
@@ -161,16 +159,13 @@ module _ (s : Setting) (here : Here) (counting : here.counting ≡ false) where
 
 -- ---- a step that declares a local
 
-module _ (p : Typed) (g : IsGranted p) (allocations : AllocateSoundly p) (st : State) (h : Sound p st) (next : List Work) (sp : Spot) (target : Target) (right : Right) (mode : sp.mode ≡ Checked)
-    (f : Faces h.setting (store_in p st.blocks st.frame) st.frame.entry (Assign sp target right) next) (d : NotedDecl) (is : out-Act Name Note f.judged.before.body ≡ Act-F.Local d) where
+module _ (p : Typed) (g : IsGranted p) (st : State) (h : Sound p st) (step : Code → Code) (next : List Work) (f : Faces h.setting (store_in p st.blocks st.frame) st.frame.entry step next)
+    (d : NotedDecl) (is : out-Act Name Note f.judged.before.body ≡ Act-F.Local d) where
   abbrev pub s : Setting
   s = h.setting
 
-  abbrev function : IsFunction p s st.frame.function
+  abbrev pub function : IsFunction p s st.frame.function
   function = h.stands.function
-
-  abbrev step : Code → Code
-  step = Assign sp target right
 
   abbrev pub shapes : List Shape
   shapes = shapes_elaborated p.layout
@@ -178,135 +173,59 @@ module _ (p : Typed) (g : IsGranted p) (allocations : AllocateSoundly p) (st : S
   abbrev pub b : State
   b = planning p g st h step next f
 
-  is_made : IsLocalMade s f.here f.judged.counting f.judged.before f.judged.after d f.judged.behind
+  pub is_made : IsLocalMade s f.here f.judged.counting f.judged.before f.judged.after d f.judged.behind
   is_made = local_made s f.here f.judged.counting f.judged.before f.judged.after d f.judged.behind is f.judged.judged
 
-  abbrev e : NotedDecl
+  abbrev pub e : NotedDecl
   e = is_made.made
 
-  there : (k : ℕ) × (l : Local) × IsDeclared s f.here d k l
+  pub there : (k : ℕ) × (l : Local) × IsDeclared s f.here d k l
   there = g.declared s st.frame.function f.here f.exits.ends step d function f.judged is
 
-  abbrev k : ℕ
+  abbrev pub k : ℕ
   k = there.0
 
-  abbrev l : Local
+  abbrev pub l : Local
   l = there.1
 
-  declared_there : IsDeclared s f.here d k l
+  pub declared_there : IsDeclared s f.here d k l
   declared_there = there.2
 
   type_is : type_written e.ctype ≡ l.ctype
   type_is = ap type_written is_made.parts.type_is ∙ sym declared_there.same
 
-  abbrev to : Destination
+  abbrev pub to : Destination
   to = destination_for s.text (type_written e.ctype) e.name
 
-  target_named : to.target ≡ Variable k (width_of l.ctype)
+  pub target_named : to.target ≡ Variable k (width_of l.ctype)
   target_named =
       ap (local_target (type_written e.ctype)) (is_made.parts.name_is ∙ declared_there.name_is) ∙ ap (λ t. Variable k (width_of t)) type_is
 
-  abbrev spot_there : Spot
+  abbrev pub spot_there : Spot
   spot_there = spot f.judged.after.pos f.judged.after.note.mode
 
-  abbrev literals : ℕ
+  abbrev pub literals : ℕ
   literals = f.judged.literals + literals_of_bounds e.bounds
 
-  code_is_so : started s.text s.variables spot_there to literals e.init End ≡ Assign sp target right End
-  code_is_so =
-      first_step (declared s.text s.variables spot_there f.judged.literals e) (Assign sp target right)
+  pub code_there : started s.text s.variables spot_there to literals e.init End ≡ step End
+  code_there =
+      first_step (declared s.text s.variables spot_there f.judged.literals e) step
       (ap (λ (x : Layer). act_code (parted x) f.judged.after.pos f.judged.after.note.mode s.text s.variables s.result f.judged.literals) (sym is_made.becomes)
       ∙ sym (code_is s f.judged.literals f.judged.after) ∙ f.judged.becomes)
 
   -- the word that the local begins with
-  record Starts (w : Drawn) : Type 0 where
+  pub record Starts (w : Drawn) : Type 0 where
     pub grown : HasMore b w.state
     pub at : IsAt s shapes st.frame.entry f.here w.state
     pub valuation : Valuation
     pub values : IsValuationOf s w.state.frame.locals valuation
     pub start : IsStart s (store_of shapes w.state) valuation f.here.at l.ctype e.init f.here.next w.number
 
-  is_covered : (c : State) → IsAt s shapes st.frame.entry f.here c → IsCoveredInit s (store_of shapes c) f.here.seen e.init
-  is_covered c at_c = subst (IsCoveredAct s (store_of shapes c) f.here.seen) is_made.becomes (covered_there p g allocations st h step next f sp mode c at_c)
-
-  room : HasRoomInit s.frame f.here.at f.here.next e.init
+  pub room : HasRoomInit s.frame f.here.at f.here.next e.init
   room = subst (HasRoomAct s.frame f.here.at f.here.next) is_made.becomes (g.room s st.frame.function f.here f.exits.ends step function f.judged)
 
-  abbrev Claim : Target → Right → Type 0
-  Claim x r = (x ≡ to.target) × ComesTo Starts (drawn shapes b r)
-
-  none_starts : e.init ≡ init.Nothing → Claim target right
-  none_starts none =
-      let code : Assign spot_there to.target (Value (Number 0)) End ≡ Assign sp target right End =
-      ap (λ (i : NotedInit). started s.text s.variables spot_there to literals i End) (sym none) ∙ code_is_so in
-      let r : Value (Number 0) ≡ right = cc in
-      (cc, subst (λ x. ComesTo Starts (drawn shapes b x)) r zero)
-    where
-      zero : ComesTo Starts (drawn shapes b (Value (Number 0)))
-      zero = record {
-        grown = same_state b;
-        at = is_at p g st h step next f;
-        valuation = own_valuation s b.frame.locals;
-        values = own_values s b.frame.locals;
-        start = subst (λ (i : NotedInit). IsStart s (store_of shapes b) (own_valuation s b.frame.locals) f.here.at l.ctype i f.here.next 0) (sym none) refl;
-      }
-
-  module _ (x y : NotedExpr) (one : e.init ≡ init.One y) (judged : (view s.frame x).judged f.here.next f.here.at ≡ Ok y) (typed : IsTyped (globals_in p) s x) (goes : converts l.ctype x ≡ true) where
-    plain_there : IsPlain s sp spot_there to literals y target right
-    plain_there =
-        plain s sp spot_there to literals y target right (store_of shapes b) f.here.seen
-        (ap (λ (i : NotedInit). started s.text s.variables spot_there to literals i End) (sym one) ∙ code_is_so)
-        (subst (IsCoveredInit s (store_of shapes b) f.here.seen) one (is_covered b (is_at p g st h step next f)))
-
-    room_there : HasRoom s.frame f.here.at 0 f.here.next y
-    room_there = subst (HasRoomInit s.frame f.here.at f.here.next) one room
-
-    of_drawn : (w : Drawn) → IsDrawn s shapes st.frame.entry f.here b l.ctype y w → Starts w
-    of_drawn w dr =
-        let on : IsDrawnOn s shapes f.here l.ctype y (record { value = 0; fresh = f.here.next }) (own_valuation s w.state.frame.locals) w =
-        dr.gives (record { value = 0; fresh = f.here.next }) (own_valuation s w.state.frame.locals) room_there (known p g allocations st h step next f).fresh (own_values s w.state.frame.locals) in
-        record {
-          grown = dr.grown;
-          at = dr.at;
-          valuation = on.after;
-          values = on.values;
-          start = subst (λ (i : NotedInit). IsStart s (store_of shapes w.state) on.after f.here.at l.ctype i f.here.next w.number) (sym one)
-              (on.received on.after on.values (record { address = λ n h. refl; number = λ n h. refl }));
-        }
-
-    right_there : right ≡ right_of s.text s.variables literals (is_terminated l.ctype) y
-    right_there = plain_there.right_is ∙ ap (λ t. right_of s.text s.variables literals (is_terminated t) y) type_is
-
-    one_starts : Claim target right
-    one_starts = (
-      plain_there.target_is,
-      subst (λ r. ComesTo Starts (drawn shapes b r)) (sym right_there)
-          (weaker (drawn shapes b (right_of s.text s.variables literals (is_terminated l.ctype) y))
-          (right_drawn (globals_in p) s (frames_agree p s st.frame.function g.judged function) (g.declares s st.frame.function function) (free p g allocations st h step next f) shapes st.frame.entry f.here
-          (allocations s st.frame.function f.here f.exits.ends step st.frame.entry function f.judged) b (is_at p g st h step next f) l.ctype x y f.here.next literals typed goes judged room_there.variables
-          (known p g allocations st h step next f).fresh
-          (plain_there.covered (store_of shapes b) f.here.seen (subst (IsCoveredInit s (store_of shapes b) f.here.seen) one (is_covered b (is_at p g st h step next f)))))),
-    )
-      where
-        weaker : (r : Result Drawn Halt) → ComesTo (IsDrawn s shapes st.frame.entry f.here b l.ctype y) r → ComesTo Starts r
-        weaker (Ok w) c = of_drawn w c
-        weaker (Err (halt.Stopped why at)) c = tt
-        weaker (Err halt.Stuck) c = absurd c
-
-  starts : Claim target right
-  starts =
-      by d.init refl is_made.parts.begins
-      (subst (IsTypedAct (globals_in p) s) is (typed_act p g allocations st h step next f)).0
-      (subst (λ (x : Layer). act_rows (globals_of_text s.text) s.variables s.result (WellTypedStmt (globals_of_text s.text) s.variables s.result) x f.judged.inside.mode f.judged.inside.looped) is
-      (row_of p g allocations st h step next f f.judged.before f.judged.inside.mode f.judged.inside.looped f.judged.inside.typed)).starts
-    where
-      by : (i : NotedInit) → d.init ≡ i → InitJudged s f.here f.judged.counting i e.init → IsTypedInit (globals_in p) s i → StartsLocal (type_written d.ctype) i → Claim target right
-      by init.Nothing same j typed goes = none_starts j
-      by (init.One x) same j typed goes = one_starts x j.0 j.1 j.2 typed (subst (λ t. converts t x ≡ true) (sym declared_there.same) goes)
-      by (init.Many xs) same j typed goes = absurd goes
-
   module _ (w : Drawn) (so : Starts w) where
-    abbrev put : State
+    abbrev pub put : State
     put = record w.state { frame = record w.state.frame { locals = slice_set w.state.frame.locals k (kept_part (width_of l.ctype) w.number) } }
 
     text : s.text ≡ p
@@ -331,7 +250,7 @@ module _ (p : Typed) (g : IsGranted p) (allocations : AllocateSoundly p) (st : S
     keeps : KeepRanges shapes st.blocks put.blocks
     keeps to n low high x = subst (λ bs. is_true shapes bs to n low high ≡ true) (sym so.grown.blocks) (blocks_keep_ranges shapes st.blocks so.grown.more to n low high x)
 
-    put_sound : Sound p put
+    pub put_sound : Sound p put
     put_sound =
         faced_sound p st put h same_call keeps (subst (λ q. AreSound q put.blocks put.next) text so.at.ready.sound)
         (subst (λ q. AreFilled q (store_of shapes put)) text
@@ -339,15 +258,97 @@ module _ (p : Typed) (g : IsGranted p) (allocations : AllocateSoundly p) (st : S
         (subst AreBytes (sym (ap (λ (x : State). x.input) so.grown.same)) h.input) step next f (ap (λ (x : State). x.frame.work) so.grown.same)
         (subst (λ x. HoldsAt s (store_of shapes put) x f.exits.ends) (sym same_call.entry) (point_kept s (store_of shapes put) st.frame.entry f.judged.behind f.exits.ends f.judged.goes point))
 
-  pub declared_sound : IsSoundMove p (comes_to [] (bundled shapes b ((target, right) ∷ [])))
-  declared_sound =
-      subst (λ x. IsSoundMove p (comes_to [] (bundled shapes b ((x, right) ∷ [])))) (sym (starts.0 ∙ target_named)) (by (drawn shapes b right) starts.1)
-    where
-      by : (r : Result Drawn Halt) → ComesTo Starts r
-          → IsSoundMove p (comes_to [] (given (given r (λ (w : Drawn). Ok (record { writes = (place.Local k (width_of l.ctype), w.number) ∷ []; state = w.state }))) (λ (plan : Planned). all_written plan.writes plan.state)))
-      by (Ok w) c = put_sound w c
-      by (Err (halt.Stopped why at)) c = stopped why at
-      by (Err halt.Stuck) c = absurd c
+  module _ (allocations : AllocateSoundly p) (sp : Spot) (target : Target) (right : Right) (same : step End ≡ Assign sp target right End) (mode : sp.mode ≡ Checked) where
+    code_is_so : started s.text s.variables spot_there to literals e.init End ≡ Assign sp target right End
+    code_is_so = code_there ∙ same
+
+    is_covered : (c : State) → IsAt s shapes st.frame.entry f.here c → IsCoveredInit s (store_of shapes c) f.here.seen e.init
+    is_covered c at_c =
+        subst (IsCoveredAct s (store_of shapes c) f.here.seen) is_made.becomes
+        (covered_there p g st h step next f sp (ap (λ (x : Code). (spot_in sp x).mode) same ∙ mode) c at_c)
+
+    abbrev Claim : Target → Right → Type 0
+    Claim x r = (x ≡ to.target) × ComesTo Starts (drawn shapes b r)
+
+    none_starts : e.init ≡ init.Nothing → Claim target right
+    none_starts none =
+        let code : Assign spot_there to.target (Value (Number 0)) End ≡ Assign sp target right End =
+        ap (λ (i : NotedInit). started s.text s.variables spot_there to literals i End) (sym none) ∙ code_is_so in
+        let r : Value (Number 0) ≡ right = cc in
+        (cc, subst (λ x. ComesTo Starts (drawn shapes b x)) r zero)
+      where
+        zero : ComesTo Starts (drawn shapes b (Value (Number 0)))
+        zero = record {
+          grown = same_state b;
+          at = is_at p g st h step next f;
+          valuation = own_valuation s b.frame.locals;
+          values = own_values s b.frame.locals;
+          start = subst (λ (i : NotedInit). IsStart s (store_of shapes b) (own_valuation s b.frame.locals) f.here.at l.ctype i f.here.next 0) (sym none) refl;
+        }
+
+    module _ (x y : NotedExpr) (one : e.init ≡ init.One y) (judged : (view s.frame x).judged f.here.next f.here.at ≡ Ok y) (typed : IsTyped (globals_in p) s x) (goes : converts l.ctype x ≡ true) where
+      plain_there : IsPlain s sp spot_there to literals y target right
+      plain_there =
+          plain s sp spot_there to literals y target right (store_of shapes b) f.here.seen
+          (ap (λ (i : NotedInit). started s.text s.variables spot_there to literals i End) (sym one) ∙ code_is_so)
+          (subst (IsCoveredInit s (store_of shapes b) f.here.seen) one (is_covered b (is_at p g st h step next f)))
+
+      room_there : HasRoom s.frame f.here.at 0 f.here.next y
+      room_there = subst (HasRoomInit s.frame f.here.at f.here.next) one room
+
+      of_drawn : (w : Drawn) → IsDrawn s shapes st.frame.entry f.here b l.ctype y w → Starts w
+      of_drawn w dr =
+          let on : IsDrawnOn s shapes f.here l.ctype y (record { value = 0; fresh = f.here.next }) (own_valuation s w.state.frame.locals) w =
+          dr.gives (record { value = 0; fresh = f.here.next }) (own_valuation s w.state.frame.locals) room_there (known p g st h step next f).fresh (own_values s w.state.frame.locals) in
+          record {
+            grown = dr.grown;
+            at = dr.at;
+            valuation = on.after;
+            values = on.values;
+            start = subst (λ (i : NotedInit). IsStart s (store_of shapes w.state) on.after f.here.at l.ctype i f.here.next w.number) (sym one)
+                (on.received on.after on.values (record { address = λ n h. refl; number = λ n h. refl }));
+          }
+
+      right_there : right ≡ right_of s.text s.variables literals (is_terminated l.ctype) y
+      right_there = plain_there.right_is ∙ ap (λ t. right_of s.text s.variables literals (is_terminated t) y) type_is
+
+      one_starts : Claim target right
+      one_starts = (
+        plain_there.target_is,
+        subst (λ r. ComesTo Starts (drawn shapes b r)) (sym right_there)
+            (weaker (drawn shapes b (right_of s.text s.variables literals (is_terminated l.ctype) y))
+            (right_drawn (globals_in p) s (frames_agree p s st.frame.function g.judged function) (g.declares s st.frame.function function) (free p g st h step next f) shapes st.frame.entry f.here
+            (allocations s st.frame.function f.here f.exits.ends step st.frame.entry function f.judged) b (is_at p g st h step next f) l.ctype x y f.here.next literals typed goes judged room_there.variables
+            (known p g st h step next f).fresh
+            (plain_there.covered (store_of shapes b) f.here.seen (subst (IsCoveredInit s (store_of shapes b) f.here.seen) one (is_covered b (is_at p g st h step next f)))))),
+      )
+        where
+          weaker : (r : Result Drawn Halt) → ComesTo (IsDrawn s shapes st.frame.entry f.here b l.ctype y) r → ComesTo Starts r
+          weaker (Ok w) c = of_drawn w c
+          weaker (Err (halt.Stopped why at)) c = tt
+          weaker (Err halt.Stuck) c = absurd c
+
+    starts : Claim target right
+    starts =
+        by d.init refl is_made.parts.begins
+        (subst (IsTypedAct (globals_in p) s) is (typed_act p g st h step next f)).0
+        (subst (λ (x : Layer). act_rows (globals_of_text s.text) s.variables s.result (WellTypedStmt (globals_of_text s.text) s.variables s.result) x f.judged.inside.mode f.judged.inside.looped) is
+        (row_of p g st h step next f f.judged.before f.judged.inside.mode f.judged.inside.looped f.judged.inside.typed)).starts
+      where
+        by : (i : NotedInit) → d.init ≡ i → InitJudged s f.here f.judged.counting i e.init → IsTypedInit (globals_in p) s i → StartsLocal (type_written d.ctype) i → Claim target right
+        by init.Nothing same j typed goes = none_starts j
+        by (init.One x) same j typed goes = one_starts x j.0 j.1 j.2 typed (subst (λ t. converts t x ≡ true) (sym declared_there.same) goes)
+        by (init.Many xs) same j typed goes = absurd goes
+
+    pub declared_sound : IsSoundMove p (comes_to [] (bundled shapes b ((target, right) ∷ [])))
+    declared_sound =
+        subst (λ x. IsSoundMove p (comes_to [] (bundled shapes b ((x, right) ∷ [])))) (sym (starts.0 ∙ target_named)) (by (drawn shapes b right) starts.1)
+      where
+        by : (r : Result Drawn Halt) → ComesTo Starts r
+            → IsSoundMove p (comes_to [] (given (given r (λ (w : Drawn). Ok (record { writes = (place.Local k (width_of l.ctype), w.number) ∷ []; state = w.state }))) (λ (plan : Planned). all_written plan.writes plan.state)))
+        by (Ok w) c = put_sound w c
+        by (Err (halt.Stopped why at)) c = stopped why at
+        by (Err halt.Stuck) c = absurd c
 
 -- a declaration of the text
 pub declaration_sound : (p : Typed) (st : State) (h : Sound p st) (sp : Spot) (target : Target) (right : Right) (rest : Code) (next : List Work) → IsGranted p → AllocateSoundly p
@@ -356,4 +357,4 @@ pub declaration_sound : (p : Typed) (st : State) (h : Sound p st) (sp : Spot) (t
     → IsSoundMove p (source_step (elaborated p) st)
 declaration_sound p st h sp target right rest next g allocations is mode f d layer =
     move_by p st (Rest (Assign sp target right rest) ∷ next) is
-    (declared_sound p g allocations st h (Rest rest ∷ next) sp target right (subst (λ w. (spot_at st.frame.function.end w).mode ≡ Checked) is mode) f d layer)
+    (declared_sound p g st h (Assign sp target right) (Rest rest ∷ next) f d layer allocations sp target right refl (subst (λ w. (spot_at st.frame.function.end w).mode ≡ Checked) is mode))

@@ -3,6 +3,10 @@ pub mod Drawn
 pub mod Plans
 pub mod Writes
 pub mod Becomes
+pub mod Bytes
+pub mod Landings
+pub mod ByteAssignments
+pub mod ByteSteps
 pub mod Stores
 pub mod Own
 pub mod Steps

@@ -47,6 +47,7 @@ module _ (s : Setting) (here there : Here) (step : Code → Code) (i : IsStep s 
     pub made : NotedExpr
     pub is : out-Act Name Note i.before.body ≡ Act-F.Call call
     pub becomes : out-Act Name Note i.after.body ≡ Act-F.Call made
+    pub judged : value_judged s.frame call here ≡ Ok (made, i.behind)
     pub goes : assigned s.text s.variables (spot made.pos i.after.note.mode) nowhere i.literals made End ≡ step End
 
   pub data Kind : Type 0 where
@@ -66,6 +67,7 @@ module _ (s : Setting) (here there : Here) (step : Code → Code) (i : IsStep s 
         made = m.0.0;
         is = is;
         becomes = b.0;
+        judged = m.1 ∙ ap (λ (y : Here). Ok (m.0.0, y)) last.1;
         goes = first_step (assigned s.text s.variables (spot m.0.0.pos i.after.note.mode) nowhere i.literals m.0.0) step b.1;
       }
 

@@ -46,10 +46,10 @@ use Rattle.ckc_blame_steps.proofs.Own.{own_valuation, own_values}
 use Rattle.ckc_blame_steps.proofs.Plans.{AreFit, AllFit, StayCovered, all_planned}
 use Rattle.ckc_blame_steps.proofs.Stores.{text_is, move_on, planning, is_at, written_sound}
 
-abbrev ActLayer : Type 0
+abbrev pub ActLayer : Type 0
 ActLayer = Act-F Name Note NotedAct NotedStmt
 
-module _ (p : Typed) (g : IsGranted p) (allocations : AllocateSoundly p) (st : State) (h : Sound p st) (step : Code → Code) (next : List Work)
+module _ (p : Typed) (g : IsGranted p) (st : State) (h : Sound p st) (step : Code → Code) (next : List Work)
     (f : Faces h.setting (store_in p st.blocks st.frame) st.frame.entry step next) where
   abbrev s : Setting
   s = h.setting
@@ -83,11 +83,11 @@ module _ (p : Typed) (g : IsGranted p) (allocations : AllocateSoundly p) (st : S
       (subst (λ q. AreFilled q (store_of shapes c)) (text_is p s st.frame.function function) at_c.filled)
 
   -- assignments that are judged as one
-  pub parts_sound : (befores afters : List NotedStmt) (others : List (Target × Right)) → AreAssignsJudged s f.here.at f.here.next befores afters → AreStored s f.here afters f.judged.behind
+  pub parts_sound : AllocateSoundly p → (befores afters : List NotedStmt) (others : List (Target × Right)) → AreAssignsJudged s f.here.at f.here.next befores afters → AreStored s f.here afters f.judged.behind
       → AllFit (globals_in p) s befores → StayCovered s shapes st.frame.entry f.here afters → BecomeParts s afters others → HaveRoom s.frame f.here.at 0 f.here.next (stores_of afters)
       → All (IsFitting s) (numbered s.frame f.here.at 0 f.here.next (stores_of afters))
       → ((locals : List ℕ) → AreTogether s locals (numbered s.frame f.here.at 0 f.here.next (stores_of afters))) → IsSoundMove p (comes_to [] (bundled shapes b others))
-  parts_sound befores afters others judged stored fit covered becomes room fitting together =
+  parts_sound allocations befores afters others judged stored fit covered becomes room fitting together =
       move_on p (IsSoundPlan s shapes st.frame.entry f.here b (numbered s.frame f.here.at 0 f.here.next (stores_of afters)) 0 f.here.next (own_valuation s b.frame.locals)) (planned shapes b others)
       (all_planned (globals_in p) s (frames_agree p s st.frame.function g.judged function) (g.declares s st.frame.function function) free shapes st.frame.entry f.here
       (allocations s st.frame.function f.here f.exits.ends step st.frame.entry function f.judged) befores afters others b at_b 0 f.here.next (own_valuation s b.frame.locals) (own_values s b.frame.locals)
@@ -107,7 +107,7 @@ module _ (p : Typed) (g : IsGranted p) (allocations : AllocateSoundly p) (st : S
   pub typed_act : IsTypedAct (globals_in p) s (out-Act Name Note f.judged.before.body)
   typed_act = statement_typed p s st.frame.function g.judged g.words function f.judged.before f.judged.inside
 
-  typed_sides : (x : ActLayer) (e y : NotedExpr) → x ≡ Act-F.Assign e y → IsTypedAct (globals_in p) s x → AreTypedSides (globals_in p) s x
+  pub typed_sides : (x : ActLayer) (e y : NotedExpr) → x ≡ Act-F.Assign e y → IsTypedAct (globals_in p) s x → AreTypedSides (globals_in p) s x
   typed_sides (Act-F.Assign a b) e y is typed = typed
   typed_sides x e y is typed = absurd (cc)
 
@@ -136,7 +136,7 @@ module _ (p : Typed) (g : IsGranted p) (allocations : AllocateSoundly p) (st : S
 
   covered : (c : State) → IsAt t list st.frame.entry f.here c
       → IsCoveredTarget t (store_of list c) f.here.seen one.place (out-Node Name Note one.place.node) × IsCoveredRight t (store_of list c) f.here.seen one.value (out-Node Name Note one.value.node)
-  covered c at_c = subst (IsCoveredAct t (store_of list c) f.here.seen) one.becomes (covered_there p g allocations st h step next f sp mode c at_c)
+  covered c at_c = subst (IsCoveredAct t (store_of list c) f.here.seen) one.becomes (covered_there p g st h step next f sp mode c at_c)
 
   abbrev pub start : State
   start = planning p g st h step next f
@@ -163,9 +163,9 @@ module _ (p : Typed) (g : IsGranted p) (allocations : AllocateSoundly p) (st : S
 
   fit : AllFit (globals_in p) t (f.judged.before ∷ [])
   fit = (
-    side_fits p g allocations st h step next f f.judged.inside.mode f.judged.inside.looped (out-Act Name Note f.judged.before.body) e x is
-        (typed_sides p g allocations st h step next f (out-Act Name Note f.judged.before.body) e x is (typed_act p g allocations st h step next f))
-        (row_of p g allocations st h step next f f.judged.before f.judged.inside.mode f.judged.inside.looped f.judged.inside.typed),
+    side_fits p g st h step next f f.judged.inside.mode f.judged.inside.looped (out-Act Name Note f.judged.before.body) e x is
+        (typed_sides p g st h step next f (out-Act Name Note f.judged.before.body) e x is (typed_act p g st h step next f))
+        (row_of p g st h step next f f.judged.before f.judged.inside.mode f.judged.inside.looped f.judged.inside.typed),
     tt,
   )
 
@@ -178,7 +178,7 @@ module _ (p : Typed) (g : IsGranted p) (allocations : AllocateSoundly p) (st : S
 
   pub assigned_sound : IsSoundMove p (comes_to [] (bundled list start ((target, right) ∷ [])))
   assigned_sound =
-      parts_sound p g allocations st h step next f (f.judged.before ∷ []) afters ((target, right) ∷ []) made.0 made.1 fit all_covered become room fitting together
+      parts_sound p g st h step next f allocations (f.judged.before ∷ []) afters ((target, right) ∷ []) made.0 made.1 fit all_covered become room fitting together
 
 -- an assignment of the text
 pub assignment_sound : (p : Typed) (st : State) (h : Sound p st) (sp : Spot) (target : Target) (right : Right) (rest : Code) (next : List Work) → IsGranted p → AllocateSoundly p

@@ -15,7 +15,7 @@ use Rattle.ckc_source.specs.Code.{Code, Function}
 use Rattle.ckc_source.specs.Eval.{Store, given}
 use Rattle.ckc_source.specs.Runs.{is_true}
 use Rattle.ckc_source.specs.States.{Work, State}
-use Rattle.ckc_source.specs.Steps.{Write, store_of, Planned, planned, all_written, comes_to, at_work}
+use Rattle.ckc_source.specs.Steps.{Write, store_of, Planned, all_written, comes_to, at_work}
 use Rattle.ckc_build_elaborate.specs.Shapes.{shapes_elaborated}
 use Rattle.ckc_blame_sound.specs.Calls.{store_in}
 use Rattle.ckc_blame_sound.specs.Points.{HoldsAt}

@@ -51,6 +51,6 @@ every_assignment p st h sp target right rest next g allocations is mode =
     by (Kind.Calls c) =
         absurd (no_call h.setting sp target right (spot c.made.pos f.judged.after.note.mode) f.judged.literals c.made (store_of (shapes_elaborated p.layout) (at_work st (Rest rest ∷ next))) f.here.seen (out-Node Name Note c.made.node) c.goes
         (subst (IsCoveredAct h.setting (store_of (shapes_elaborated p.layout) (at_work st (Rest rest ∷ next))) f.here.seen) c.becomes
-        (covered_there p g allocations st h (Assign sp target right) (Rest rest ∷ next) f sp at_mode (at_work st (Rest rest ∷ next)) (at_b p g allocations st h (Assign sp target right) (Rest rest ∷ next) f))))
+        (covered_there p g st h (Assign sp target right) (Rest rest ∷ next) f sp at_mode (at_work st (Rest rest ∷ next)) (at_b p g st h (Assign sp target right) (Rest rest ∷ next) f))))
     by (Kind.Bundles ss layer other) = absurd (cc)
     by (Kind.Others other) = absurd (cc)
