@@ -5,15 +5,15 @@ mod accepted;
 mod covers;
 mod laws;
 
-pub use laws::{
-    callees_have_heads, functions_are_small, pointees_are_integers, statics_are_told,
-    steps_have_room,
+pub use accepted::{
+    declared_types_are_fine, locals_are_spared, names_of_members_are_small, objects_begin_as_bytes,
+    runs_are_free,
 };
 pub use covers::{
     checked_conditions_are_covered, checked_parts_are_safe, declared_structures_are_laid_out,
     expressions_are_covered, members_are_told, texts_are_safe, texts_are_told,
 };
-pub use accepted::{
-    declared_types_are_fine, locals_are_spared, names_of_members_are_small, objects_begin_as_bytes,
-    runs_are_free,
+pub use laws::{
+    callees_have_heads, functions_are_small, pointees_are_integers, statics_are_told,
+    steps_have_room,
 };

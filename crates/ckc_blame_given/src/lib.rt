@@ -7,8 +7,8 @@ mod locals;
 mod targets;
 
 pub use laws::{expressions_give, ranges_begin_alike, words_go_to_places};
-pub use targets::{bundles_go_together, memory_stays_filled, targets_aim};
 pub use locals::{
     assignments_lead_on, calls_give_words, declarations_lead_on, plans_make_blocks,
     results_lead_on, statements_fit, steps_are_stored,
 };
+pub use targets::{bundles_go_together, memory_stays_filled, targets_aim};

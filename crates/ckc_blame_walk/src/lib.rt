@@ -6,11 +6,11 @@ mod first;
 mod laws;
 mod scopes;
 
-pub use laws::{
-    functions_are_judged, judging_keeps_frames, loops_keep_their_heads, walks_are_judged,
-};
-pub use scopes::{declared_is_unnamed, names_are_seen};
 pub use first::{
     first_state_is_sound, functions_are_entered, objects_are_sound, objects_have_sizes,
     phases_begin_soundly, slots_are_parts,
 };
+pub use laws::{
+    functions_are_judged, judging_keeps_frames, loops_keep_their_heads, walks_are_judged,
+};
+pub use scopes::{declared_is_unnamed, names_are_seen};
