@@ -52,7 +52,7 @@ integer_kind (CType-F.Pointer k t) e = absurd cc
 
 -- ---- lengths
 
-plain_ends : (n : Length) → kind_of_array n ≡ None → is_terminated n ≡ false
+pub plain_ends : (n : Length) → kind_of_array n ≡ None → is_terminated n ≡ false
 plain_ends lengths.Plain e = refl
 plain_ends (lengths.Raw n at) e = absurd cc
 plain_ends (lengths.Checked n) e = absurd cc

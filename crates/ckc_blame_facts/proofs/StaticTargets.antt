@@ -38,7 +38,7 @@ use Rattle.ckc_blame_facts.specs.Statics.{IsStatic, bounds_counted, range_counte
 node_whole : (m : NotedNode) → roll-Node Name Note (out-Node Name Note m) ≡ m
 node_whole m = search (rules, the_lemmas)
 
-no_member : (frame : Frame) (e : NotedExpr) (n : Name) → out-Node Name Note e.node ≡ Node-F.Name n → (view frame e).member ≡ None
+pub no_member : (frame : Frame) (e : NotedExpr) (n : Name) → out-Node Name Note e.node ≡ Node-F.Name n → (view frame e).member ≡ None
 no_member frame e n is =
     let S : Expr-F Name Note NotedLimits NotedNode NotedExpr = record { node = e.node; pos = e.pos; note = e.note } in
     ap (λ (v : View). v.member) (fold-roll-Expr Name Note LimitsView NodeView View limits_view (node_view frame) expr_view S)

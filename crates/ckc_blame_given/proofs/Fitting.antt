@@ -53,41 +53,60 @@ use Rattle.ckc_blame_given.proofs.Given.{view_is}
 
 -- ---- what judging keeps
 
--- the local that a node of an expression is, whatever is said of its parts
-abbrev local_layer : {A L M E : Type 0} → Node-F Name A L M E → Option ℕ
-local_layer (Node-F.Name n) = local_named n
-local_layer n = None
+-- the name that a node of an expression is, whatever is said of its parts
+abbrev pub name_layer : {A L M E : Type 0} → Node-F Name A L M E → Option Name
+name_layer (Node-F.Name n) = Some n
+name_layer n = None
 
-abbrev limits_any : Limits-F Name Note (Unit {0}) (Option ℕ) (Option ℕ) → Unit {0}
+abbrev pub name_of : NotedExpr → Option Name
+name_of e = name_layer (out-Node Name Note e.node)
+
+abbrev limits_any : Limits-F Name Note (Unit {0}) (Option Name) (Option Name) → Unit {0}
 limits_any l = tt
 
-abbrev whole : Expr-F Name Note (Unit {0}) (Option ℕ) (Option ℕ) → Option ℕ
+abbrev whole : Expr-F Name Note (Unit {0}) (Option Name) (Option Name) → Option Name
 whole e = e.node
 
-abbrev local_fold : NotedExpr → Option ℕ
-local_fold = fold-Expr Name Note (Unit {0}) (Option ℕ) (Option ℕ) limits_any local_layer whole
+abbrev name_fold : NotedExpr → Option Name
+name_fold = fold-Expr Name Note (Unit {0}) (Option Name) (Option Name) limits_any name_layer whole
 
-abbrev local_node : NotedNode → Option ℕ
-local_node = fold-Node Name Note (Unit {0}) (Option ℕ) (Option ℕ) limits_any local_layer whole
+abbrev name_node : NotedNode → Option Name
+name_node = fold-Node Name Note (Unit {0}) (Option Name) (Option Name) limits_any name_layer whole
 
-abbrev local_limits : NotedLimits → Unit {0}
-local_limits = fold-Limits Name Note (Unit {0}) (Option ℕ) (Option ℕ) limits_any local_layer whole
+abbrev name_limits : NotedLimits → Unit {0}
+name_limits = fold-Limits Name Note (Unit {0}) (Option Name) (Option Name) limits_any name_layer whole
 
-fold_is : (e : NotedExpr) → local_fold e ≡ local_of e
+fold_is : (e : NotedExpr) → name_fold e ≡ name_of e
 fold_is e =
-    fold-roll-Expr Name Note (Unit {0}) (Option ℕ) (Option ℕ) limits_any local_layer whole (record { node = e.node; pos = e.pos; note = e.note })
-    ∙ ap local_node (sym (node_back e.node)) ∙ fold-roll-Node Name Note (Unit {0}) (Option ℕ) (Option ℕ) limits_any local_layer whole (out-Node Name Note e.node)
+    fold-roll-Expr Name Note (Unit {0}) (Option Name) (Option Name) limits_any name_layer whole (record { node = e.node; pos = e.pos; note = e.note })
+    ∙ ap name_node (sym (node_back e.node)) ∙ fold-roll-Node Name Note (Unit {0}) (Option Name) (Option Name) limits_any name_layer whole (out-Node Name Note e.node)
     ∙ by (out-Node Name Note e.node)
   where
-    by : (x : NotedLayer) → local_layer (map-Node Name Note NotedLimits NotedNode NotedExpr (Unit {0}) (Option ℕ) (Option ℕ) local_limits local_node local_fold x) ≡ local_in x
+    by : (x : NotedLayer) → name_layer (map-Node Name Note NotedLimits NotedNode NotedExpr (Unit {0}) (Option Name) (Option Name) name_limits name_node name_fold x) ≡ name_layer x
+    by (Node-F.Name n) = refl
+    by x = refl
+
+-- the local that a name is
+abbrev local_by : Option Name → Option ℕ
+local_by (Some n) = local_named n
+local_by None = None
+
+local_is : (e : NotedExpr) → local_of e ≡ local_by (name_of e)
+local_is e = by (out-Node Name Note e.node)
+  where
+    by : (x : NotedLayer) → local_in x ≡ local_by (name_layer x)
     by (Node-F.Name n) = refl
     by x = refl
 
 module _ (frame : Frame) (e f : NotedExpr) (fresh : ℕ) (at : State) (is : (view frame e).judged fresh at ≡ Ok f) where
-  -- judging keeps which local an expression is
+  -- judging keeps which name an expression is
+  pub same_name : name_of f ≡ name_of e
+  same_name =
+      sym (fold_is f) ∙ same_fold frame (Unit {0}) (Option Name) (Option Name) limits_any name_layer whole (λ n pos note r. refl) e f fresh at is ∙ fold_is e
+
+  -- and so which local
   pub same_local : local_of f ≡ local_of e
-  same_local =
-      sym (fold_is f) ∙ same_fold frame (Unit {0}) (Option ℕ) (Option ℕ) limits_any local_layer whole (λ n pos note r. refl) e f fresh at is ∙ fold_is e
+  same_local = local_is f ∙ ap local_by same_name ∙ sym (local_is e)
 
   -- and its type
   pub same_type : f.note.ctype ≡ e.note.ctype

@@ -44,7 +44,7 @@ pub record IsObjectBlock (s : Setting) (store : Store) (t : CType) (k : ℕ) : T
   pub element : block.element ≡ t
 
 module _ (s : Setting) (store : Store) (next : ℕ) (ready : IsSoundStore s store next) where
-  object_block : (t : CType) (k : ℕ) → IsStaticObject s t k → IsObjectBlock s store t k
+  pub object_block : (t : CType) (k : ℕ) → IsStaticObject s t k → IsObjectBlock s store t k
   object_block t k c =
       let made = beside_at (object_elaborated s.text.layout) (flat_map run_in s.text.tree.items) s.text.statics k c.object c.there in
       let at = object_at (objects_elaborated s.text) store.blocks ready.sound.memory.objects k (object_elaborated s.text.layout made.0 c.object) made.1 in
@@ -67,7 +67,7 @@ module _ (s : Setting) (store : Store) (next : ℕ) (ready : IsSoundStore s stor
       let b = object_block t k c in
       record { number = k; block = b.block; there = b.there; index = 0; below = b.some; address = b.address; element = b.element }
 
-  cell_of : (t : CType) (k : ℕ) → IsStaticObject s t k → (offset : ℕ) (u : CType) → IsPart s.text.layout t offset (width_of u) → IsCell s.text.layout store.blocks (address_of s.text k + offset) (width_of u) false
+  pub cell_of : (t : CType) (k : ℕ) → IsStaticObject s t k → (offset : ℕ) (u : CType) → IsPart s.text.layout t offset (width_of u) → IsCell s.text.layout store.blocks (address_of s.text k + offset) (width_of u) false
   cell_of t k c offset u part =
       object_cell s.text store.blocks ready.sound.memory.objects k c.object c.there c.plain c.some offset (width_of u) (subst (λ x. IsPart s.text.layout x offset (width_of u)) (sym c.element) part)
 

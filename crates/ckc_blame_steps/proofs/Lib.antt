@@ -33,6 +33,7 @@ pub mod Returned
 pub mod Callees
 pub mod Given
 pub mod Kept
+pub mod Objects
 pub mod ResultPoints
 pub mod Words
 pub mod Callocs

@@ -13,7 +13,9 @@ pub use allocated::allocations_draw;
 pub use calls::{calls_keep_sound, ends_keep_sound, results_are_known, returns_keep_sound};
 pub use decided::conditions_are_decided;
 pub use laws::{assignments_keep_sound, getchar_keeps_sound};
-pub use results::{callees_are_known, covered_give_words, points_after_results_hold};
+pub use results::{
+    callees_are_known, covered_give_words, objects_keep_results, points_after_results_hold,
+};
 pub use whole::{
     checked_never_stuck, checked_steps_keep_sound, first_state_sound, steps_stay_sound,
     stuck_is_blamed, wholly_checked_never_stuck,

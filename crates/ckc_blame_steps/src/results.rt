@@ -15,7 +15,7 @@ ghost use Rattle.ckc_blame_texts.specs.Judged.{IsJudged};
 ghost use Rattle.ckc_blame_pointers.specs.Covered.{DeclareLocals, IsSoundStore};
 ghost use Rattle.ckc_blame_steps.specs.Arguments.{GivesWord, GiveWords};
 ghost use Rattle.ckc_blame_steps.specs.Callees.{HaveCallees, HaveFewVariables};
-ghost use Rattle.ckc_blame_steps.specs.Results.{ResultsLeadOn};
+ghost use Rattle.ckc_blame_steps.specs.Results.{ObjectsKeepResults, ResultsLeadOn};
 ghost use Rattle.ckc_blame_steps.specs.Givable.{IsGivable, AreGivable};
 ghost use Rattle.ckc_blame_steps.specs.Spared.{SpareResults};
 
@@ -29,6 +29,12 @@ pub fn callees_are_known()
 /// result name a local that the function declares.
 pub fn points_after_results_hold()
     ensures { (p : Typed) → IsJudged p → HaveFewVariables p → SpareResults p → ResultsLeadOn p }
+{}
+
+/// A result of a call in a judged text that goes to a static object is stored there: blocks stay
+/// sound, each range that was true is, and each checked pointer in memory may be read.
+pub fn objects_keep_results()
+    ensures { (p : Typed) → IsJudged p → HaveFewVariables p → ObjectsKeepResults p }
 {}
 
 /// An expression that is covered gives a word to what it is returned or passed as, and the
