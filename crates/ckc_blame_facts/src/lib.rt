@@ -1,15 +1,15 @@
 //! Facts of every judged text, on which the laws of steps stand, and which of its expressions are covered.
 #![tactic(auto)]
 
-mod accepted;
-mod covers;
+mod accepted_laws;
+mod covers_laws;
 mod laws;
 
-pub use accepted::{
+pub use accepted_laws::{
     declared_types_are_fine, locals_are_spared, names_of_members_are_small, objects_begin_as_bytes,
     runs_are_free,
 };
-pub use covers::{
+pub use covers_laws::{
     checked_conditions_are_covered, checked_parts_are_safe, declared_structures_are_laid_out,
     expressions_are_covered, members_are_told, texts_are_safe, texts_are_told,
 };

@@ -92,7 +92,7 @@ module _ (p : Typed) (g : IsGranted p) (st : State) (h : Sound p st) (step : Cod
   made : AreAssignsJudged s f.here.at f.here.next (f.judged.before ∷ []) afters × AreStored s f.here afters f.judged.behind
   made = assignment_stored s f.here f.judged.behind f.judged.before f.judged.after e x f.judged.counting is f.judged.judged
 
-  one : IsAssignJudged s f.here.at f.here.next f.judged.before f.judged.after
+  pub one : IsAssignJudged s f.here.at f.here.next f.judged.before f.judged.after
   unfolding AreAssignsJudged
   one = made.0.0
 
@@ -102,17 +102,17 @@ module _ (p : Typed) (g : IsGranted p) (st : State) (h : Sound p st) (step : Cod
   abbrev value : NotedExpr
   value = one.value
 
-  covered : IsCoveredTarget s (store_of shapes b) f.here.seen place (out-Node Name Note place.node) × IsCoveredRight s (store_of shapes b) f.here.seen value (out-Node Name Note value.node)
+  pub covered : IsCoveredTarget s (store_of shapes b) f.here.seen place (out-Node Name Note place.node) × IsCoveredRight s (store_of shapes b) f.here.seen value (out-Node Name Note value.node)
   covered = subst (IsCoveredAct s (store_of shapes b) f.here.seen) one.becomes (covered_there p g st h step next f end mode b at_b)
 
-  fit : AreFit (globals_in p) s (Act-F.Assign one.target one.right)
+  pub fit : AreFit (globals_in p) s (Act-F.Assign one.target one.right)
   fit =
       subst (AreFit (globals_in p) s) one.is
       (side_fits p g st h step next f f.judged.inside.mode f.judged.inside.looped (out-Act Name Note f.judged.before.body) e x is
       (typed_sides p g st h step next f (out-Act Name Note f.judged.before.body) e x is (typed_act p g st h step next f))
       (row_of p g st h step next f f.judged.before f.judged.inside.mode f.judged.inside.looped f.judged.inside.typed))
 
-  room : HaveRoomSides s.frame f.here.at 0 f.here.next place value
+  pub room : HaveRoomSides s.frame f.here.at 0 f.here.next place value
   room = subst (HasRoomAct s.frame f.here.at f.here.next) one.becomes (g.room s st.frame.function f.here f.exits.ends step function f.judged)
 
   fitting : All (IsFitting s) (numbered s.frame f.here.at 0 f.here.next (stores_of afters))
@@ -131,18 +131,25 @@ module _ (p : Typed) (g : IsGranted p) (st : State) (h : Sound p st) (step : Cod
   abbrev zero : Valuation
   zero = zeros s b.frame.locals f.here.next (known p g st h step next f).fresh
 
-  module _ (target : Target) (byte : IsByteStep (step End) target) where
-    abbrev to : Destination
-    to = destination_of s.text s.variables f.judged.literals place
+  abbrev to : Destination
+  to = destination_of s.text s.variables f.judged.literals place
 
+  -- what the step is
+  pub code_there : assigned s.text s.variables (spot f.judged.after.pos f.judged.after.note.mode) to (f.judged.literals + literals_of place) value End ≡ step End
+  code_there =
+      let code : act_code (parted (Act-F.Assign place value)) f.judged.after.pos f.judged.after.note.mode s.text s.variables s.result f.judged.literals ≡ step ∷ [] =
+      ap (λ y. act_code (parted y) f.judged.after.pos f.judged.after.note.mode s.text s.variables s.result f.judged.literals) (sym one.becomes)
+      ∙ sym (code_is s f.judged.literals f.judged.after) ∙ f.judged.becomes in
+      first_step (assigned s.text s.variables (spot f.judged.after.pos f.judged.after.note.mode) to (f.judged.literals + literals_of place) value) step code
+
+  pub fresh_is : from.fresh ≡ fresh_behind (view s.frame one.target) f.here.next f.here.at
+  fresh_is = ap (λ (v : View). fresh_behind v f.here.next f.here.at) (same_view s.frame one.target place f.here.next f.here.at one.target_judged s.frame)
+
+  module _ (target : Target) (byte : IsByteStep (step End) target) where
     call : IsByteCall s (spot f.judged.after.pos f.judged.after.note.mode) to (f.judged.literals + literals_of place) target value
     call =
-        let code : act_code (parted (Act-F.Assign place value)) f.judged.after.pos f.judged.after.note.mode s.text s.variables s.result f.judged.literals ≡ step ∷ [] =
-        ap (λ y. act_code (parted y) f.judged.after.pos f.judged.after.note.mode s.text s.variables s.result f.judged.literals) (sym one.becomes)
-        ∙ sym (code_is s f.judged.literals f.judged.after) ∙ f.judged.becomes in
         byte_call s (spot f.judged.after.pos f.judged.after.note.mode) to (f.judged.literals + literals_of place) target value
-        (subst (λ (y : Code). IsByteStep y target)
-        (sym (first_step (assigned s.text s.variables (spot f.judged.after.pos f.judged.after.note.mode) to (f.judged.literals + literals_of place) value) step code)) byte)
+        (subst (λ (y : Code). IsByteStep y target) (sym code_there) byte)
 
     received : (n : ℕ) → n < 2 ^ 32 → IsReceived s (store_of shapes b) zero f.here.at place.note.ctype value from n
     received n small =

@@ -95,7 +95,7 @@ filled_any p shapes s old new parts sound filled =
 -- ---- what a declaration is judged to
 
 module _ (s : Setting) (here : Here) (counting : here.counting ≡ false) where
-  value_made : (e a : NotedExpr) (there : Here) → value_judged s.frame e here ≡ Ok (a, there) → (view s.frame e).judged here.next here.at ≡ Ok a
+  pub value_made : (e a : NotedExpr) (there : Here) → value_judged s.frame e here ≡ Ok (a, there) → (view s.frame e).judged here.next here.at ≡ Ok a
   unfolding value_judged
   value_made e a there h =
       let m = made_of (expr_judged s.frame e here) (λ g. Ok (g, record here { next = fresh_behind (view s.frame e) here.next here.at })) (a, there) h in

@@ -7,6 +7,8 @@ pub mod Bytes
 pub mod Landings
 pub mod ByteAssignments
 pub mod ByteSteps
+pub mod Argument
+pub mod PutSteps
 pub mod Stores
 pub mod Own
 pub mod Steps

@@ -4,7 +4,7 @@ ghost use Rattle.std.specs.Prelude.{◌≡◌, List, ◌∷◌};
 ghost use Rattle.ckc_base.specs.declared.arithmetic.Mode.TheVariants.{Checked};
 ghost use Rattle.ckc_typed.specs.declared.typed.Typed.{Typed};
 ghost use Rattle.ckc_source.specs.declared.stmt.Spot.{Spot};
-ghost use Rattle.ckc_source.specs.Code.{Target, Right, Code, Assign, Bundle, Get};
+ghost use Rattle.ckc_source.specs.Code.{Target, Right, Expr, Code, Assign, Bundle, Get, Put};
 ghost use Rattle.ckc_source.specs.States.{Work, Rest, State, settled};
 ghost use Rattle.ckc_source.specs.Steps.{source_step, spot_of};
 ghost use Rattle.ckc_build_elaborate.specs.Elaborated.{elaborated};
@@ -26,11 +26,16 @@ pub fn assignments_keep_sound()
         → (spot_of s).mode ≡ Checked → IsSoundMove p (source_step (elaborated p) s) }
 {}
 
-/// A call of `getchar` of mode Checked that is the next step of a sound state leads to a sound state,
-/// or stops at a named check: alone, assigned, or what a local begins with. It is not stuck.
-pub fn getchar_keeps_sound()
-    ensures { (p : Typed) (s : State) (h : Sound p s) (spot : Spot) (target : Target)
+/// A call of `getchar` and of `putchar` of mode Checked that is the next step of a sound state leads to
+/// a sound state, or stops at a named check: alone, assigned, or what a local begins with. It is not
+/// stuck.
+pub fn bytes_keep_sound()
+    ensures get { (p : Typed) (s : State) (h : Sound p s) (spot : Spot) (target : Target)
         (rest : Code) (next : List Work) → IsGranted p
         → settled s.frame.work ≡ Rest (Get spot target rest) ∷ next
+        → (spot_of s).mode ≡ Checked → IsSoundMove p (source_step (elaborated p) s) }
+    ensures put { (p : Typed) (s : State) (h : Sound p s) (spot : Spot) (target : Target)
+        (e : Expr) (rest : Code) (next : List Work) → IsGranted p
+        → settled s.frame.work ≡ Rest (Put spot target e rest) ∷ next
         → (spot_of s).mode ≡ Checked → IsSoundMove p (source_step (elaborated p) s) }
 {}

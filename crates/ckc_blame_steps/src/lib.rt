@@ -2,21 +2,21 @@
 //! runs.
 #![tactic(auto)]
 
-mod allocated;
-mod calls;
-mod decided;
+mod allocated_laws;
+mod calls_laws;
+mod decided_laws;
 mod laws;
-mod results;
-mod whole;
+mod results_laws;
+mod whole_laws;
 
-pub use allocated::allocations_draw;
-pub use calls::{calls_keep_sound, ends_keep_sound, results_are_known, returns_keep_sound};
-pub use decided::conditions_are_decided;
-pub use laws::{assignments_keep_sound, getchar_keeps_sound};
-pub use results::{
+pub use allocated_laws::allocations_draw;
+pub use calls_laws::{calls_keep_sound, ends_keep_sound, results_are_known, returns_keep_sound};
+pub use decided_laws::conditions_are_decided;
+pub use laws::{assignments_keep_sound, bytes_keep_sound};
+pub use results_laws::{
     callees_are_known, covered_give_words, objects_keep_results, points_after_results_hold,
 };
-pub use whole::{
+pub use whole_laws::{
     checked_never_stuck, checked_steps_keep_sound, first_state_sound, steps_stay_sound,
     stuck_is_blamed, wholly_checked_never_stuck,
 };

@@ -2,15 +2,15 @@
 //! of the program is sound.
 #![tactic(auto)]
 
-mod first;
+mod first_laws;
 mod laws;
-mod scopes;
+mod scopes_laws;
 
-pub use first::{
+pub use first_laws::{
     first_state_is_sound, functions_are_entered, objects_are_sound, objects_have_sizes,
     phases_begin_soundly, slots_are_parts,
 };
 pub use laws::{
     functions_are_judged, judging_keeps_frames, loops_keep_their_heads, walks_are_judged,
 };
-pub use scopes::{declared_is_unnamed, names_are_seen};
+pub use scopes_laws::{declared_is_unnamed, names_are_seen};

@@ -1,5 +1,0 @@
-use Rattle.ckc_blame_facts.proofs.FineNames.{names_fine}
-use Rattle.ckc_blame_facts.proofs.accepted.declared_types_are_fine.Goals as goal
-
-pub returns : goal.returns
-returns c = names_fine

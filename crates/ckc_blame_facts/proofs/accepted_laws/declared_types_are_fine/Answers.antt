@@ -1,0 +1,5 @@
+use Rattle.ckc_blame_facts.proofs.FineNames.{names_fine}
+use Rattle.ckc_blame_facts.proofs.accepted_laws.declared_types_are_fine.Goals as goal
+
+pub returns : goal.returns
+returns c = names_fine

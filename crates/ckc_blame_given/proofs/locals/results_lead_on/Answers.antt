@@ -1,5 +1,0 @@
-use Rattle.ckc_blame_given.proofs.Points.{alone_after, same_point}
-use Rattle.ckc_blame_given.proofs.locals.results_lead_on.Goals as goal
-
-pub returns : goal.returns
-returns c = record { assigned = alone_after; nothing = same_point }

@@ -1,5 +1,0 @@
-use Rattle.ckc_blame_steps.proofs.Allocations.{allocate_soundly}
-use Rattle.ckc_blame_steps.proofs.allocated.allocations_draw.Goals as goal
-
-pub returns : goal.returns
-returns c = allocate_soundly

@@ -1,5 +1,0 @@
-use Rattle.ckc_blame_steps.proofs.Known.{results_known}
-use Rattle.ckc_blame_steps.proofs.calls.results_are_known.Goals as goal
-
-pub returns : goal.returns
-returns c = results_known

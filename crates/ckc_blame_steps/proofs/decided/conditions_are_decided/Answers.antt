@@ -1,5 +1,0 @@
-use Rattle.ckc_blame_steps.proofs.Decided.{decided}
-use Rattle.ckc_blame_steps.proofs.decided.conditions_are_decided.Goals as goal
-
-pub returns : goal.returns
-returns c = λ p s h e j words few declares tests here one other c holds. decided p s h j words few declares tests here one other e c holds

@@ -1,8 +1,0 @@
-use Rattle.ckc_blame_steps.proofs.Words.{gives_word, give_words}
-use Rattle.ckc_blame_steps.proofs.results.covered_give_words.Goals as goal
-
-pub returns : goal.returns
-returns c = record {
-  one = λ globals s entry here next store agrees declares ready holds e f k from g. gives_word globals s entry here next store agrees declares ready holds e f k from g;
-  each = λ globals s entry here next store agrees declares ready holds es fs k from g. give_words globals s entry here next store agrees declares ready holds es fs k from g;
-}

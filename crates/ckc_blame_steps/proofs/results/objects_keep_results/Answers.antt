@@ -1,5 +1,0 @@
-use Rattle.ckc_blame_steps.proofs.ResultPoints.{objects_keep_results}
-use Rattle.ckc_blame_steps.proofs.results.objects_keep_results.Goals as goal
-
-pub returns : goal.returns
-returns c = objects_keep_results

@@ -1,5 +1,0 @@
-use Rattle.ckc_blame_steps.proofs.Promised.{stays_sound}
-use Rattle.ckc_blame_steps.proofs.whole.steps_stay_sound.Goals as goal
-
-pub returns : goal.returns
-returns c = λ p s k. stays_sound p k s

@@ -1,5 +1,0 @@
-use Rattle.ckc_blame_steps.proofs.Promised.{wholly_never}
-use Rattle.ckc_blame_steps.proofs.whole.wholly_checked_never_stuck.Goals as goal
-
-pub returns : goal.returns
-returns c = wholly_never

@@ -1,6 +1,0 @@
-use Rattle.ckc_blame_walk.proofs.First.{first_state_sound}
-use Rattle.ckc_blame_walk.proofs.Judged.{judged_sound}
-use Rattle.ckc_blame_walk.proofs.first.first_state_is_sound.Goals as goal
-
-pub returns : goal.returns
-returns c = record { ready = first_state_sound; judged = judged_sound }
