@@ -22,6 +22,10 @@ use Rattle.ckc_blame_steps.proofs.Entering.{call_keeps}
 use Rattle.ckc_blame_steps.proofs.Returned.{return_keeps, end_keeps}
 use Rattle.ckc_blame_steps.proofs.Whole.{every_assignment}
 use Rattle.ckc_blame_steps.proofs.Bundles.{every_bundle}
+use Rattle.ckc_blame_steps.proofs.ByteSteps.{every_get}
+use Rattle.ckc_blame_steps.proofs.PutSteps.{every_put}
+use Rattle.ckc_blame_steps.proofs.Callees.{callees_known}
+use Rattle.ckc_blame_steps.proofs.ResultPoints.{results_lead_on, objects_keep_results}
 use Rattle.ckc_blame_steps.specs.Known.{IsKnown}
 
 module _ (p : Typed) (k : IsKnown p) (s : State) (h : Sound p s) where
@@ -41,7 +45,7 @@ module _ (p : Typed) (k : IsKnown p) (s : State) (h : Sound p s) where
   call_sound spot target number es rest next is mode =
       let f = faces_call h.setting (store_in p s.blocks s.frame) s.frame.entry s.frame.work next (stands_ready p s h) spot target number es rest is in
       let checked : spot.mode ≡ Checked = mode_of_spot (Call spot target number es rest) next is mode in
-      call_keeps p s h k.granted.judged k.nested k.granted.few spot target number es rest next checked f f.judged.named k.callees
+      call_keeps p s h k.granted.judged k.nested k.granted.few spot target number es rest next checked f f.judged.named (callees_known p k.granted.judged)
       (k.arguments s h spot target number es (Rest rest ∷ next) f checked) is
 
   return_sound : (spot : Spot) (e : Expr) (rest : Code) (next : List Work) → settled s.frame.work ≡ Rest (Return spot e rest) ∷ next → (spot_of s).mode ≡ Checked
@@ -49,14 +53,14 @@ module _ (p : Typed) (k : IsKnown p) (s : State) (h : Sound p s) where
   return_sound spot e rest next is mode =
       let f = faces_return h.setting (store_in p s.blocks s.frame) s.frame.entry s.frame.work next (stands_ready p s h) spot e rest is in
       let checked : spot.mode ≡ Checked = mode_of_spot (Return spot e rest) next is mode in
-      return_keeps p s h k.granted.judged k.granted.few k.callees (results_known p k.granted.judged) k.leads k.objects spot e rest next checked f f.judged.named
+      return_keeps p s h k.granted.judged k.granted.few (callees_known p k.granted.judged) (results_known p k.granted.judged) (results_lead_on p k.granted.judged k.granted.few k.spares) (objects_keep_results p k.granted.judged k.granted.few) spot e rest next checked f f.judged.named
       (k.returned s h spot e (Rest rest ∷ next) f checked) is
 
   step_keeps : (code : Code) (next : List Work) → settled s.frame.work ≡ Rest code ∷ next → (spot_of s).mode ≡ Checked → assigns_or_calls code ≡ true → IsSoundMove p (source_step (elaborated p) s)
   step_keeps (Assign spot target right rest) next is mode there = every_assignment p s h spot target right rest next k.granted k.allocations is mode
   step_keeps (Bundle spot assigns rest) next is mode there = every_bundle p s h spot assigns rest next k.granted k.allocations is mode
-  step_keeps (Get spot target rest) next is mode there = k.bytes.gets spot target rest s h next is mode
-  step_keeps (Put spot target e rest) next is mode there = k.bytes.puts spot target e rest s h next is mode
+  step_keeps (Get spot target rest) next is mode there = every_get p s h spot target rest next k.granted is mode
+  step_keeps (Put spot target e rest) next is mode there = every_put p s h spot target e rest next k.granted is mode
   step_keeps (Call spot target number es rest) next is mode there = call_sound spot target number es rest next is mode
   step_keeps (Return spot e rest) next is mode there = return_sound spot e rest next is mode
   step_keeps code next is mode there = absurd (cc)
@@ -66,5 +70,5 @@ known_keeps p k = record {
   conditions = λ s h code next e is mode there. test_decided p k s h e;
   steps = λ s h code next is mode there. step_keeps p k s h code next is mode there;
   falls = λ s h caller callers is some mode.
-      end_keeps p s h k.granted.judged k.granted.few k.callees (results_known p k.granted.judged) k.leads k.objects is;
+      end_keeps p s h k.granted.judged k.granted.few (callees_known p k.granted.judged) (results_known p k.granted.judged) (results_lead_on p k.granted.judged k.granted.few k.spares) (objects_keep_results p k.granted.judged k.granted.few) is;
 }
