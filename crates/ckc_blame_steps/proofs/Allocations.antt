@@ -81,7 +81,8 @@ use Rattle.ckc_blame_given.specs.Written.{IsReceived}
 use Rattle.ckc_blame_given.specs.Targets.{ComesTo}
 use Rattle.ckc_blame_steps.specs.Granted.{HasRoom}
 use Rattle.ckc_blame_steps.specs.Plans.{IsAt, HasMore, IsDrawn, IsDrawnOn, counted_in}
-use Rattle.ckc_blame_steps.specs.Allocated.{HasPlaces, AllocateSoundly}
+use Rattle.ckc_blame_steps.specs.Granted.{HasPlaces}
+use Rattle.ckc_blame_steps.specs.Plans.{AllocateSoundly}
 use Rattle.ckc_blame_steps.proofs.Callocs.{IsCalloc, is_calloc, count_type, IsJudgedCalloc, judged_calloc}
 use Rattle.ckc_blame_steps.proofs.Valued as valued
 use Rattle.ckc_blame_steps.proofs.Made.{room_counts, null_read, own_address, range_read, range_element}

@@ -102,7 +102,7 @@ module _ (p : Typed) (g : IsGranted p) (st : State) (h : Sound p st) (step : Cod
   abbrev value : NotedExpr
   value = one.value
 
-  pub covered : IsCoveredTarget s (store_of shapes b) f.here.seen place (out-Node Name Note place.node) × IsCoveredRight s (store_of shapes b) f.here.seen value (out-Node Name Note value.node)
+  pub covered : IsCoveredTarget s (store_of shapes b) f.here.seen place (out-Node Name Note place.node) × IsCoveredRight s (store_of shapes b) f.here.seen place.note.ctype value (out-Node Name Note value.node)
   covered = subst (IsCoveredAct s (store_of shapes b) f.here.seen) one.becomes (covered_there p g st h step next f end mode b at_b)
 
   pub fit : AreFit (globals_in p) s (Act-F.Assign one.target one.right)

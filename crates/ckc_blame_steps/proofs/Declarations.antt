@@ -262,10 +262,11 @@ module _ (p : Typed) (g : IsGranted p) (st : State) (h : Sound p st) (step : Cod
     code_is_so : started s.text s.variables spot_there to literals e.init End ≡ Assign sp target right End
     code_is_so = code_there ∙ same
 
-    is_covered : (c : State) → IsAt s shapes st.frame.entry f.here c → IsCoveredInit s (store_of shapes c) f.here.seen e.init
+    is_covered : (c : State) → IsAt s shapes st.frame.entry f.here c → IsCoveredInit s (store_of shapes c) f.here.seen l.ctype e.init
     is_covered c at_c =
-        subst (IsCoveredAct s (store_of shapes c) f.here.seen) is_made.becomes
-        (covered_there p g st h step next f sp (ap (λ (x : Code). (spot_in sp x).mode) same ∙ mode) c at_c)
+        subst (λ t. IsCoveredInit s (store_of shapes c) f.here.seen t e.init) type_is
+        (subst (IsCoveredAct s (store_of shapes c) f.here.seen) is_made.becomes
+        (covered_there p g st h step next f sp (ap (λ (x : Code). (spot_in sp x).mode) same ∙ mode) c at_c))
 
     abbrev Claim : Target → Right → Type 0
     Claim x r = (x ≡ to.target) × ComesTo Starts (drawn shapes b r)
@@ -289,9 +290,9 @@ module _ (p : Typed) (g : IsGranted p) (st : State) (h : Sound p st) (step : Cod
     module _ (x y : NotedExpr) (one : e.init ≡ init.One y) (judged : (view s.frame x).judged f.here.next f.here.at ≡ Ok y) (typed : IsTyped (globals_in p) s x) (goes : converts l.ctype x ≡ true) where
       plain_there : IsPlain s sp spot_there to literals y target right
       plain_there =
-          plain s sp spot_there to literals y target right (store_of shapes b) f.here.seen
+          plain s sp spot_there to literals y target right (store_of shapes b) f.here.seen l.ctype
           (ap (λ (i : NotedInit). started s.text s.variables spot_there to literals i End) (sym one) ∙ code_is_so)
-          (subst (IsCoveredInit s (store_of shapes b) f.here.seen) one (is_covered b (is_at p g st h step next f)))
+          (subst (IsCoveredInit s (store_of shapes b) f.here.seen l.ctype) one (is_covered b (is_at p g st h step next f)))
 
       room_there : HasRoom s.frame f.here.at 0 f.here.next y
       room_there = subst (HasRoomInit s.frame f.here.at f.here.next) one room
@@ -320,7 +321,7 @@ module _ (p : Typed) (g : IsGranted p) (st : State) (h : Sound p st) (step : Cod
             (right_drawn (globals_in p) s (frames_agree p s st.frame.function g.judged function) (g.declares s st.frame.function function) (free p g st h step next f) shapes st.frame.entry f.here
             (allocations s st.frame.function f.here f.exits.ends step st.frame.entry function f.judged) b (is_at p g st h step next f) l.ctype x y f.here.next literals typed goes judged room_there.variables
             (known p g st h step next f).fresh
-            (plain_there.covered (store_of shapes b) f.here.seen (subst (IsCoveredInit s (store_of shapes b) f.here.seen) one (is_covered b (is_at p g st h step next f)))))),
+            (plain_there.covered (store_of shapes b) f.here.seen l.ctype (subst (IsCoveredInit s (store_of shapes b) f.here.seen l.ctype) one (is_covered b (is_at p g st h step next f)))))),
       )
         where
           weaker : (r : Result Drawn Halt) → ComesTo (IsDrawn s shapes st.frame.entry f.here b l.ctype y) r → ComesTo Starts r

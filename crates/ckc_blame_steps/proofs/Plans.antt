@@ -118,15 +118,15 @@ module _ (globals : Globals) (s : Setting) (agrees : Agrees globals s) (declares
         sym (allocates_is s.frame f) ∙ ap (λ (w : View). w.allocates) (sym (same_view s.frame f g fresh here.at judged s.frame)) ∙ allocates_is s.frame g ∙ ap is_allocation_form is ∙ none
 
     -- a right side
-    pub right_drawn : IsCoveredValue s (store_of shapes b) here.seen g (out-Node Name Note g.node)
+    pub right_drawn : IsCoveredValue s (store_of shapes b) here.seen t g (out-Node Name Note g.node)
         → ComesTo (IsDrawn s shapes entry here b t g) (drawn shapes b (right_of s.text s.variables literals (is_terminated t) g))
     right_drawn covered = by (out-Node Name Note g.node) refl covered
       where
-        by : (x : NotedLayer) → out-Node Name Note g.node ≡ x → IsCoveredValue s (store_of shapes b) here.seen g x
+        by : (x : NotedLayer) → out-Node Name Note g.node ≡ x → IsCoveredValue s (store_of shapes b) here.seen t g x
             → ComesTo (IsDrawn s shapes entry here b t g) (drawn shapes b (right_form s.text s.variables literals (is_terminated t) g x))
         by (Node-F.Calloc w n x) is c =
             subst (λ (y : NotedLayer). ComesTo (IsDrawn s shapes entry here b t g) (drawn shapes b (right_form s.text s.variables literals (is_terminated t) g y))) is
-            (allocations b is_at t f g n fresh literals (ap counted_in is) typed goes judged little are c)
+            (allocations b is_at t f g n fresh literals (ap counted_in is) typed goes c.0 judged little are c.1)
         by x is c = value_drawn s globals agrees declares shapes entry here b is_at t f g fresh literals typed goes (plain x is refl) judged little are c
 
   abbrev IsPlan : State → List Placed → ℕ → ℕ → Valuation → Planned → Type 0

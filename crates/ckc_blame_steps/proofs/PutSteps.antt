@@ -7,6 +7,8 @@ use Rattle.ckc_syntax.specs.declared.tree.Name.{Name}
 use Rattle.ckc_syntax.specs.declared.tree.Name.TheVariants as name
 use Rattle.ckc_syntax.specs.declared.tree.Node.{Node-F, out-Node}
 use Rattle.ckc_syntax.specs.declared.tree.Act.{Act-F, out-Act}
+use Rattle.ckc_types.specs.declared.types.CType.{CType}
+use Rattle.ckc_typed.specs.Types.{type_written}
 use Rattle.ckc_typed.specs.declared.typed.Note.{Note}
 use Rattle.ckc_typed.specs.declared.typed.Typed.{Typed}
 use Rattle.ckc_typed.specs.Trees.{NotedDecl, NotedExpr, NotedInit}
@@ -92,9 +94,9 @@ module _ (p : Typed) (g : IsGranted p) (st : State) (h : Sound p st) (step : Cod
   room : HasRoomAct s.frame f.here.at f.here.next (out-Act Name Note f.judged.after.body)
   room = g.room s st.frame.function f.here f.exits.ends step function f.judged
 
-  of_right : (x : NotedExpr) → IsCoveredRight s store f.here.seen x (out-Node Name Note x.node) → (es : List NotedExpr) → out-Node Name Note x.node ≡ Node-F.Call name.Putchar es
+  of_right : (t : CType) (x : NotedExpr) → IsCoveredRight s store f.here.seen t x (out-Node Name Note x.node) → (es : List NotedExpr) → out-Node Name Note x.node ≡ Node-F.Call name.Putchar es
       → IsCoveredFirst s store f.here.seen es
-  of_right x c es out = subst (IsCoveredRight s store f.here.seen x) out c
+  of_right t x c es out = subst (IsCoveredRight s store f.here.seen t x) out c
 
   call_evaluates : IsCallAlone s f.here f.exits.ends step f.judged → Evaluates
   call_evaluates c =
@@ -112,7 +114,7 @@ module _ (p : Typed) (g : IsGranted p) (st : State) (h : Sound p st) (step : Cod
       (assignment.fit p g st h step next f end mode a x is).1 one.right_judged
       (subst (λ n. n + length ((view s.frame one.value).fresh f.here.at) < 2 ^ 32) (assignment.fresh_is p g st h step next f end mode a x is)
       (assignment.room p g st h step next f end mode a x is).right.variables)
-      (of_right one.value (assignment.covered p g st h step next f end mode a x is).1) (assignment.code_there p g st h step next f end mode a x is)
+      (of_right one.place.note.ctype one.value (assignment.covered p g st h step next f end mode a x is).1) (assignment.code_there p g st h step next f end mode a x is)
     where
       further : (m n k : ℕ) → m < 2 ^ 32 → capped m n ≤ k → m ≤ k
       further m n k a b = omega arith
@@ -136,7 +138,7 @@ module _ (p : Typed) (g : IsGranted p) (st : State) (h : Sound p st) (step : Cod
         by (init.One x) j typed =
             any_value f.here.next (known p g st h step next f).fresh (declaration.spot_there p g st h step next f d is) (declaration.to p g st h step next f d is) (declaration.literals p g st h step next f d is) x
             j.0 typed j.2 (subst (HasRoomInit s.frame f.here.at f.here.next) j.1 (declaration.room p g st h step next f d is)).variables
-            (of_right j.0 (subst (IsCoveredInit s store f.here.seen) j.1 (subst (IsCoveredAct s store f.here.seen) (declaration.is_made p g st h step next f d is).becomes covered)))
+            (of_right (type_written made.ctype) j.0 (subst (IsCoveredInit s store f.here.seen (type_written made.ctype)) j.1 (subst (IsCoveredAct s store f.here.seen) (declaration.is_made p g st h step next f d is).becomes covered)))
             (code_for (init.One j.0) j.1)
         by (init.Many xs) j typed = absurd typed
 

@@ -135,7 +135,7 @@ module _ (p : Typed) (g : IsGranted p) (allocations : AllocateSoundly p) (st : S
   one = made.0.0
 
   covered : (c : State) → IsAt t list st.frame.entry f.here c
-      → IsCoveredTarget t (store_of list c) f.here.seen one.place (out-Node Name Note one.place.node) × IsCoveredRight t (store_of list c) f.here.seen one.value (out-Node Name Note one.value.node)
+      → IsCoveredTarget t (store_of list c) f.here.seen one.place (out-Node Name Note one.place.node) × IsCoveredRight t (store_of list c) f.here.seen one.place.note.ctype one.value (out-Node Name Note one.value.node)
   covered c at_c = subst (IsCoveredAct t (store_of list c) f.here.seen) one.becomes (covered_there p g st h step next f sp mode c at_c)
 
   abbrev pub start : State
@@ -145,11 +145,11 @@ module _ (p : Typed) (g : IsGranted p) (allocations : AllocateSoundly p) (st : S
   start_at = is_at p g st h step next f
 
   plain : IsPlainStep t sp f.judged.after target right one.place one.value
-  plain = assign_plain t f.judged.literals f.judged.after sp target right f.judged.becomes one.place one.value one.becomes (store_of list start) f.here.seen (covered start start_at).1
+  plain = assign_plain t f.judged.literals f.judged.after sp target right f.judged.becomes one.place one.value one.becomes (store_of list start) f.here.seen one.place.note.ctype (covered start start_at).1
 
   all_covered : StayCovered t list st.frame.entry f.here afters
   all_covered c at_c =
-      (subst (AreCoveredSides t (store_of list c) f.here.seen) (sym one.becomes) ((covered c at_c).0, plain.covered (store_of list c) f.here.seen (covered c at_c).1), tt)
+      (subst (AreCoveredSides t (store_of list c) f.here.seen) (sym one.becomes) ((covered c at_c).0, plain.covered (store_of list c) f.here.seen one.place.note.ctype (covered c at_c).1), tt)
 
   become : BecomeParts t afters ((target, right) ∷ [])
   unfolding BecomeParts

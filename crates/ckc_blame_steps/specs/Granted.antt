@@ -1,5 +1,5 @@
 -- What is granted of a judged text: which expressions its steps of mode Checked have, and how small it is.
-use Rattle.std.specs.Prelude.{◌≡◌, ℕ, ◌+◌, ◌<◌, ◌^◌, List, [], ◌∷◌, length, IfSome}
+use Rattle.std.specs.Prelude.{◌≡◌, true, ℕ, ◌+◌, ◌<◌, ◌^◌, List, [], ◌∷◌, length, IfSome}
 use Rattle.std.specs.List.{AllByRecursion}
 use Rattle.ckc_base.specs.declared.arithmetic.Mode.TheVariants.{Checked}
 use Rattle.ckc_syntax.specs.declared.tree.Name.{Name}
@@ -8,7 +8,11 @@ use Rattle.ckc_syntax.specs.declared.tree.Init.TheVariants as init
 use Rattle.ckc_syntax.specs.declared.tree.Node.{Node-F, out-Node}
 use Rattle.ckc_syntax.specs.declared.tree.Act.{Act-F, out-Act}
 use Rattle.ckc_typed.specs.declared.typed.Note.{Note}
+use Rattle.ckc_types.specs.declared.types.CType.{CType}
 use Rattle.ckc_typed.specs.declared.typed.Typed.{Typed}
+use Rattle.ckc_typed.specs.Conversions.{is_terminated_kind}
+use Rattle.ckc_typed.specs.Types.{element_of, is_integer, kind_of, type_written}
+use Rattle.ckc_build_values.specs.Kinds.{size_behind}
 use Rattle.ckc_typed.specs.Trees.{NotedAct, NotedDecl, NotedExpr, NotedInit, NotedLayer, NotedStmt}
 use Rattle.ckc_bounds_points.specs.declared.frame.Frame.{Frame}
 use Rattle.ckc_bounds_points.specs.declared.frame.Local.{Local}
@@ -36,10 +40,17 @@ use Rattle.ckc_blame_given.specs.Together.{HaveSmallNames}
 
 -- ---- expressions that are covered
 
--- What is assigned in a bundle is covered; of a `calloc` what it counts is.
-abbrev pub IsCoveredValue : Setting → Store → List ℕ → NotedExpr → NotedLayer → Type 0
-IsCoveredValue s store seen e (Node-F.Calloc w n x) = IsCovered s store seen n
-IsCoveredValue s store seen e node = IsCovered s store seen e
+-- A block of elements that a pointer of a type points to may be made: they have a size, and null-terminated ones are
+-- integers.
+pub record HasPlaces (s : Setting) (t : CType) : Type 0 where
+  pub sized : 0 < size_behind s.text.layout t
+  pub terminated : is_terminated_kind (kind_of t) ≡ true → is_integer (element_of t) ≡ true
+
+-- What is assigned in a bundle to a place of type t is covered; of a `calloc` what it counts is, and its blocks may be
+-- made there.
+abbrev pub IsCoveredValue : Setting → Store → List ℕ → CType → NotedExpr → NotedLayer → Type 0
+IsCoveredValue s store seen t e (Node-F.Calloc w n x) = HasPlaces s t × IsCovered s store seen n
+IsCoveredValue s store seen t e node = IsCovered s store seen e
 
 -- the argument of `putchar`, which takes one
 abbrev pub IsCoveredFirst : Setting → Store → List ℕ → List NotedExpr → Type 0
@@ -54,9 +65,9 @@ IsCoveredCall s store seen name.Putchar es = IsCoveredFirst s store seen es
 IsCoveredCall s store seen n es = ⊥
 
 -- the right side of an assignment alone, or an initialiser, which may be a call
-abbrev pub IsCoveredRight : Setting → Store → List ℕ → NotedExpr → NotedLayer → Type 0
-IsCoveredRight s store seen e (Node-F.Call n es) = IsCoveredCall s store seen n es
-IsCoveredRight s store seen e node = IsCoveredValue s store seen e node
+abbrev pub IsCoveredRight : Setting → Store → List ℕ → CType → NotedExpr → NotedLayer → Type 0
+IsCoveredRight s store seen t e (Node-F.Call n es) = IsCoveredCall s store seen n es
+IsCoveredRight s store seen t e node = IsCoveredValue s store seen t e node
 
 -- a statement that is an expression is a call
 abbrev pub IsCoveredAlone : Setting → Store → List ℕ → NotedLayer → Type 0
@@ -64,16 +75,16 @@ IsCoveredAlone s store seen (Node-F.Call n es) = IsCoveredCall s store seen n es
 IsCoveredAlone s store seen node = ⊥
 
 -- an initialiser; no local has a list in braces
-abbrev pub IsCoveredInit : Setting → Store → List ℕ → NotedInit → Type 0
-IsCoveredInit s store seen init.Nothing = Unit {0}
-IsCoveredInit s store seen (init.One e) = IsCoveredRight s store seen e (out-Node Name Note e.node)
-IsCoveredInit s store seen (init.Many es) = ⊥
+abbrev pub IsCoveredInit : Setting → Store → List ℕ → CType → NotedInit → Type 0
+IsCoveredInit s store seen t init.Nothing = Unit {0}
+IsCoveredInit s store seen t (init.One e) = IsCoveredRight s store seen t e (out-Node Name Note e.node)
+IsCoveredInit s store seen t (init.Many es) = ⊥
 
 -- an assignment of a bundle
 abbrev pub AreCoveredSides : Setting → Store → List ℕ → Act-F Name Note NotedAct NotedStmt → Type 0
 AreCoveredSides s store seen (Act-F.Assign e f) =
     IsCoveredTarget s store seen e (out-Node Name Note e.node)
-    × IsCoveredValue s store seen f (out-Node Name Note f.node)
+    × IsCoveredValue s store seen e.note.ctype f (out-Node Name Note f.node)
 AreCoveredSides s store seen a = ⊥
 
 -- the assignments of a bundle
@@ -83,10 +94,10 @@ AreCoveredParts s store seen ss =
 
 -- The expressions of a statement that is a step by itself, after it is judged.
 abbrev pub IsCoveredAct : Setting → Store → List ℕ → Act-F Name Note NotedAct NotedStmt → Type 0
-IsCoveredAct s store seen (Act-F.Local d) = IsCoveredInit s store seen d.init
+IsCoveredAct s store seen (Act-F.Local d) = IsCoveredInit s store seen (type_written d.ctype) d.init
 IsCoveredAct s store seen (Act-F.Assign e f) =
     IsCoveredTarget s store seen e (out-Node Name Note e.node)
-    × IsCoveredRight s store seen f (out-Node Name Note f.node)
+    × IsCoveredRight s store seen e.note.ctype f (out-Node Name Note f.node)
 IsCoveredAct s store seen (Act-F.Call e) = IsCoveredAlone s store seen (out-Node Name Note e.node)
 IsCoveredAct s store seen (Act-F.Return e) = IfSome e (IsCovered s store seen)
 IsCoveredAct s store seen (Act-F.Check e) = IsCovered s store seen e

@@ -6,5 +6,4 @@ pub mod Callees
 pub mod Results
 pub mod Spared
 pub mod Givable
-pub mod Allocated
 pub mod Known

@@ -35,7 +35,7 @@ use Rattle.ckc_blame_given.specs.Planned.{ArePlanned}
 use Rattle.ckc_blame_given.specs.Written.{IsReceived}
 use Rattle.ckc_blame_given.specs.Targets.{ComesTo}
 use Rattle.ckc_blame_given.specs.Together.{AreIn}
-use Rattle.ckc_blame_steps.specs.Granted.{HasRoom}
+use Rattle.ckc_blame_steps.specs.Granted.{HasRoom, HasPlaces}
 
 -- ---- what assignments become
 
@@ -117,7 +117,7 @@ abbrev pub AllocationsDraw : Globals → Setting → List Shape → List ℕ →
 AllocationsDraw globals s shapes entry here =
     (b : State) → IsAt s shapes entry here b → (t : CType) (f g n : NotedExpr)
     (fresh literals : ℕ) → counted_in (out-Node Name Note g.node) ≡ Some n → IsTyped globals s f → converts t f ≡ true
-    → (view s.frame f).judged fresh here.at ≡ Ok g → fresh + length ((view s.frame g).fresh here.at) < 2 ^ 32
+    → HasPlaces s t → (view s.frame f).judged fresh here.at ≡ Ok g → fresh + length ((view s.frame g).fresh here.at) < 2 ^ 32
     → AreFresh s.frame fresh → IsCovered s (store_of shapes b) here.seen n
     → ComesTo (IsDrawn s shapes entry here b t g)
     (drawn shapes b (right_of s.text s.variables literals (is_terminated t) g))

@@ -6,7 +6,7 @@ ghost use Rattle.ckc_blame_sound.specs.Settings.{Setting, IsFunction};
 ghost use Rattle.ckc_blame_slots.specs.Limited.{AreSlotParts};
 ghost use Rattle.ckc_blame_texts.specs.Judged.{IsJudged};
 ghost use Rattle.ckc_blame_pointers.specs.Covered.{DeclareLocals};
-ghost use Rattle.ckc_blame_steps.specs.Allocated.{AllocateSoundly};
+ghost use Rattle.ckc_blame_steps.specs.Plans.{AllocateSoundly};
 
 /// A `calloc` that is drawn at a step of a judged text, in a state at a point that holds, comes to a
 /// null pointer or to a new block of as many elements as it counts; the point holds after, and the
