@@ -22,6 +22,7 @@ use Rattle.ckc_blame_steps.proofs.Entering.{call_keeps}
 use Rattle.ckc_blame_steps.proofs.Returned.{return_keeps, end_keeps}
 use Rattle.ckc_blame_steps.proofs.Whole.{every_assignment}
 use Rattle.ckc_blame_steps.proofs.Bundles.{every_bundle}
+use Rattle.ckc_blame_steps.proofs.Allocations.{allocate_soundly}
 use Rattle.ckc_blame_steps.proofs.ByteSteps.{every_get}
 use Rattle.ckc_blame_steps.proofs.PutSteps.{every_put}
 use Rattle.ckc_blame_steps.proofs.Callees.{callees_known}
@@ -57,8 +58,8 @@ module _ (p : Typed) (k : IsKnown p) (s : State) (h : Sound p s) where
       (k.returned s h spot e (Rest rest ∷ next) f checked) is
 
   step_keeps : (code : Code) (next : List Work) → settled s.frame.work ≡ Rest code ∷ next → (spot_of s).mode ≡ Checked → assigns_or_calls code ≡ true → IsSoundMove p (source_step (elaborated p) s)
-  step_keeps (Assign spot target right rest) next is mode there = every_assignment p s h spot target right rest next k.granted k.allocations is mode
-  step_keeps (Bundle spot assigns rest) next is mode there = every_bundle p s h spot assigns rest next k.granted k.allocations is mode
+  step_keeps (Assign spot target right rest) next is mode there = every_assignment p s h spot target right rest next k.granted (allocate_soundly p k.granted.judged k.granted.parts k.granted.declares) is mode
+  step_keeps (Bundle spot assigns rest) next is mode there = every_bundle p s h spot assigns rest next k.granted (allocate_soundly p k.granted.judged k.granted.parts k.granted.declares) is mode
   step_keeps (Get spot target rest) next is mode there = every_get p s h spot target rest next k.granted is mode
   step_keeps (Put spot target e rest) next is mode there = every_put p s h spot target e rest next k.granted is mode
   step_keeps (Call spot target number es rest) next is mode there = call_sound spot target number es rest next is mode

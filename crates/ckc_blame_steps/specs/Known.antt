@@ -17,7 +17,6 @@ use Rattle.ckc_blame_nested.specs.Nested.{AreNested}
 use Rattle.ckc_blame_control.specs.Ready.{Faces}
 use Rattle.ckc_blame_steps.specs.Tests.{AreTestsCovered}
 use Rattle.ckc_blame_steps.specs.Granted.{IsGranted}
-use Rattle.ckc_blame_steps.specs.Plans.{AllocateSoundly}
 use Rattle.ckc_blame_steps.specs.Arguments.{GiveWords, literals_before}
 use Rattle.ckc_blame_steps.specs.Results.{GivesWordIf, returned_by}
 use Rattle.ckc_blame_steps.specs.Spared.{SpareResults}
@@ -44,13 +43,12 @@ ReturnsGiveWords p =
 
 -- ---- a text
 
--- The expressions of the checked steps and conditions of a text are covered, its allocations are sound, no result has
--- bounds that name a local that is declared, and what is passed and returned gives words.
+-- The expressions of the checked steps and conditions of a text are covered, no result has bounds that name a local that
+-- is declared, and what is passed and returned gives words.
 pub record IsKnown (p : Typed) : Type 0 where
   pub granted : IsGranted p
   pub nested : AreNested granted.judged.typed.tree.items
   pub tests : (s : Setting) (f : Function) → IsFunction p s f → AreTestsCovered s
-  pub allocations : AllocateSoundly p
   pub spares : SpareResults p
   pub arguments : ArgumentsGiveWords p
   pub returned : ReturnsGiveWords p
