@@ -11,18 +11,17 @@ ghost use Rattle.ckc_build_elaborate.specs.Elaborated.{elaborated};
 ghost use Rattle.ckc_blame_sound.specs.Sound.{Sound};
 ghost use Rattle.ckc_blame_runs.specs.Moves.{IsSoundMove};
 ghost use Rattle.ckc_blame_steps.specs.Granted.{IsGranted};
-ghost use Rattle.ckc_blame_steps.specs.Plans.{AllocateSoundly};
 
 /// An assignment, a declaration and a bundle of mode Checked that is the next step of a sound state
 /// leads to a sound state, or stops at a named check. It is not stuck.
 pub fn assignments_keep_sound()
     ensures assignment { (p : Typed) (s : State) (h : Sound p s) (spot : Spot) (target : Target)
-        (right : Right) (rest : Code) (next : List Work) → IsGranted p → AllocateSoundly p
+        (right : Right) (rest : Code) (next : List Work) → IsGranted p
         → settled s.frame.work ≡ Rest (Assign spot target right rest) ∷ next
         → (spot_of s).mode ≡ Checked → IsSoundMove p (source_step (elaborated p) s) }
     ensures bundle { (p : Typed) (s : State) (h : Sound p s) (spot : Spot)
         (assigns : List (Target × Right)) (rest : Code) (next : List Work) → IsGranted p
-        → AllocateSoundly p → settled s.frame.work ≡ Rest (Bundle spot assigns rest) ∷ next
+        → settled s.frame.work ≡ Rest (Bundle spot assigns rest) ∷ next
         → (spot_of s).mode ≡ Checked → IsSoundMove p (source_step (elaborated p) s) }
 {}
 

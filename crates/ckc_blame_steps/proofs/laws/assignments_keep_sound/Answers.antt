@@ -1,6 +1,12 @@
+use Rattle.ckc_blame_steps.proofs.Allocations.{allocate_soundly}
 use Rattle.ckc_blame_steps.proofs.Whole.{every_assignment}
 use Rattle.ckc_blame_steps.proofs.Bundles.{every_bundle}
 use Rattle.ckc_blame_steps.proofs.laws.assignments_keep_sound.Goals as goal
 
 pub returns : goal.returns
-returns c = record { assignment = every_assignment; bundle = every_bundle }
+returns c = record {
+  assignment = λ p s h spot target right rest next g is mode.
+      every_assignment p s h spot target right rest next g (allocate_soundly p g.judged g.parts g.declares) is mode;
+  bundle = λ p s h spot assigns rest next g is mode.
+      every_bundle p s h spot assigns rest next g (allocate_soundly p g.judged g.parts g.declares) is mode;
+}
