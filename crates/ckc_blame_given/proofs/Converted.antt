@@ -1,5 +1,5 @@
 -- Which conversion of a value to a type it is.
-use Rattle.std.proofs.Common.{◌≡◌, ◌⊎◌, inl, inr, ⊎_elim, refl, sym, ap, subst, ◌∙◌, ℕ, List, rules}
+use Rattle.std.proofs.Common.{◌≡◌, ◌⊎◌, ⊎_elim, refl, sym, ap, subst, ◌∙◌, ℕ, List, rules}
 use Rattle.std.specs.Prelude.{Bool, true, false, ◌&&◌, ◌||◌, if◌then◌else◌, Option, None, Some}
 use Rattle.std.proofs.lemmas.Bool.{and_parts}
 use Rattle.ckc_base.specs.declared.arithmetic.Mode.{Mode}
@@ -27,6 +27,7 @@ use Rattle.ckc_bounds_views.specs.Parts.{View}
 use Rattle.ckc_bounds_views.specs.Places.{pointer_place}
 use Rattle.ckc_bounds_views.specs.Views.{node_view, view}
 use Rattle.ckc_build_values.specs.Kinds.{pointee_of, size_behind}
+use Rattle.ckc_blame_sound.proofs.Facts.{one_of}
 use Rattle.ckc_blame_slots.proofs.Same.{same_equal}
 use Rattle.ckc_blame_given.proofs.Looser.{IsLooser}
 use Rattle.ckc_blame_given.proofs.Views.{viewed_layer, view_is}
@@ -47,7 +48,7 @@ kinds_keep j kind.Raw a b = absurd cc
 kinds_keep j kind.One a b = absurd cc
 kinds_keep j kind.Arr a b = absurd cc
 
-allowed_keep : (j k : Option Kind) → kinds_allow kind_converts j k ≡ true → is_terminated_kind k ≡ true → is_terminated_kind j ≡ true
+pub allowed_keep : (j k : Option Kind) → kinds_allow kind_converts j k ≡ true → is_terminated_kind k ≡ true → is_terminated_kind j ≡ true
 allowed_keep (Some j) (Some k) a b = kinds_keep j k a b
 allowed_keep None k a b = absurd cc
 allowed_keep (Some j) None a b = absurd cc
@@ -141,24 +142,29 @@ module _ (globals : Globals) (variables : List Variable) (t : CType) (e : NotedE
       let r = and_parts (is_pointer e.note.ctype) (same_type (element_of t) (element_of e.note.ctype)) q.1 in
       Pointers to (same_equal (element_of t) (element_of e.note.ctype) r.1) (allowed_keep (kind_of e.note.ctype) (kind_of t) p.1)
 
-  or_parts : (a b : Bool) → (a || b) ≡ true → (a ≡ true) ⊎ (b ≡ true)
-  or_parts true b h = inl refl
-  or_parts false b h = inr h
-
   no_allocation : is_allocation e ≡ false → takes_allocation t e ≡ false
   no_allocation h = ap (λ b. b && same_element t e.note.ctype) h
 
-  pub becomes : is_raw_kind (kind_of e.note.ctype) ≡ false → converts t e ≡ true → is_allocation e ≡ false → Becomes t e
+  pub becomes : (is_string e ≡ true → is_raw_kind (kind_of e.note.ctype) ≡ false) → converts t e ≡ true → is_allocation e ≡ false → Becomes t e
   becomes checked h whole = ⊎_elim
       (λ i. let p = and_parts (is_integer t) (is_integer e.note.ctype) i in Integers p.0 p.1)
       (λ i. let p = and_parts (is_pointer t) (is_null e || (takes_string t e || (takes_allocation t e || takes_pointer kind_converts t e))) i in ⊎_elim
       (λ n. Null p.0 n (null_bare n))
       (λ n. ⊎_elim
-      (λ s. from_string checked p.0 s)
+      (λ s. from_string (checked (and_parts (is_string e) (is_terminated_kind (kind_of t) && is_char (element_of t)) s).0) p.0 s)
       (λ a. from_pointer p.0 (subst (λ b. (b || takes_pointer kind_converts t e) ≡ true) (no_allocation whole) a))
-      (or_parts (takes_string t e) (takes_allocation t e || takes_pointer kind_converts t e) n))
-      (or_parts (is_null e) (takes_string t e || (takes_allocation t e || takes_pointer kind_converts t e)) p.1))
-      (or_parts (is_integer t && is_integer e.note.ctype) (is_pointer t && (is_null e || (takes_string t e || (takes_allocation t e || takes_pointer kind_converts t e)))) h)
+      (one_of (takes_string t e) (takes_allocation t e || takes_pointer kind_converts t e) n))
+      (one_of (is_null e) (takes_string t e || (takes_allocation t e || takes_pointer kind_converts t e)) p.1))
+      (one_of (is_integer t && is_integer e.note.ctype) (is_pointer t && (is_null e || (takes_string t e || (takes_allocation t e || takes_pointer kind_converts t e)))) h)
+
+-- In a checked scope a string literal is no unchecked pointer.
+pub becomes_checked : (globals : Globals) (variables : List Variable) (t : CType) (e : NotedExpr) (row : HasType globals variables Checked (out-Node Name Note e.node) e.note.ctype)
+    → converts t e ≡ true → is_allocation e ≡ false → Becomes t e
+becomes_checked globals variables t e row =
+    becomes globals variables t e Checked row (λ s. subst (λ u. is_raw_kind (kind_of u) ≡ false) (sym (string_is globals variables t e Checked row s)) (ap (λ f. is_raw_kind (kind_in f)) checked_out))
+  where
+    checked_out : out-CType (string_type Checked) ≡ CType-F.Pointer kind.Nt ctype.Char
+    checked_out = search (rules, ctype_lemmas)
 
 -- a pointer to the same elements
 pub element_looser : (structs : Structs) (t u : CType) → element_of t ≡ element_of u → (is_terminated_kind (kind_of t) ≡ true → is_terminated_kind (kind_of u) ≡ true)

@@ -48,7 +48,7 @@ use Rattle.ckc_blame_given.proofs.Views.{known_range, placed_pointer, allocates_
 pub becomes_typed : (globals : Globals) (s : Setting) (e : NotedExpr) (t : CType) → IsTyped globals s e → is_raw_kind (kind_of e.note.ctype) ≡ false → converts t e ≡ true → is_allocation e ≡ false → Becomes t e
 becomes_typed globals s e t typed checked goes whole =
     let row : IsRow globals s (out-Node Name Note e.node) e.note = every_here-Expr Name Note AnyLimits AnyNode (HasRow globals s) e typed in
-    becomes globals s.variables t e row.mode row.row checked goes whole
+    becomes globals s.variables t e row.mode row.row (λ s. checked) goes whole
 
 -- no form is a number of a pointer type
 no_form : (t : CType) (facts : Known) (o : Option Form) (f : Form) → is_pointer t ≡ true → in_type facts t o ≡ Some f → ⊥

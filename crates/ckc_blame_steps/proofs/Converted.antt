@@ -1,42 +1,30 @@
 -- What a value that is converted to a type is there.
-use Rattle.std.proofs.Common.{◌≡◌, ◌⊎◌, ⊎_elim, refl, sym, ap, subst, ◌∙◌, ℕ, List, rules, arith}
-use Rattle.std.specs.Prelude.{◌%◌, ◌<◌, ◌^◌, Bool, true, false, ◌&&◌, ◌||◌, if◌then◌else◌, Option, None, Some, Ok, Err}
+use Rattle.std.proofs.Common.{◌≡◌, ◌⊎◌, ⊎_elim, refl, ap, ℕ, List, arith}
+use Rattle.std.specs.Prelude.{◌%◌, ◌<◌, ◌^◌, Bool, true, false, ◌&&◌, ◌||◌, if◌then◌else◌, Ok, Err}
 use Rattle.std.proofs.lemmas.Bool.{and_parts}
-use Rattle.ckc_base.specs.declared.arithmetic.Mode.TheVariants.{Checked}
-use Rattle.ckc_linear.specs.declared.forms.Form.{Form}
-use Rattle.ckc_types.specs.declared.types.Kind.{Kind}
 use Rattle.ckc_types.specs.declared.types.Kind.TheVariants as kind
-use Rattle.ckc_types.specs.declared.types.CType.{CType, CType-F, out-CType, roll-CType, the_lemmas as ctype_lemmas}
+use Rattle.ckc_types.specs.declared.types.CType.{CType, CType-F, out-CType}
 use Rattle.ckc_types.specs.declared.types.CType.TheVariants as ctype
 use Rattle.ckc_types.specs.declared.types.Structs.{Structs}
 use Rattle.ckc_syntax.specs.declared.tree.Name.{Name}
 use Rattle.ckc_syntax.specs.declared.tree.Node.{Node-F, out-Node}
-use Rattle.ckc_typed.specs.declared.environment.Globals.{Globals}
-use Rattle.ckc_typed.specs.declared.environment.Variable.{Variable}
 use Rattle.ckc_typed.specs.declared.typed.Note.{Note}
 use Rattle.ckc_typed.specs.Conversions.{is_null, is_null_form, is_string, is_string_form, is_allocation, is_allocation_form, kind_converts, kinds_allow, is_terminated_kind, takes_string, takes_allocation, takes_pointer, converts}
-use Rattle.ckc_typed.specs.Expressions.{number_type, string_type}
 use Rattle.ckc_typed.specs.Operands.{same_element}
 use Rattle.ckc_typed.specs.Trees.{NotedExpr, NotedLayer}
 use Rattle.ckc_typed.specs.Types.{is_integer, is_pointer, is_char, is_char_form, is_pointer_form, element_of, kind_of, same_type}
-use Rattle.ckc_typed_welltyped.specs.Expressions.{HasType}
-use Rattle.ckc_bounds_points.specs.declared.frame.Frame.{Frame}
-use Rattle.ckc_bounds_points.specs.Shown.{Known}
-use Rattle.ckc_bounds_views.specs.Parts.{View}
-use Rattle.ckc_bounds_views.specs.Places.{pointer_place}
-use Rattle.ckc_bounds_views.specs.Views.{node_view, view}
 use Rattle.ckc_source.specs.Code.{Expr, Narrow}
 use Rattle.ckc_source.specs.Eval.{Store, evaluated}
 use Rattle.ckc_source.specs.declared.outcome.Halt.{Halt}
 use Rattle.ckc_source.specs.declared.outcome.Range.TheVariants.{Without}
 use Rattle.ckc_source.specs.declared.outcome.Value.{Value}
-use Rattle.ckc_build_values.specs.Kinds.{pointee_of, size_behind}
+use Rattle.ckc_build_values.specs.Kinds.{pointee_of}
 use Rattle.ckc_build_values.specs.Operators.{converted}
 use Rattle.ckc_blame_sound.proofs.Facts.{one_of}
 use Rattle.ckc_blame_slots.proofs.Same.{same_equal}
 use Rattle.ckc_blame_numbers.proofs.Types.{no_pointer}
-use Rattle.ckc_blame_steps.proofs.Looser.{IsLooser}
-use Rattle.ckc_blame_steps.proofs.Views.{viewed_layer, view_is}
+use Rattle.ckc_blame_given.proofs.Looser.{IsLooser}
+use Rattle.ckc_blame_given.proofs.Converted.{allowed_keep, element_looser}
 
 -- the word that a value is after its conversion to a type
 abbrev pub taken : CType → ℕ → ℕ
@@ -85,135 +73,6 @@ pub taken_pointer : (t : CType) (w : ℕ) → is_pointer t ≡ true → taken t 
 taken_pointer t w e = ap (λ b. if b then w % 256 else w) (no_char t e)
 
 -- ---- which conversion it is
-
--- A value is an integer that becomes one, null that becomes a pointer, or a pointer that becomes one to the same elements.
--- Null has no place.
-pub data Becomes (t : CType) (e : NotedExpr) : Type 0 where
-  Integers : (to : is_integer t ≡ true) (from : is_integer e.note.ctype ≡ true) → Becomes t e
-  Null : (to : is_pointer t ≡ true) (null : is_null e ≡ true) (bare : (frame : Frame) (first : ℕ) (facts : Known) → (view frame e).place first facts ≡ None) → Becomes t e
-  Pointers : (to : is_pointer t ≡ true) (element : element_of t ≡ element_of e.note.ctype) (terminated : is_terminated_kind (kind_of t) ≡ true → is_terminated_kind (kind_of e.note.ctype) ≡ true) → Becomes t e
-
-kinds_keep : (j k : Kind) → kind_converts j k ≡ true → is_terminated_kind (Some k) ≡ true → is_terminated_kind (Some j) ≡ true
-kinds_keep kind.Nt k a b = refl
-kinds_keep kind.Raw kind.Nt a b = absurd cc
-kinds_keep kind.One kind.Nt a b = absurd cc
-kinds_keep kind.Arr kind.Nt a b = absurd cc
-kinds_keep j kind.Raw a b = absurd cc
-kinds_keep j kind.One a b = absurd cc
-kinds_keep j kind.Arr a b = absurd cc
-
-allowed_keep : (j k : Option Kind) → kinds_allow kind_converts j k ≡ true → is_terminated_kind k ≡ true → is_terminated_kind j ≡ true
-allowed_keep (Some j) (Some k) a b = kinds_keep j k a b
-allowed_keep None k a b = absurd cc
-allowed_keep (Some j) None a b = absurd cc
-
-char_type : (t : CType) → is_char t ≡ true → t ≡ ctype.Char
-char_type t e = by (out-CType t) refl e
-  where
-    back : roll-CType (out-CType t) ≡ t
-    back = search (rules, ctype_lemmas)
-
-    char_is : roll-CType CType-F.Char ≡ ctype.Char
-    char_is = search (rules, ctype_lemmas)
-
-    by : (f : CType-F CType) → out-CType t ≡ f → is_char_form f ≡ true → t ≡ ctype.Char
-    by CType-F.Char is e = sym back ∙ ap roll-CType is ∙ char_is
-    by (CType-F.Pointer k u) is e = absurd cc
-    by CType-F.Int is e = absurd cc
-    by CType-F.Unsigned is e = absurd cc
-    by CType-F.Void is e = absurd cc
-    by (CType-F.Struct tag) is e = absurd cc
-
-string_out : out-CType (string_type Checked) ≡ CType-F.Pointer kind.Nt ctype.Char
-string_out = search (rules, ctype_lemmas)
-
-module _ (globals : Globals) (variables : List Variable) (t : CType) (e : NotedExpr) (row : HasType globals variables Checked (out-Node Name Note e.node) e.note.ctype) where
-  string_is : is_string e ≡ true → e.note.ctype ≡ string_type Checked
-  string_is s = by (out-Node Name Note e.node) s row
-    where
-      by : (n : NotedLayer) → is_string_form n ≡ true → HasType globals variables Checked n e.note.ctype → e.note.ctype ≡ string_type Checked
-      by (Node-F.Text bytes) s r = r
-      by Node-F.Null s r = absurd cc
-      by (Node-F.Number n u) s r = absurd cc
-      by (Node-F.Name n) s r = absurd cc
-      by (Node-F.Un o a) s r = absurd cc
-      by (Node-F.Bin o a b) s r = absurd cc
-      by (Node-F.Pick a b d) s r = absurd cc
-      by (Node-F.Index a b) s r = absurd cc
-      by (Node-F.Dot a m at) s r = absurd cc
-      by (Node-F.Arrow a m at) s r = absurd cc
-      by (Node-F.Cast w a) s r = absurd cc
-      by (Node-F.Size w) s r = absurd cc
-      by (Node-F.Trusted w a l) s r = absurd cc
-      by (Node-F.Tested w a l) s r = absurd cc
-      by (Node-F.Call n es) s r = absurd cc
-      by (Node-F.Calloc w n u) s r = absurd cc
-
-  integer_bare : (unsigned : Bool) → is_pointer (number_type unsigned) ≡ false
-  integer_bare true = search (rules, ctype_lemmas)
-  integer_bare false = search (rules, ctype_lemmas)
-
-  null_bare : is_null e ≡ true → (frame : Frame) (first : ℕ) (facts : Known) → (view frame e).place first facts ≡ None
-  null_bare null frame first facts = ap (λ (v : View). v.place first facts) (view_is frame e) ∙ by (out-Node Name Note e.node) null row
-    where
-      by : (n : NotedLayer) → is_null_form n ≡ true → HasType globals variables Checked n e.note.ctype → pointer_place e.note.ctype (node_view frame (viewed_layer frame n)) first facts ≡ None
-      by Node-F.Null s r = either (is_pointer e.note.ctype)
-        where
-          either : (b : Bool) → ◌≡◌ {A = Option Form} (if b then None else None) None
-          either true = refl
-          either false = refl
-      by (Node-F.Number n u) s r = rw (ap is_pointer r ∙ integer_bare u) refl
-      by (Node-F.Text bytes) s r = absurd cc
-      by (Node-F.Name n) s r = absurd cc
-      by (Node-F.Un o a) s r = absurd cc
-      by (Node-F.Bin o a b) s r = absurd cc
-      by (Node-F.Pick a b d) s r = absurd cc
-      by (Node-F.Index a b) s r = absurd cc
-      by (Node-F.Dot a m at) s r = absurd cc
-      by (Node-F.Arrow a m at) s r = absurd cc
-      by (Node-F.Cast w a) s r = absurd cc
-      by (Node-F.Size w) s r = absurd cc
-      by (Node-F.Trusted w a l) s r = absurd cc
-      by (Node-F.Tested w a l) s r = absurd cc
-      by (Node-F.Call n es) s r = absurd cc
-      by (Node-F.Calloc w n u) s r = absurd cc
-
-  from_string : is_pointer t ≡ true → takes_string t e ≡ true → Becomes t e
-  from_string to h =
-      let p = and_parts (is_string e) (is_terminated_kind (kind_of t) && is_char (element_of t)) h in
-      let q = and_parts (is_terminated_kind (kind_of t)) (is_char (element_of t)) p.1 in
-      let out : out-CType e.note.ctype ≡ CType-F.Pointer kind.Nt ctype.Char = ap out-CType (string_is p.0) ∙ string_out in
-      Pointers to (char_type (element_of t) q.1 ∙ sym (rw out refl)) (λ i. rw out refl)
-
-  from_pointer : is_pointer t ≡ true → takes_pointer kind_converts t e ≡ true → Becomes t e
-  from_pointer to h =
-      let p = and_parts (same_element t e.note.ctype) (kinds_allow kind_converts (kind_of e.note.ctype) (kind_of t)) h in
-      let q = and_parts (is_pointer t) (is_pointer e.note.ctype && same_type (element_of t) (element_of e.note.ctype)) p.0 in
-      let r = and_parts (is_pointer e.note.ctype) (same_type (element_of t) (element_of e.note.ctype)) q.1 in
-      Pointers to (same_equal (element_of t) (element_of e.note.ctype) r.1) (allowed_keep (kind_of e.note.ctype) (kind_of t) p.1)
-
-  no_allocation : is_allocation e ≡ false → takes_allocation t e ≡ false
-  no_allocation h = ap (λ b. b && same_element t e.note.ctype) h
-
-  pub becomes : converts t e ≡ true → is_allocation e ≡ false → Becomes t e
-  becomes h whole = ⊎_elim
-      (λ i. let p = and_parts (is_integer t) (is_integer e.note.ctype) i in Integers p.0 p.1)
-      (λ i. let p = and_parts (is_pointer t) (is_null e || (takes_string t e || (takes_allocation t e || takes_pointer kind_converts t e))) i in ⊎_elim
-      (λ n. Null p.0 n (null_bare n))
-      (λ n. ⊎_elim
-      (λ s. from_string p.0 s)
-      (λ a. from_pointer p.0 (subst (λ b. (b || takes_pointer kind_converts t e) ≡ true) (no_allocation whole) a))
-      (one_of (takes_string t e) (takes_allocation t e || takes_pointer kind_converts t e) n))
-      (one_of (is_null e) (takes_string t e || (takes_allocation t e || takes_pointer kind_converts t e)) p.1))
-      (one_of (is_integer t && is_integer e.note.ctype) (is_pointer t && (is_null e || (takes_string t e || (takes_allocation t e || takes_pointer kind_converts t e)))) h)
-
--- a pointer to the same elements
-pub element_looser : (structs : Structs) (t u : CType) → element_of t ≡ element_of u → (is_terminated_kind (kind_of t) ≡ true → is_terminated_kind (kind_of u) ≡ true)
-    → IsLooser (pointee_of structs u) (pointee_of structs t)
-element_looser structs t u same ends = record { element = same; size = element_size structs t u same; terminated = ends }
-  where
-    element_size : (structs : Structs) (t u : CType) → element_of t ≡ element_of u → size_behind structs t ≡ size_behind structs u
-    element_size structs t u same = rw same refl
 
 -- a call converts to pointers to the same elements alone
 plain : (a b c s l p : Bool) → a ≡ false → b ≡ false → c ≡ false → (a || ((b && s) || ((c && l) || p))) ≡ true → p ≡ true

@@ -78,7 +78,7 @@ use Rattle.ckc_blame_control.proofs.Moved.{move_by}
 use Rattle.ckc_blame_given.specs.Gives.{Continues}
 use Rattle.ckc_blame_steps.specs.Arguments.{GiveWords, literals_before}
 use Rattle.ckc_blame_steps.specs.Callees.{IsCallee, HaveCallees, HaveFewVariables}
-use Rattle.ckc_blame_steps.proofs.Converted.{becomes}
+use Rattle.ckc_blame_given.proofs.Converted.{becomes_checked}
 use Rattle.ckc_blame_steps.proofs.Evaluated.{AllBecome, AllGiven, AreNotStuck, all_given}
 use Rattle.ckc_blame_steps.proofs.Numbering.{AreWords, numbers_after, values_are, own_valuation, own_values, valuation_with, with_values, with_own, with_continues}
 use Rattle.ckc_blame_steps.proofs.Passed.{AreTaken, AreEntered, taken_many, taken_words, taken_numbers, are_arguments, are_new}
@@ -92,7 +92,7 @@ module _ (globals : Globals) (variables : List Variable) (s : Setting) (store : 
   unfolding GiveWords
   all_become [] [] fs k from typed h g = tt
   all_become (t ∷ ts) (e ∷ es) (f ∷ fs) k from typed h g = (
-    becomes globals variables t e ((expr_by_parts globals variables Checked e).0 typed.0).noted.row h.0 g.0.whole,
+    becomes_checked globals variables t e ((expr_by_parts globals variables Checked e).0 typed.0).noted.row h.0 g.0.whole,
     all_become ts es fs _ _ typed.1 h.1 g.1,
   )
   all_become (t ∷ ts) (e ∷ es) [] k from typed h g = absurd g

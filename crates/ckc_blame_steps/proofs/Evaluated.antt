@@ -20,7 +20,8 @@ use Rattle.ckc_blame_texts.proofs.Frames.{types_declared}
 use Rattle.ckc_blame_pointers.specs.Meant.{IsNotStuck}
 use Rattle.ckc_blame_given.specs.Gives.{Continues, GivesOn}
 use Rattle.ckc_blame_steps.specs.Arguments.{GivesWord, GiveWords, numbers_behind}
-use Rattle.ckc_blame_steps.proofs.Converted.{taken, converted_is, converted_halts, Becomes}
+use Rattle.ckc_blame_given.proofs.Converted.{Becomes}
+use Rattle.ckc_blame_steps.proofs.Converted.{taken, converted_is, converted_halts}
 use Rattle.ckc_blame_steps.proofs.Numbering.{AreWords, numbers_after, behind_words, behind_later, after_later, continues_on}
 use Rattle.ckc_blame_steps.proofs.Passed.{AreTaken}
 

@@ -23,7 +23,7 @@ use Rattle.ckc_blame_contained.specs.Containment.{Memory, IsRanged}
 use Rattle.ckc_blame_contained.specs.Given.{memory_of, IsFrom}
 use Rattle.ckc_blame_given.specs.Written.{IsReceived}
 use Rattle.ckc_blame_steps.specs.Results.{IsResultGiven}
-use Rattle.ckc_blame_steps.proofs.Views.{viewed_layer, view_is}
+use Rattle.ckc_blame_given.proofs.Views.{viewed_layer, view_is}
 
 -- a name needs no fresh variable
 pub name_needs_none : (frame : Frame) (e : NotedExpr) (n : Name) (fresh : ℕ) (at : State) → fresh ≤ 2 ^ 32 - 1 → out-Node Name Note e.node ≡ Node-F.Name n → fresh_behind (view frame e) fresh at ≡ fresh

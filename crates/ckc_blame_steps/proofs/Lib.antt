@@ -17,8 +17,6 @@ pub mod Origins
 pub mod Whole
 pub mod Bundles
 pub mod Decided
-pub mod Views
-pub mod Looser
 pub mod Converted
 pub mod Taken
 pub mod Numbering

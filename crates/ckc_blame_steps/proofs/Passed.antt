@@ -23,7 +23,8 @@ use Rattle.ckc_blame_contained.specs.Given.{memory_of}
 use Rattle.ckc_blame_contained.specs.Passed.{IsNewArgumentIf, AreNewArguments}
 use Rattle.ckc_blame_given.specs.Gives.{Gives}
 use Rattle.ckc_blame_steps.specs.Arguments.{numbers_behind}
-use Rattle.ckc_blame_steps.proofs.Converted.{taken, taken_word, Becomes}
+use Rattle.ckc_blame_given.proofs.Converted.{Becomes}
+use Rattle.ckc_blame_steps.proofs.Converted.{taken, taken_word}
 use Rattle.ckc_blame_steps.proofs.Numbering.{AreWords, behind_words, numbers_joined}
 use Rattle.ckc_blame_steps.proofs.Taken.{word_is, null_taken, wide_taken, narrow_taken, placed_taken, number_taken}
 

@@ -31,8 +31,8 @@ use Rattle.ckc_blame_sound.specs.Settings.{Setting}
 use Rattle.ckc_blame_sound.specs.Valuations.{Valuation, form_address, AreNumbersOf}
 use Rattle.ckc_blame_contained.specs.Containment.{IsReadWithin, IsNarrowed, IsRanged}
 use Rattle.ckc_blame_contained.specs.Given.{memory_of, IsFrom}
-use Rattle.ckc_blame_steps.proofs.Looser.{IsLooser, read_looser}
-use Rattle.ckc_blame_steps.proofs.Views.{viewed_layer, view_is}
+use Rattle.ckc_blame_given.proofs.Looser.{IsLooser, read_looser}
+use Rattle.ckc_blame_given.proofs.Views.{viewed_layer, view_is}
 
 -- ---- the value of a call is numbered after those in its arguments
 

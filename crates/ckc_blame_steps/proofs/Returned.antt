@@ -51,13 +51,14 @@ use Rattle.ckc_blame_given.specs.Gives.{Gives, GivesOn}
 use Rattle.ckc_blame_steps.specs.Arguments.{GivesWord}
 use Rattle.ckc_blame_steps.specs.Callees.{HaveCallees, HaveFewVariables}
 use Rattle.ckc_blame_steps.specs.Results.{GivesWordIf, returned_by, ResultsAreKnown, ResultsLeadOn, ObjectsKeepResults}
-use Rattle.ckc_blame_steps.proofs.Converted.{taken, converted_is, converted_halts, Becomes, becomes}
+use Rattle.ckc_blame_given.proofs.Converted.{Becomes, becomes_checked}
+use Rattle.ckc_blame_steps.proofs.Converted.{taken, converted_is, converted_halts}
 use Rattle.ckc_blame_steps.proofs.Entering.{stopped}
 use Rattle.ckc_blame_steps.proofs.Handing.{result_type, IsBoundedResult, returns_soundly}
 use Rattle.ckc_blame_steps.proofs.Numbering.{own_valuation, own_values, valuation_with, with_values, with_own}
 use Rattle.ckc_blame_steps.proofs.Returning.{JudgedIf, IsReturnStep, return_step}
 use Rattle.ckc_blame_steps.proofs.Taken.{word_is, null_taken, wide_taken, narrow_taken, placed_taken}
-use Rattle.ckc_blame_steps.proofs.Views.{allocates_is}
+use Rattle.ckc_blame_given.proofs.Views.{allocates_is}
 
 ended : (p : Typed) (n : ℕ) → IsSoundMove p (Halts [] (Ended n))
 ended p n e = cc
@@ -176,7 +177,7 @@ module _ (p : Typed) (s : State) (h : Sound p s) (j : IsJudged p) (few : HaveFew
     by_value None None typed fits judged gives is = subst (λ z. IsSoundMove p (and_moves (evaluated store z) (λ v. returns (elaborated p).shapes s s.callers v.number))) (sym is) zero_sound
     by_value (Some x) (Some y) typed fits judged gives is =
         value_sound x y judged.0 judged.1
-        (becomes (globals_of_text h.setting.text) h.setting.variables h.setting.result x ((expr_by_parts (globals_of_text h.setting.text) h.setting.variables Checked x).0 typed).noted.row fits gives.whole) gives is
+        (becomes_checked (globals_of_text h.setting.text) h.setting.variables h.setting.result x ((expr_by_parts (globals_of_text h.setting.text) h.setting.variables Checked x).0 typed).noted.row fits gives.whole) gives is
     by_value None (Some y) typed fits judged gives is = absurd judged
     by_value (Some x) None typed fits judged gives is = absurd judged
 

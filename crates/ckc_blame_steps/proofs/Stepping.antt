@@ -47,9 +47,9 @@ use Rattle.ckc_blame_control.proofs.Typed.{by_parts}
 use Rattle.ckc_blame_steps.specs.Arguments.{literals_before_act, literals_before}
 use Rattle.ckc_blame_steps.specs.Results.{value_of_init, value_of_act, value_of, type_of_act, type_of}
 use Rattle.ckc_blame_steps.proofs.Converted.{call_looser}
-use Rattle.ckc_blame_steps.proofs.Looser.{IsLooser}
+use Rattle.ckc_blame_given.proofs.Looser.{IsLooser}
 use Rattle.ckc_blame_steps.proofs.Calls.{IsCall, call_judged, value_is_judged}
-use Rattle.ckc_blame_steps.proofs.Views.{viewed_layer, view_is}
+use Rattle.ckc_blame_given.proofs.Views.{viewed_layer, view_is}
 
 -- ---- what becomes a call
 

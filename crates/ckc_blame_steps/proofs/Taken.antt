@@ -27,9 +27,10 @@ use Rattle.ckc_blame_numbers.proofs.Words.{InType, exact_is, read_back, narrowed
 use Rattle.ckc_blame_contained.specs.Containment.{IsReadWithin}
 use Rattle.ckc_blame_contained.specs.Given.{memory_of}
 use Rattle.ckc_blame_given.specs.Gives.{Gives}
-use Rattle.ckc_blame_steps.proofs.Converted.{taken, taken_zero, taken_pointer, Becomes, element_looser}
-use Rattle.ckc_blame_steps.proofs.Looser.{read_looser}
-use Rattle.ckc_blame_steps.proofs.Views.{known_range, placed_pointer}
+use Rattle.ckc_blame_given.proofs.Converted.{Becomes, element_looser}
+use Rattle.ckc_blame_steps.proofs.Converted.{taken, taken_zero, taken_pointer}
+use Rattle.ckc_blame_given.proofs.Looser.{read_looser}
+use Rattle.ckc_blame_given.proofs.Views.{known_range, placed_pointer}
 
 -- no form is a number of a pointer type
 no_form : (t : CType) (facts : Known) (o : Option Form) (f : Form) → is_pointer t ≡ true → in_type facts t o ≡ Some f → ⊥
