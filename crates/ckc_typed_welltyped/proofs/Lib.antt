@@ -11,7 +11,7 @@ mod ActsBack
 mod Texts
 mod Insides
 mod Folds
-mod MarksKept
+pub mod MarksKept
 mod DepthKept
 mod SmallKept
 pub mod ByParts
