@@ -21,28 +21,28 @@ use Rattle.ckc_build_elaborate.specs.code.Statements.{all_literals}
 use Rattle.ckc_build_elaborate.specs.Statements.{ActPart, Part, act_parts, stmt_parts, part_of}
 use Rattle.ckc_build_elaborate.specs.Functions.{literals_of_head, literals_of_item}
 
-exprs : (es : List NotedExpr) → values.all_literals (map values.part_of es) ≡ length (flat_map strings_of_expr es)
+pub exprs : (es : List NotedExpr) → values.all_literals (map values.part_of es) ≡ length (flat_map strings_of_expr es)
 exprs [] = refl
 exprs (e ∷ es) = both (strings_of_expr e) (flat_map strings_of_expr es) _ _ (expr_counted e) (exprs es)
 
-bounds : (l : Option NotedLimits) → literals_of_bounds l ≡ length (strings_of_bounds l)
+pub bounds : (l : Option NotedLimits) → literals_of_bounds l ≡ length (strings_of_bounds l)
 bounds None = refl
 bounds (Some l) = limits_counted l
 
-value : (e : Option NotedExpr) → literals_of_value e ≡ length (strings_of_value e)
+pub value : (e : Option NotedExpr) → literals_of_value e ≡ length (strings_of_value e)
 value None = refl
 value (Some e) = expr_counted e
 
-start : (plain : Bool) (i : NotedInit) → literals_of_init plain i ≡ length (strings_of_init plain i)
+pub start : (plain : Bool) (i : NotedInit) → literals_of_init plain i ≡ length (strings_of_init plain i)
 start plain init.Nothing = refl
 start true (init.One e) = expr_counted e
 start false (init.One e) = refl
 start plain (init.Many es) = exprs es
 
-decl : (d : NotedDecl) → literals_of_decl d ≡ length (strings_of_decl d)
+pub decl : (d : NotedDecl) → literals_of_decl d ≡ length (strings_of_decl d)
 decl d = both (strings_of_bounds d.bounds) (strings_of_init (is_plain d.length) d.init) _ _ (bounds d.bounds) (start (is_plain d.length) d.init)
 
-decls : (ds : List NotedDecl) → literals_of_decls ds ≡ length (flat_map strings_of_decl ds)
+pub decls : (ds : List NotedDecl) → literals_of_decls ds ≡ length (flat_map strings_of_decl ds)
 decls [] = refl
 decls (d ∷ ds) = both (strings_of_decl d) (flat_map strings_of_decl ds) _ _ (decl d) (decls ds)
 
@@ -93,10 +93,10 @@ act_all y = act_step y ∙ ap length (sym (fold-roll-Act Name Note Strings Strin
 stmt_all : (y : KeptStmtLayer counting counted) → (stmt_made counting counted y).literals ≡ length (strings_of_stmt (roll-Stmt Name Note (inner_stmt counting counted y)))
 stmt_all y = y.body.1 ∙ ap length (sym (fold-roll-Stmt Name Note Strings Strings act_strings stmt_strings (inner_stmt counting counted y)))
 
-stmt : (s : NotedStmt) → (part_of s).literals ≡ length (strings_of_stmt s)
+pub stmt : (s : NotedStmt) → (part_of s).literals ≡ length (strings_of_stmt s)
 stmt = each_stmt counting counted act_all stmt_all
 
-head : (h : NotedHead) → literals_of_head h ≡ length (strings_of_head h)
+pub head : (h : NotedHead) → literals_of_head h ≡ length (strings_of_head h)
 head h = both (flat_map strings_of_decl h.params) (strings_of_bounds h.bounds) _ _ (decls h.params) (bounds h.bounds)
 
 pub item_counted : (i : NotedItem) → literals_of_item i ≡ length (strings_of_item i)
