@@ -6,3 +6,4 @@ pub mod Words
 pub mod Tallies
 pub mod Typed
 pub mod Nodes
+pub mod Strings

@@ -1,10 +1,12 @@
 -- A function of a judged text: what it is judged by, and what it runs as.
-use Rattle.std.specs.Prelude.{◌≡◌, ℕ, List}
+use Rattle.std.specs.Prelude.{◌≡◌, ℕ, ◌+◌, true, List, [], ◌∷◌, slice_get, Some}
 use Rattle.std.specs.List.{Contains}
 use Rattle.ckc_types.specs.declared.types.CType.{CType}
 use Rattle.ckc_syntax.specs.declared.tree.Item.TheVariants as item
 use Rattle.ckc_typed.specs.declared.environment.Variable.{Variable}
+use Rattle.ckc_typed.specs.declared.typed.StaticObject.{StaticObject}
 use Rattle.ckc_typed.specs.declared.typed.Typed.{Typed}
+use Rattle.ckc_typed.specs.Statics.{Strings, object_of_string}
 use Rattle.ckc_typed.specs.Trees.{NotedHead, NotedStmt}
 use Rattle.ckc_typed.specs.Types.{type_written}
 use Rattle.ckc_typed.specs.Environment.{variables_of}
@@ -14,6 +16,7 @@ use Rattle.ckc_bounds.specs.Declarations.{head_bounds}
 use Rattle.ckc_bounds.specs.Frames.{text_frame, function_frame}
 use Rattle.ckc_source.specs.Code.{Function}
 use Rattle.ckc_build_elaborate.specs.Functions.{function_elaborated}
+use Rattle.ckc_build_elaborate.specs.Objects.{object_elaborated, objects_elaborated}
 
 -- What a function is judged by and elaborated with: its text, the variables that bounds are judged by, what its head says
 -- of bounds, its variables with their types, and the type of its result.
@@ -37,6 +40,19 @@ setting_of p head body = record {
   variables = variables_of head body;
   result = type_written head.result;
 }
+
+-- The static object with the number k is the one that a string literal makes, as it is judged and as it runs.
+pub record IsString (s : Setting) (bytes : List ℕ) (k : ℕ) : Type 0 where
+  pub object : StaticObject
+  pub there : slice_get s.text.statics k ≡ Some object
+  pub judged : slice_get s.frame.statics k ≡ Some object
+  pub free : slice_get (objects_elaborated s.text) k ≡ Some (object_elaborated s.text.layout (Some true) object)
+  pub made : object ≡ record (object_of_string bytes) { at = object.at }
+
+-- The static objects from the number k on are those of string literals, one after another.
+abbrev pub AreStrings : Setting → ℕ → Strings → Type 0
+AreStrings s k [] = Unit {0}
+AreStrings s k (bytes ∷ more) = IsString s bytes k × AreStrings s (k + 1) more
 
 -- The function f is one of the text with its body, and has the setting s.
 pub record IsFunction (p : Typed) (s : Setting) (f : Function) : Type 0 where
