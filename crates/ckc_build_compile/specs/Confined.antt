@@ -31,15 +31,21 @@ MayWrite p s (Outside event) = Unit {0}
 MayWrite p s (Wrote at count value) =
     ((width : Width) × (count ≡ width_bytes width) × MayDo p s (Stored at width value)) ⊎ IsInFrame (active s) at count
 
--- With an input with which the program is never stuck, the steps of the machine can be listed beside those of the
--- program: input and output are the same, and each store is one that may be made.
-abbrev pub ConfinesStores : Program → machine.Parts → Type 0
-ConfinesStores p parts =
-    (input : List ℕ) → AreBytes input → NeverStuck p input → (k : ℕ)
-    → Listing (source_system p) (detailed_system parts) (λ (e : Event). e ∷ []) outside_events
+-- The steps of the machine can be listed beside those of the program, with an input: input and output are the same, and
+-- each store is one that may be made.
+abbrev pub Confines : Program → machine.Parts → List ℕ → Type 0
+Confines p parts input =
+    (k : ℕ) → Listing (source_system p) (detailed_system parts) (λ (e : Event). e ∷ []) outside_events
     (MayWrite p) (λ s t. Unit {0}) (first_state p input) (machine.first_state parts input) k
+
+-- The machine is never at a fault, with an input.
+abbrev pub IsFaultless : machine.Parts → List ℕ → Type 0
+IsFaultless parts input = (k : ℕ) → IsSafe (machine parts input k).standing
+
+-- With an input with which the program is never stuck, the stores of the machine are so.
+abbrev pub ConfinesStores : Program → machine.Parts → Type 0
+ConfinesStores p parts = (input : List ℕ) → AreBytes input → NeverStuck p input → Confines p parts input
 
 -- With such an input the machine is never at a fault.
 abbrev pub NeverFaults : Program → machine.Parts → Type 0
-NeverFaults p parts =
-    (input : List ℕ) → AreBytes input → NeverStuck p input → (k : ℕ) → IsSafe (machine parts input k).standing
+NeverFaults p parts = (input : List ℕ) → AreBytes input → NeverStuck p input → IsFaultless parts input
