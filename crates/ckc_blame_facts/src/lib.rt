@@ -15,5 +15,5 @@ pub use covers_laws::{
 };
 pub use laws::{
     callees_have_heads, functions_are_small, pointees_are_integers, statics_are_told,
-    steps_have_room,
+    steps_have_room, texts_have_few,
 };
