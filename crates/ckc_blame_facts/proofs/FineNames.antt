@@ -3,7 +3,7 @@ use Rattle.std.proofs.Common.{◌≡◌, ◌∙◌, sym, ap, subst, refl, ℕ, B
 use Rattle.std.specs.Prelude.{All, ◌&&◌, ◌||◌, find, Option, Some, None}
 use Rattle.std.specs.List.{Contains, AllByRecursion, flat_map}
 use Rattle.std.specs.Option.{option_map}
-use Rattle.std.proofs.lemmas.List.Elements.{All-nil, All-cons, All-head, All-tail}
+use Rattle.std.proofs.lemmas.List.Elements.{All-nil, All-cons, All-head, All-tail, All-weaker}
 use Rattle.ckc_base.specs.declared.arithmetic.Mode.{Mode}
 use Rattle.ckc_base.specs.declared.arithmetic.Mode.TheVariants.{Unchecked}
 use Rattle.ckc_types.specs.declared.types.CType.{CType}
@@ -25,7 +25,7 @@ use Rattle.ckc_typed.specs.Environment.{getchar, putchar, is_member_named, kind_
 use Rattle.ckc_typed.specs.Layouts.{members_declared, members_in_item, bare_structs, structs_of}
 use Rattle.ckc_typed.specs.Texts.{globals_of, is_result_type}
 use Rattle.ckc_typed.specs.Trees.{Decl, Item, Tree, NotedDecl, NotedHead, NotedItem, NotedStmt}
-use Rattle.ckc_typed.specs.Types.{type_written, is_void, is_scalar_type}
+use Rattle.ckc_typed.specs.Types.{type_written, is_void, is_scalar, is_object_type, is_scalar_type}
 use Rattle.ckc_typed.specs.Walk.{head_mode}
 use Rattle.ckc_typed_welltyped.specs.Declarations.{WellTypedBare}
 use Rattle.ckc_typed_welltyped.specs.Noteless.{bare_decl, bare_item, bare_stmt}
@@ -42,9 +42,25 @@ use Rattle.ckc_blame_facts.proofs.Pointees.{fine_int, fine_pointer, integer_fine
 use Rattle.ckc_blame_facts.proofs.Small.{variables_are}
 use Rattle.ckc_blame_facts.proofs.Statics.{bare}
 use Rattle.ckc_blame_facts.proofs.SmallNames.{members_have, members_of_item, shapes_have}
-use Rattle.ckc_blame_facts.proofs.FineStatements.{IsFineVariable, AreFineVariables, no_variables, joined, scalar_fine, statement_fine}
+use Rattle.ckc_blame_facts.proofs.ScalarStatements.{IsScalarVariable, AreScalarVariables, no_variables, joined, statement_scalars}
 
 -- ---- types
+
+second_true : (a b : Bool) → (a && b) ≡ true → b ≡ true
+second_true true b e = e
+second_true false b e = absurd cc
+
+scalar_fine : (t : CType) → is_scalar_type t ≡ true → IsFine t
+scalar_fine t e = object_fine t (second_true (is_scalar t) (is_object_type t) e)
+
+abbrev IsFineVariable : Variable → Type 0
+IsFineVariable v = IsFine v.ctype
+
+abbrev AreFineVariables : List Variable → Type 0
+AreFineVariables vs = All IsFineVariable vs
+
+variables_fine : (vs : List Variable) → AreScalarVariables vs → AreFineVariables vs
+variables_fine vs h = All-weaker IsScalarVariable IsFineVariable (λ v e. scalar_fine v.ctype e) vs h
 
 result_fine : (t : CType) → is_result_type t ≡ true → IsFine t
 result_fine t e = by (is_void t) refl e
@@ -68,19 +84,27 @@ used_fine (lengths.Nt n) t e = ap (λ (f : Fine). f.fine) (fine_pointer kind.Nt 
 abbrev IsFineDecl : Decl → Type 0
 IsFineDecl d = IsFine (type_written d.ctype)
 
+abbrev IsScalarDecl : Decl → Type 0
+IsScalarDecl d = is_scalar_type (type_written d.ctype) ≡ true
+
 abbrev FineItem : Item → Type 0
 FineItem (item.Struct n members at) = All IsFineDecl members
 FineItem (item.Static d) = IsFine (object_type (object_declared d))
-FineItem (item.Function h body) = IsFine (type_written h.result) × AreFineVariables (variables_of h body)
+FineItem (item.Function h body) = IsFine (type_written h.result) × AreScalarVariables (variables_of h body)
 FineItem i = Unit {0}
 
-bares_fine : (globals : Globals) (variables : List Variable) (mode : Mode) (ds : List NotedDecl) → AllByRecursion (WellTypedBare globals variables mode) ds → All IsFineDecl (map (λ (d : NotedDecl). bare_decl d) ds)
-bares_fine globals variables mode [] w = All-nil IsFineDecl
-bares_fine globals variables mode (d ∷ ds) w = All-cons IsFineDecl (bare_decl d) (map (λ (d : NotedDecl). bare_decl d) ds) (scalar_fine _ w.0.scalar) (bares_fine globals variables mode ds w.1)
+bares_scalar : (globals : Globals) (variables : List Variable) (mode : Mode) (ds : List NotedDecl) → AllByRecursion (WellTypedBare globals variables mode) ds → All IsScalarDecl (map (λ (d : NotedDecl). bare_decl d) ds)
+bares_scalar globals variables mode [] w = All-nil IsScalarDecl
+bares_scalar globals variables mode (d ∷ ds) w = All-cons IsScalarDecl (bare_decl d) (map (λ (d : NotedDecl). bare_decl d) ds) w.0.scalar (bares_scalar globals variables mode ds w.1)
 
-params_fine : (ds : List Decl) → All IsFineDecl ds → AreFineVariables (map (λ (d : Decl). variable_declared d) ds)
-params_fine [] h = no_variables
-params_fine (d ∷ ds) h = All-cons IsFineVariable (variable_declared d) (map (λ (d : Decl). variable_declared d) ds) (All-head IsFineDecl d ds h) (params_fine ds (All-tail IsFineDecl d ds h))
+bares_fine : (globals : Globals) (variables : List Variable) (mode : Mode) (ds : List NotedDecl) → AllByRecursion (WellTypedBare globals variables mode) ds → All IsFineDecl (map (λ (d : NotedDecl). bare_decl d) ds)
+bares_fine globals variables mode ds w =
+    All-weaker IsScalarDecl IsFineDecl (λ d e. scalar_fine (type_written d.ctype) e) (map (λ (d : NotedDecl). bare_decl d) ds) (bares_scalar globals variables mode ds w)
+
+params_scalar : (ds : List Decl) → All IsScalarDecl ds → AreScalarVariables (map (λ (d : Decl). variable_declared d) ds)
+params_scalar [] h = no_variables
+params_scalar (d ∷ ds) h =
+    All-cons IsScalarVariable (variable_declared d) (map (λ (d : Decl). variable_declared d) ds) (All-head IsScalarDecl d ds h) (params_scalar ds (All-tail IsScalarDecl d ds h))
 
 more : (i : NotedItem) (items : List NotedItem) → FineItem (bare i) → All FineItem (map bare items) → All FineItem (map bare (i ∷ items))
 more i items h hs = All-cons FineItem (bare i) (map bare items) h hs
@@ -96,8 +120,8 @@ items_fine globals mode (item.Function h body ∷ items) w =
     more (item.Function h body) items (
       result_fine (type_written h.result) w.0.0.result,
       joined (map (λ (d : Decl). variable_declared d) (map (λ (d : NotedDecl). bare_decl d) h.params)) (locals_of (bare_stmt body))
-          (params_fine (map (λ (d : NotedDecl). bare_decl d) h.params) (bares_fine globals _ _ h.params w.0.0.params))
-          (subst AreFineVariables (sym (stmt_declares body).same) (statement_fine globals _ (type_written h.result) body (head_mode mode h) false w.0.1)),
+          (params_scalar (map (λ (d : NotedDecl). bare_decl d) h.params) (bares_scalar globals _ _ h.params w.0.0.params))
+          (subst AreScalarVariables (sym (stmt_declares body).same) (statement_scalars globals _ (type_written h.result) body (head_mode mode h) false w.0.1)),
     )
     (items_fine globals _ items w.1)
 
@@ -158,15 +182,18 @@ params_bare : (ds : List NotedDecl) → map (λ (d : Decl). variable_declared d)
 params_bare [] = refl
 params_bare (d ∷ ds) = ap (λ vs. variable_declared d ∷ vs) (params_bare ds)
 
-function_fine : (p : Typed) (j : IsJudged p) (h : NotedHead) (body : NotedStmt) → Contains p.tree.items (item.Function h body) → AreFineVariables (variables_of h body)
-function_fine p j h body there =
+function_scalars : (p : Typed) (j : IsJudged p) (h : NotedHead) (body : NotedStmt) → Contains p.tree.items (item.Function h body) → AreScalarVariables (variables_of h body)
+function_scalars p j h body there =
     let one : FineItem (bare_item (item.Function h body)) = item_is p j FineItem (named_fine p j) (item.Function h body) there in
-    subst (λ vs. AreFineVariables (vs ++ locals_of body)) (params_bare h.params)
-    (subst (λ vs. AreFineVariables (map (λ (d : Decl). variable_declared d) (map (λ (d : NotedDecl). bare_decl d) h.params) ++ vs)) (stmt_declares body).same one.1)
+    subst (λ vs. AreScalarVariables (vs ++ locals_of body)) (params_bare h.params)
+    (subst (λ vs. AreScalarVariables (map (λ (d : Decl). variable_declared d) (map (λ (d : NotedDecl). bare_decl d) h.params) ++ vs)) (stmt_declares body).same one.1)
+
+pub setting_scalars : (p : Typed) (j : IsJudged p) (s : Setting) (f : Function) → IsFunction p s f → AreScalarVariables s.variables
+setting_scalars p j s f is =
+    subst AreScalarVariables (sym (ap (λ (r : Setting). r.variables) is.judged ∙ variables_are p is.head is.body)) (function_scalars p j is.head is.body is.there)
 
 setting_fine : (p : Typed) (j : IsJudged p) (s : Setting) (f : Function) → IsFunction p s f → AreFineVariables s.variables
-setting_fine p j s f is =
-    subst AreFineVariables (sym (ap (λ (r : Setting). r.variables) is.judged ∙ variables_are p is.head is.body)) (function_fine p j is.head is.body is.there)
+setting_fine p j s f is = variables_fine s.variables (setting_scalars p j s f is)
 
 -- ---- names
 

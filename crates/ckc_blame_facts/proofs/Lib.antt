@@ -27,8 +27,9 @@ mod CoveredStatics
 mod Texts
 pub mod Runs
 pub mod SmallNames
-pub mod FineStatements
+pub mod ScalarStatements
 pub mod FineNames
 pub mod TreeStrings
 pub mod Spared
 pub mod LaidOut
+pub mod Variables

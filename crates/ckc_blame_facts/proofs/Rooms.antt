@@ -1,17 +1,21 @@
 -- There is room for the values and the fresh variables of the expressions of each step.
 use Rattle.std.proofs.Common.{◌≡◌, ◌⊎◌, inl, inr, rules, ◌∙◌, sym, ap, subst, arith, ℕ, ◌+◌, ◌<◌, ◌≤◌, List, [], ◌∷◌, ◌++◌, map, length}
 use Rattle.std.specs.Prelude.{◌^◌, Option, None, Some, IfSome}
+use Rattle.std.proofs.lemmas.List.Elements.{All-from_recursion}
 use Rattle.ckc_base.specs.declared.arithmetic.Mode.{Mode}
 use Rattle.ckc_syntax.specs.declared.tree.Name.{Name}
 use Rattle.ckc_syntax.specs.declared.tree.Init.TheVariants as init
+use Rattle.ckc_syntax.specs.declared.tree.Item.TheVariants as item
 use Rattle.ckc_syntax.specs.declared.tree.Act.{Act-F, map-Act, out-Act, roll-Act, fold-Act, fold-roll-Act, the_lemmas}
 use Rattle.ckc_syntax.specs.declared.tree.Stmt.{Stmt-F, map-Stmt, ind-Stmt, roll-Stmt, fold-roll-Stmt}
 use Rattle.ckc_syntax.specs.Inside.{listed, inside_each, inside_if, inside_init}
-use Rattle.ckc_syntax_limits.specs.Marks.{Mark, is_node, act_marks, stmt_marks, marks_of_act, marks_of_stmt, marks_of_expr, marks_of_init, marks_of_bounds}
-use Rattle.ckc_syntax_limits.specs.Small.{Small}
+use Rattle.ckc_syntax_limits.specs.Marks.{Mark, is_node, act_marks, stmt_marks, marks_of_act, marks_of_stmt, marks_of_expr, marks_of_init, marks_of_bounds, marks_of_head, marks_of_item}
+use Rattle.ckc_syntax_limits.specs.Small.{Small, SmallItem}
 use Rattle.ckc_typed.specs.declared.typed.Note.{Note}
 use Rattle.ckc_typed.specs.declared.typed.Typed.{Typed}
-use Rattle.ckc_typed.specs.Trees.{NotedAct, NotedExpr, NotedInit, NotedStmt}
+use Rattle.ckc_typed.specs.Trees.{Item, NotedAct, NotedExpr, NotedInit, NotedStmt}
+use Rattle.ckc_typed_welltyped.specs.Noteless.{bare_head, bare_item, bare_stmt}
+use Rattle.ckc_typed_welltyped.proofs.MarksKept as kept
 use Rattle.ckc_bounds_points.specs.declared.frame.Frame.{Frame}
 use Rattle.ckc_bounds_points.specs.Flow.{State}
 use Rattle.ckc_bounds_statements.specs.Paths.{Here}
@@ -25,6 +29,7 @@ use Rattle.ckc_blame_sound.specs.Few.{nodes_of, nodes_of_value, nodes_in, AreFew
 use Rattle.ckc_blame_sound.specs.Steps.{IsStep, IsCondition}
 use Rattle.ckc_blame_sound.proofs.Tallies.{tally, is_tally, tally-append}
 use Rattle.ckc_blame_texts.specs.Judged.{IsJudged}
+use Rattle.ckc_blame_texts.proofs.Functions.{item_is}
 use Rattle.ckc_blame_walk.proofs.Fresh.{fresh_are_few}
 use Rattle.ckc_blame_walk.proofs.Rooms.{nodes_each, assign_nodes, bundle_nodes}
 use Rattle.ckc_blame_facts.specs.Rooms.{HasPlaces, HavePlaces, HaveSides}
@@ -33,7 +38,7 @@ use Rattle.ckc_blame_facts.proofs.Small.{few_locals}
 
 -- ---- a statement has the nodes of the expressions in it
 
-abbrev nodes_all : List NotedExpr → ℕ
+abbrev pub nodes_all : List NotedExpr → ℕ
 nodes_all [] = 0
 nodes_all (e ∷ es) = nodes_of e + nodes_all es
 
@@ -193,12 +198,28 @@ sides_few st ss (inr e) =
     let rolls : roll-Act Name Note (Act-F.Bundle ss) ≡ st.body = sym (ap (roll-Act Name Note) e) ∙ act_back st.body in
     omega (arith, stores_few ss, bundle_nodes st.pos st.note st.body ss rolls)
 
+-- ---- a text has few
+
+pub texts_are_few : (p : Typed) (j : IsJudged p) → Small j.named.tree → AreFew p
+texts_are_few p j small h body c =
+    let limits : SmallItem (bare_item (item.Function h body)) = item_is p j (λ (i : Item). SmallItem i) (All-from_recursion (λ (i : Item). SmallItem i) j.named.tree.items small.each) (item.Function h body) c in
+    let limit = limits.body.nodes in
+    let same = ap (tally is_node) (kept.of_stmt body) in
+    omega (
+      arith,
+      limit,
+      same,
+      is_tally is_node (marks_of_item (bare_item (item.Function h body))),
+      tally-append is_node (marks_of_head (bare_head h)) (marks_of_stmt (bare_stmt body)),
+      is_tally is_node (marks_of_stmt body),
+    )
+
 -- ---- room
 
-module _ (frame : Frame) (at : State) where
-  next_most : (first n k : ℕ) → n ≤ k → capped first n ≤ first + k
-  next_most first n k h = grind (arith, h)
+pub next_most : (first n k : ℕ) → n ≤ k → capped first n ≤ first + k
+next_most first n k h = grind (arith, h)
 
+module _ (frame : Frame) (at : State) where
   has_places : (first : ℕ) (e : NotedExpr) → first + nodes_of e + 1 < 2 ^ 32 → HasPlaces frame at first e
   has_places first e h =
       let few = fresh_are_few frame e at in
@@ -232,10 +253,10 @@ module _ (frame : Frame) (at : State) where
       less : (n : ℕ) → n ≤ first + nodes_of e → n + nodes_all es + 1 < 2 ^ 32
       less n p = omega (arith, h, p)
 
-module _ (p : Typed) (s : Setting) (f : Function) (j : IsJudged p) (small : Small j.named.tree) (few : AreFew p) (is : IsFunction p s f) where
+module _ (p : Typed) (s : Setting) (f : Function) (j : IsJudged p) (small : Small j.named.tree) (is : IsFunction p s f) where
   text_few : AreFew s.text
   unfolding setting_of
-  text_few = subst AreFew (sym (ap (λ (x : Setting). x.text) is.judged)) few
+  text_few = subst AreFew (sym (ap (λ (x : Setting). x.text) is.judged)) (texts_are_few p j small)
 
   far : (next n : ℕ) → HasRoom s next n → next + n + 1 < 2 ^ 32
   far next n room =
@@ -243,11 +264,15 @@ module _ (p : Typed) (s : Setting) (f : Function) (j : IsJudged p) (small : Smal
       let v = few_locals p s f j small is in
       omega (arith, r, v)
 
+  -- there is room for as many fresh variables as a step has nodes, and one more
+  pub step_far : (here there : Here) (step : Code → Code) (st : IsStep s here step there) → here.next + nodes_in st.before + 1 < 2 ^ 32
+  step_far here there step st = far here.next (nodes_in st.before) st.room
+
   pub step_places : (here there : Here) (step : Code → Code) (st : IsStep s here step there) → HavePlaces s.frame here.at here.next (exprs_in st.before)
   step_places here there step st =
       let nodes = (stmt_few st.before).few in
       have_places s.frame here.at (exprs_in st.before) here.next
-      (most (nodes_all (exprs_in st.before)) (nodes_in st.before) (omega (arith, nodes, is_tally is_node (marks_of_stmt st.before))) (far here.next (nodes_in st.before) st.room))
+      (most (nodes_all (exprs_in st.before)) (nodes_in st.before) (omega (arith, nodes, is_tally is_node (marks_of_stmt st.before))) (step_far here there step st))
     where
       most : (m n : ℕ) → m ≤ n → here.next + n + 1 < 2 ^ 32 → here.next + m + 1 < 2 ^ 32
       most m n p q = omega (arith, p, q)
@@ -255,7 +280,7 @@ module _ (p : Typed) (s : Setting) (f : Function) (j : IsJudged p) (small : Smal
   pub step_sides : (here there : Here) (step : Code → Code) (st : IsStep s here step there) (ss : List NotedStmt) → (ss ≡ st.before ∷ []) ⊎ (out-Act Name Note st.before.body ≡ Act-F.Bundle ss)
       → HaveSides s.frame here.at here.next (stores_of ss)
   step_sides here there step st ss these =
-      have_sides s.frame here.at (stores_of ss) here.next (most (stores_nodes (stores_of ss)) (nodes_in st.before) (sides_few st.before ss these) (far here.next (nodes_in st.before) st.room))
+      have_sides s.frame here.at (stores_of ss) here.next (most (stores_nodes (stores_of ss)) (nodes_in st.before) (sides_few st.before ss these) (step_far here there step st))
     where
       most : (m n : ℕ) → m ≤ n → here.next + n + 1 < 2 ^ 32 → here.next + m + 1 < 2 ^ 32
       most m n p q = omega (arith, p, q)

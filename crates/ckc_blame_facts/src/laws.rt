@@ -110,21 +110,27 @@ pub fn pointees_are_integers()
         → is_integer (element_of t) ≡ true }
 {}
 
-/// In a text that keeps the limits of a text, of which the bodies have few nodes, there is room for
-/// the values and the fresh variables of the expressions of each step and of each condition, also of
-/// the two sides of an assignment, one after the other, and of those of a bundle.
+/// The bodies of a judged text that keeps the limits of a text have no more nodes than a function
+/// may have.
+pub fn texts_have_few()
+    ensures { (p : Typed) (j : IsJudged p) → Small j.named.tree → AreFew p }
+{}
+
+/// In a text that keeps the limits of a text there is room for the values and the fresh variables of
+/// the expressions of each step and of each condition, also of the two sides of an assignment, one
+/// after the other, and of those of a bundle.
 pub fn steps_have_room()
     ensures step { (p : Typed) (s : Setting) (f : Function) (j : IsJudged p) → Small j.named.tree
-        → AreFew p → IsFunction p s f → (here there : Here) (step : Code → Code)
+        → IsFunction p s f → (here there : Here) (step : Code → Code)
         (st : IsStep s here step there)
         → HavePlaces s.frame here.at here.next (exprs_in st.before) }
     ensures sides { (p : Typed) (s : Setting) (f : Function) (j : IsJudged p) → Small j.named.tree
-        → AreFew p → IsFunction p s f → (here there : Here) (step : Code → Code)
+        → IsFunction p s f → (here there : Here) (step : Code → Code)
         (st : IsStep s here step there) (ss : List NotedStmt)
         → (ss ≡ st.before ∷ []) ⊎ (out-Act Name Note st.before.body ≡ Act-F.Bundle ss)
         → HaveSides s.frame here.at here.next (stores_of ss) }
     ensures condition { (p : Typed) (s : Setting) (f : Function) (j : IsJudged p) →
-        Small j.named.tree → AreFew p → IsFunction p s f → (mode : Mode) (here yes no : Here)
-        (e : Expr) (c : IsCondition s mode here e yes no)
+        Small j.named.tree → IsFunction p s f → (mode : Mode) (here yes no : Here) (e : Expr)
+        (c : IsCondition s mode here e yes no)
         → IfSome c.before (HasPlaces s.frame here.at here.next) }
 {}

@@ -4,6 +4,7 @@
 mod accepted_laws;
 mod covers_laws;
 mod laws;
+mod locals_laws;
 
 pub use accepted_laws::{
     declared_types_are_fine, locals_are_spared, names_of_members_are_small, objects_begin_as_bytes,
@@ -15,5 +16,6 @@ pub use covers_laws::{
 };
 pub use laws::{
     callees_have_heads, functions_are_small, pointees_are_integers, statics_are_told,
-    steps_have_room,
+    steps_have_room, texts_have_few,
 };
+pub use locals_laws::{locals_are_in_scope, locals_are_scalars, locals_declare};

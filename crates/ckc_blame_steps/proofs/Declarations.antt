@@ -20,7 +20,7 @@ use Rattle.ckc_bounds_points.specs.declared.frame.Local.{Local}
 use Rattle.ckc_bounds_points.specs.Codes.{not_contained}
 use Rattle.ckc_bounds_views.specs.Parts.{fresh_behind}
 use Rattle.ckc_bounds_views.specs.Views.{view}
-use Rattle.ckc_bounds_statements.specs.Paths.{Here, expr_judged, value_judged, init_judged, bounds_judged, decl_judged, starts_within, declared_here, local_judged, act_judged, path, stated}
+use Rattle.ckc_bounds_statements.specs.Paths.{Here, expr_judged, value_judged, values_judged, init_judged, bounds_judged, decl_judged, starts_within, declared_here, local_judged, act_judged, path, stated}
 use Rattle.ckc_source.specs.declared.outcome.Halt.{Halt}
 use Rattle.ckc_source.specs.declared.outcome.Halt.TheVariants as halt
 use Rattle.ckc_source.specs.declared.outcome.Place.TheVariants as place
@@ -106,7 +106,7 @@ module _ (s : Setting) (here : Here) (counting : here.counting ≡ false) where
   abbrev pub InitJudged : NotedInit → NotedInit → Type 0
   InitJudged init.Nothing i = i ≡ init.Nothing
   InitJudged (init.One e) i = (g : NotedExpr) × (i ≡ init.One g) × ((view s.frame e).judged here.next here.at ≡ Ok g)
-  InitJudged (init.Many es) i = Unit {0}
+  InitJudged (init.Many es) i = (gs : List NotedExpr) × (i ≡ init.Many gs)
 
   init_made : (i first : NotedInit) (there : Here) → init_judged s.frame i here ≡ Ok (first, there) → InitJudged i first
   init_made init.Nothing first there h = sym (pair_same {A = NotedInit} init.Nothing first here there h).0
@@ -114,7 +114,9 @@ module _ (s : Setting) (here : Here) (counting : here.counting ≡ false) where
       let m = made_of (value_judged s.frame e here) (λ p. Ok (init.One p.0, p.1)) (first, there) h in
       let p = pair_same {A = NotedInit} (init.One m.0.0) first m.0.1 there m.2 in
       (m.0.0, sym p.0, value_made e m.0.0 m.0.1 m.1)
-  init_made (init.Many es) first there h = tt
+  init_made (init.Many es) first there h =
+      let m = made_of (values_judged s.frame es here) (λ p. Ok (init.Many p.0, p.1)) (first, there) h in
+      (m.0.0, sym (pair_same {A = NotedInit} (init.Many m.0.0) first m.0.1 there m.2).0)
 
   pub record IsDeclMade (d e : NotedDecl) : Type 0 where
     pub name_is : e.name ≡ d.name

@@ -42,3 +42,4 @@ pub mod Made
 pub mod Allocations
 pub mod KeptSound
 pub mod Promised
+pub mod Rooms

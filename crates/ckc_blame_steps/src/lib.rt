@@ -7,6 +7,7 @@ mod calls_laws;
 mod decided_laws;
 mod laws;
 mod results_laws;
+mod rooms_laws;
 mod whole_laws;
 
 pub use allocated_laws::allocations_draw;
@@ -16,6 +17,7 @@ pub use laws::{assignments_keep_sound, bytes_keep_sound};
 pub use results_laws::{
     callees_are_known, covered_give_words, objects_keep_results, points_after_results_hold,
 };
+pub use rooms_laws::{arguments_have_room, steps_have_places};
 pub use whole_laws::{
     checked_never_stuck, checked_steps_keep_sound, first_state_sound, steps_stay_sound,
     stuck_is_blamed, wholly_checked_never_stuck,

@@ -47,7 +47,7 @@ zero_word t = by (is_char t)
     by true = omega arith
     by false = omega arith
 
-below_or_not : (k n : ℕ) → (k < n) ⊎ (n ≤ k)
+pub below_or_not : (k n : ℕ) → (k < n) ⊎ (n ≤ k)
 below_or_not k zero = inr (omega arith)
 below_or_not zero (suc n) = inl (omega arith)
 below_or_not (suc k) (suc n) = ⊎_elim (λ h. inl (omega arith)) (λ h. inr (omega arith)) (below_or_not k n)
