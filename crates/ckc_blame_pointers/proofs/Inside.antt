@@ -240,16 +240,11 @@ module _ (frame : Frame) where
   abbrev viewed_node : NotedLayer → NodeOfViews
   viewed_node = map-Node Name Note NotedLimits NotedNode NotedExpr LimitsView NodeView View (view_of_limits frame) (view_of_node frame) (view frame)
 
-  view_is : (e : NotedExpr) → view frame e ≡ expr_view (record { node = view_of_node frame e.node; pos = e.pos; note = e.note })
+  pub view_is : (e : NotedExpr) → view frame e ≡ expr_view (record { node = view_of_node frame e.node; pos = e.pos; note = e.note })
   view_is e = fold_out-Expr Name Note LimitsView NodeView View limits_view (node_view frame) expr_view e
 
-  node_view_is : (n : NotedNode) → view_of_node frame n ≡ node_view frame (viewed_node (out-Node Name Note n))
+  pub node_view_is : (n : NotedNode) → view_of_node frame n ≡ node_view frame (viewed_node (out-Node Name Note n))
   node_view_is n = fold_out-Node Name Note LimitsView NodeView View limits_view (node_view frame) expr_view n
-
-  -- the range that is noted is that of the point
-  pub judged_range : (e : NotedExpr) (fresh : ℕ) (at : State) → (view frame e).judged fresh at ≡ Ok e → is_pointer e.note.ctype ≡ true → e.note.range ≡ (view frame e).range 0 fresh at
-  judged_range e fresh at is p =
-      (judged_is (view_of_node frame e.node) e.pos e.note e.node fresh at (subst (λ (v : View). v.judged fresh at ≡ Ok e) (view_is e) is)).range p ∙ ap (λ (v : View). v.range 0 fresh at) (sym (view_is e))
 
   -- null may be used for any range
   pub null_range : (e : NotedExpr) (first fresh : ℕ) (at : State) → is_null e ≡ true → (view frame e).range first fresh at ≡ range.Any

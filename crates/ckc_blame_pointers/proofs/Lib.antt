@@ -38,6 +38,9 @@ pub mod Pointees
 pub mod Arrows
 pub mod Shorter
 pub mod Casts
+pub mod Quotients
+pub mod Bytes
+pub mod OneRanges
 pub mod Operands
 pub mod Literals
 pub mod ReadThrough
