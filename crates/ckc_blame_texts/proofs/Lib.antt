@@ -17,3 +17,4 @@ pub mod Bounds
 pub mod Slots
 pub mod Literals
 pub mod Bodies
+pub mod Parameters
