@@ -27,8 +27,10 @@ mod CoveredStatics
 mod Texts
 pub mod Runs
 pub mod SmallNames
-pub mod FineStatements
-pub mod FineNames
+pub mod ScalarLocals
+pub mod ObjectTypes
+pub mod DeclaredTypes
 pub mod TreeStrings
 pub mod Spared
 pub mod LaidOut
+pub mod NamedObjects
