@@ -33,4 +33,9 @@ pub mod DeclaredTypes
 pub mod TreeStrings
 pub mod Spared
 pub mod LaidOut
+mod Callless
+mod Blind
+mod Addresses
 pub mod NamedObjects
+mod ValueTypes
+pub mod Spoken

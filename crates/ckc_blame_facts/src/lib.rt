@@ -4,6 +4,7 @@
 mod accepted_laws;
 mod covers_laws;
 mod laws;
+mod spoken_laws;
 
 pub use accepted_laws::{
     declared_types_are_fine, locals_are_scalars, locals_are_spared, names_of_members_are_small,
@@ -17,3 +18,4 @@ pub use laws::{
     callees_have_heads, functions_are_small, pointees_are_integers, statics_are_told,
     steps_have_room,
 };
+pub use spoken_laws::checked_expressions_are_spoken;
