@@ -56,7 +56,7 @@ pub no_raw : (t : CType) → has_raw t ≡ false → is_raw_kind (kind_of t) ≡
 no_raw t h = no_raw_form (out-CType t) (sym (fold_out-CType Bool raw_in_form t) ∙ h)
 
 -- a checked pointer is a `_Ptr` or has bounds that count elements
-abbrev IsCheckedKind : Option Kind → Type 0
+abbrev pub IsCheckedKind : Option Kind → Type 0
 IsCheckedKind k = (k ≡ Some kind.One) ⊎ (is_counted_kind k ≡ true)
 
 kind_form : (f : CType-F CType) → is_pointer_form f ≡ true → is_raw_kind (kind_in f) ≡ false → IsCheckedKind (kind_in f)
@@ -70,7 +70,7 @@ kind_form CType-F.Char p h = absurd (cc)
 kind_form CType-F.Void p h = absurd (cc)
 kind_form (CType-F.Struct tag) p h = absurd (cc)
 
-kind_is : (t : CType) → is_pointer t ≡ true → is_raw_kind (kind_of t) ≡ false → IsCheckedKind (kind_of t)
+pub kind_is : (t : CType) → is_pointer t ≡ true → is_raw_kind (kind_of t) ≡ false → IsCheckedKind (kind_of t)
 kind_is t p h = kind_form (out-CType t) p h
 
 moved_counted : (k : Option Kind) → is_moved_kind k ≡ true → is_raw_kind k ≡ false → is_counted_kind k ≡ true
@@ -80,7 +80,7 @@ moved_counted (Some kind.Arr) m h = refl
 moved_counted (Some kind.Nt) m h = refl
 moved_counted None m h = absurd (cc)
 
-array_is : (k : Option Kind) → is_counted_kind k ≡ true → is_terminated_kind k ≡ false → k ≡ Some kind.Arr
+pub array_is : (k : Option Kind) → is_counted_kind k ≡ true → is_terminated_kind k ≡ false → k ≡ Some kind.Arr
 array_is (Some kind.Raw) c h = absurd (cc)
 array_is (Some kind.One) c h = absurd (cc)
 array_is (Some kind.Arr) c h = refl
@@ -109,7 +109,7 @@ no_struct : (tag : ℕ) → ◌≡◌ {A = CType-F CType} CType-F.Void (CType-F.
 no_struct tag h = cc
 
 -- what points to something that has members is a pointer
-pointer_form : (f : CType-F CType) (tag : ℕ) → out-CType (element_in f) ≡ CType-F.Struct tag → is_pointer_form f ≡ true
+pub pointer_form : (f : CType-F CType) (tag : ℕ) → out-CType (element_in f) ≡ CType-F.Struct tag → is_pointer_form f ≡ true
 pointer_form (CType-F.Pointer k t) tag h = refl
 pointer_form CType-F.Int tag h = absurd (no_struct tag (sym void_form ∙ h))
 pointer_form CType-F.Unsigned tag h = absurd (no_struct tag (sym void_form ∙ h))

@@ -1,15 +1,11 @@
 -- What a checked expression is judged as is one of which it is said what it comes to.
-use Rattle.std.proofs.Common.{◌≡◌, ◌∙◌, sym, ap, subst, refl, ℕ, Bool, true, false, List}
+use Rattle.std.proofs.Common.{◌≡◌, ◌∙◌, sym, ap, subst, refl, ℕ, true, false}
 use Rattle.std.specs.Prelude.{if◌then◌else◌, Option, Some, None, IfSome, Ok}
 use Rattle.ckc_base.specs.declared.arithmetic.Mode.TheVariants.{Checked}
 use Rattle.ckc_base.specs.Outcomes.{Outcome}
-use Rattle.ckc_syntax.specs.declared.tree.Name.{Name}
-use Rattle.ckc_syntax.specs.declared.tree.Node.{Node-F, out-Node}
 use Rattle.ckc_typed.specs.declared.environment.Globals.{Globals}
-use Rattle.ckc_typed.specs.declared.typed.Note.{Note}
 use Rattle.ckc_typed.specs.declared.typed.Typed.{Typed}
-use Rattle.ckc_typed.specs.Raw.{has_raw}
-use Rattle.ckc_typed.specs.Trees.{NotedExpr, NotedLayer}
+use Rattle.ckc_typed.specs.Trees.{NotedExpr}
 use Rattle.ckc_typed.specs.Types.{is_scalar}
 use Rattle.ckc_typed_welltyped.specs.Statements as rows
 use Rattle.ckc_bounds_statements.specs.Paths.{Here, expr_judged, value_judged, maybe_judged}
@@ -19,67 +15,25 @@ use Rattle.ckc_bounds_views.specs.Views.{view}
 use Rattle.ckc_source.specs.Code.{Expr, Function}
 use Rattle.ckc_source.specs.Eval.{Store}
 use Rattle.ckc_blame_sound.specs.Settings.{Setting, IsFunction}
-use Rattle.ckc_blame_sound.specs.Safe.{is_assumed, AreSafe}
+use Rattle.ckc_blame_sound.specs.Safe.{AreSafe}
 use Rattle.ckc_blame_sound.specs.Bodies.{globals_of_text}
-use Rattle.ckc_blame_sound.specs.Scopes.{IsAmong, NamesAmong, HasAmong, NamesSeen, NamesOnly}
+use Rattle.ckc_blame_sound.specs.Scopes.{HasAmong, NamesSeen, NamesOnly}
 use Rattle.ckc_blame_sound.specs.Steps.{IsCondition}
 use Rattle.ckc_blame_sound.specs.Words.{HaveWords}
 use Rattle.ckc_blame_numbers.specs.Typed.{IsTyped, IsTypedIf}
 use Rattle.ckc_blame_numbers.proofs.Statements.{made_of, pair_same}
-use Rattle.ckc_blame_numbers.proofs.Judging.{outline, judged_typed}
+use Rattle.ckc_blame_numbers.proofs.Judging.{judged_typed}
 use Rattle.ckc_blame_pointers.specs.Covered.{IsCovered}
 use Rattle.ckc_blame_texts.specs.Judged.{globals_in}
-use Rattle.ckc_blame_texts.proofs.Every.{ExprLayer}
 use Rattle.ckc_blame_texts.proofs.SameViews.{same_view}
 use Rattle.ckc_blame_control.proofs.Typed.{condition_typed}
 use Rattle.ckc_blame_facts.specs.Checked.{IsCheckedPart, IsChecked}
 use Rattle.ckc_blame_facts.specs.Told.{IsTold, IsSpoken}
+use Rattle.ckc_blame_facts.proofs.Blind.{checked_blind, scope_blind}
 use Rattle.ckc_blame_facts.proofs.Checked.{condition_checked}
 use Rattle.ckc_blame_facts.proofs.Cover.{expressions_are_covered}
 use Rattle.ckc_blame_facts.proofs.FewValues.{IsFew}
 use Rattle.ckc_blame_facts.proofs.Ranges.{judging_keeps}
-
--- ---- rules that do not look at ranges
-
-abbrev Bare : Type 0
-Bare = Node-F Name Note (Unit {0}) (Unit {0}) (Unit {0})
-
-abbrev assumed_bare : Bare → Bool
-assumed_bare (Node-F.Trusted w e l) = true
-assumed_bare n = false
-
-assumed_outline : (n : NotedLayer) → is_assumed n ≡ assumed_bare (outline n)
-assumed_outline (Node-F.Trusted w e None) = refl
-assumed_outline (Node-F.Trusted w e (Some l)) = refl
-assumed_outline (Node-F.Tested w e None) = refl
-assumed_outline (Node-F.Tested w e (Some l)) = refl
-assumed_outline n = refl
-
-checked_blind : (x y : ExprLayer) → y.note.ctype ≡ x.note.ctype → outline (out-Node Name Note y.node) ≡ outline (out-Node Name Note x.node) → IsCheckedPart x → IsCheckedPart y
-checked_blind x y type same h = record {
-  type = ap has_raw type ∙ h.type;
-  node = assumed_outline (out-Node Name Note y.node) ∙ ap assumed_bare same ∙ sym (assumed_outline (out-Node Name Note x.node)) ∙ h.node;
-}
-
-module _ (seen : List ℕ) where
-  abbrev BareAmong : Bare → Type 0
-  BareAmong (Node-F.Name n) = IsAmong seen n
-  BareAmong n = Unit {0}
-
-  to_outline : (n : NotedLayer) → NamesAmong seen n → BareAmong (outline n)
-  to_outline (Node-F.Name n) h = h
-  to_outline (Node-F.Trusted w e None) h = tt
-  to_outline (Node-F.Trusted w e (Some l)) h = tt
-  to_outline (Node-F.Tested w e None) h = tt
-  to_outline (Node-F.Tested w e (Some l)) h = tt
-  to_outline n h = tt
-
-  from_outline : (n : NotedLayer) → BareAmong (outline n) → NamesAmong seen n
-  from_outline (Node-F.Name n) h = h
-  from_outline n h = tt
-
-  scope_blind : (x y : ExprLayer) → y.note.ctype ≡ x.note.ctype → outline (out-Node Name Note y.node) ≡ outline (out-Node Name Note x.node) → HasAmong seen x → HasAmong seen y
-  scope_blind x y type same h = from_outline (out-Node Name Note y.node) (subst BareAmong (sym same) (to_outline (out-Node Name Note x.node) h))
 
 -- ---- what is judged
 

@@ -27,9 +27,16 @@ mod CoveredStatics
 mod Texts
 pub mod Runs
 pub mod SmallNames
-pub mod ScalarStatements
-pub mod FineNames
+pub mod ScalarLocals
+pub mod ObjectTypes
+pub mod DeclaredTypes
 pub mod TreeStrings
 pub mod Spared
 pub mod LaidOut
+mod Callless
+mod Blind
+mod Addresses
+pub mod NamedObjects
+mod ValueTypes
+pub mod Spoken
 pub mod Variables

@@ -139,7 +139,7 @@ all_fit p j tag =
 
 -- ---- what has the type of a member
 
-struct_form : (structs : Structs) (n : Name) (t : CType) (f : CType-F CType) → member_in structs n f ≡ Some t → (tag : ℕ) × (f ≡ CType-F.Struct tag) × (member_type structs tag n ≡ Some t)
+pub struct_form : (structs : Structs) (n : Name) (t : CType) (f : CType-F CType) → member_in structs n f ≡ Some t → (tag : ℕ) × (f ≡ CType-F.Struct tag) × (member_type structs tag n ≡ Some t)
 struct_form structs n t (CType-F.Struct tag) h = (tag, refl, h)
 struct_form structs n t CType-F.Int h = absurd (cc)
 struct_form structs n t CType-F.Unsigned h = absurd (cc)
@@ -174,14 +174,14 @@ any_there {X} p (x ∷ xs) e = by (p x) refl e (λ f. any_there p xs f)
     by false is f rest = let r = rest f in (r.0, later_in x xs r.0 r.1, r.2)
 
 -- a member that is found
-record IsFound (structs : Structs) (tag : ℕ) (n : Name) (t : CType) : Type 0 where
+pub record IsFound (structs : Structs) (tag : ℕ) (n : Name) (t : CType) : Type 0 where
   pub member : MemberShape
   pub found : member_named structs tag n ≡ Some member
   pub type : member.ctype ≡ t
   pub there : Contains (members_of structs tag) member
   pub named : n ≡ name.Member member.name
 
-member_found : (structs : Structs) (tag : ℕ) (n : Name) (t : CType) → member_type structs tag n ≡ Some t → IsFound structs tag n t
+pub member_found : (structs : Structs) (tag : ℕ) (n : Name) (t : CType) → member_type structs tag n ≡ Some t → IsFound structs tag n t
 member_found structs tag n t h = by (member_named structs tag n) refl h
   where
     by : (o : Option MemberShape) → member_named structs tag n ≡ o → option_map (λ (m : MemberShape). m.ctype) o ≡ Some t → IsFound structs tag n t

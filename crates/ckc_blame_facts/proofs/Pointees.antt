@@ -34,7 +34,7 @@ fine_in = map-CType CType Fine fineness
 fine_out : (t : CType) → fineness t ≡ parts_fine (fine_in (out-CType t))
 fine_out t = fold_out-CType Fine parts_fine t
 
-pointer_out : (k : Kind) (t : CType) → out-CType (ctype.Pointer k t) ≡ CType-F.Pointer k t
+pub pointer_out : (k : Kind) (t : CType) → out-CType (ctype.Pointer k t) ≡ CType-F.Pointer k t
 pointer_out k t = search (rules, the_lemmas)
 
 pub fine_pointer : (k : Kind) (t : CType) → fineness (ctype.Pointer k t) ≡ pointer_fine k (fineness t)

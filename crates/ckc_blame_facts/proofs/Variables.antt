@@ -35,8 +35,7 @@ use Rattle.ckc_blame_declared.proofs.Locals.{IsVariable, local_there, some_at, v
 use Rattle.ckc_blame_control.proofs.Typed.{next_fresh}
 use Rattle.ckc_blame_walk.proofs.Entered.{below_or_not}
 use Rattle.ckc_blame_walk.proofs.Seen.{local_there as variable_is_local}
-use Rattle.ckc_blame_facts.proofs.ScalarStatements.{IsScalarVariable}
-use Rattle.ckc_blame_facts.proofs.FineNames.{setting_scalars}
+use Rattle.ckc_blame_facts.proofs.DeclaredTypes.{scalar_parts, names_objects}
 
 -- ---- the variable that a local is
 
@@ -97,32 +96,14 @@ module _ (p : Typed) (s : Setting) (f : Function) (j : IsJudged p) (is : IsFunct
 
   -- ---- locals are scalars
 
-  first_true : (a b : Bool) → (a && b) ≡ true → a ≡ true
-  first_true true b e = refl
-  first_true false b e = absurd cc
-
   variable_scalar : (n : _) (v : Variable) → variable_named s.variables n ≡ Some v → is_scalar v.ctype ≡ true
   variable_scalar n v e =
-      first_true (is_scalar v.ctype) (is_object_type v.ctype) (found IsScalarVariable (λ (x : Variable). same_name x.name n) s.variables v (setting_scalars p j s f is) e).0
+      (scalar_parts v.ctype ((names_objects p s f j is).locals n v e)).0
 
   pub local_scalar : (k : ℕ) (l : Local) → k < length s.variables → local_at s.frame k ≡ Some l → is_scalar l.ctype ≡ true
   local_scalar k l less at =
       let v = local_variable k l at less in
       ap is_scalar v.same ∙ variable_scalar (name.Local k) v.variable v.named
-
-  static_no_local : (o : Object) (i k : ℕ) → o.name ≡ name.Static i → same_name o.name (name.Local k) ≡ true → ⊥
-  static_no_local o i k e same = let f : same_name (name.Static i) (name.Local k) ≡ true = subst (λ m. same_name m (name.Local k) ≡ true) e same in cc
-
-  -- no object of file scope has the name of a local
-  pub named_scalar : (k : ℕ) (t : CType) → type_of_name (globals_in p) s.variables (name.Local k) ≡ Some t → is_scalar t ≡ true
-  named_scalar k t e = by (variable_named s.variables (name.Local k)) refl (object_named (globals_in p) (name.Local k)) refl e
-    where
-      by : (v : Option Variable) → variable_named s.variables (name.Local k) ≡ v → (o : Option Object) → object_named (globals_in p) (name.Local k) ≡ o → or_variable v o ≡ Some t → is_scalar t ≡ true
-      by (Some v) is o there f = let same : v.ctype ≡ t = cc in subst (λ u. is_scalar u ≡ true) same (variable_scalar (name.Local k) v is)
-      by None is (Some o) there f =
-          let g = found (λ (x : Object). (i : ℕ) × (x.name ≡ name.Static i)) (λ (x : Object). same_name x.name (name.Local k)) (globals_in p).objects o (statics_named p j) there in
-          absurd (static_no_local o g.0.0 k g.0.1 g.1)
-      by None is None there f = absurd cc
 
   in_scope : (seen : List ℕ) (k : ℕ) → length s.variables < 1024 → k < length s.variables → Contains seen k → IsInScope s seen k
   in_scope seen k few less there =

@@ -5,10 +5,11 @@ mod accepted_laws;
 mod covers_laws;
 mod laws;
 mod locals_laws;
+mod spoken_laws;
 
 pub use accepted_laws::{
-    declared_types_are_fine, locals_are_spared, names_of_members_are_small, objects_begin_as_bytes,
-    runs_are_free,
+    declared_types_are_fine, locals_are_spared, names_of_members_are_small,
+    objects_begin_as_bytes, runs_are_free,
 };
 pub use covers_laws::{
     checked_conditions_are_covered, checked_parts_are_safe, declared_structures_are_laid_out,
@@ -19,3 +20,4 @@ pub use laws::{
     steps_have_room, texts_have_few,
 };
 pub use locals_laws::{locals_are_in_scope, locals_are_scalars, locals_declare};
+pub use spoken_laws::checked_expressions_are_spoken;

@@ -1,4 +1,4 @@
-use Rattle.ckc_blame_facts.proofs.FineNames.{names_fine}
+use Rattle.ckc_blame_facts.proofs.DeclaredTypes.{names_fine}
 use Rattle.ckc_blame_facts.proofs.accepted_laws.declared_types_are_fine.Goals as goal
 
 pub returns : goal.returns
