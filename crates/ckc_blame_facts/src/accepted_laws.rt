@@ -1,6 +1,6 @@
 //! What follows from the definitions alone, each the contract of a function that does nothing.
 
-ghost use Rattle.std.specs.Prelude.{◌≡◌, ℕ, ◌≤◌, true, false, List, Some, length};
+ghost use Rattle.std.specs.Prelude.{◌≡◌, ℕ, ◌≤◌, false, List, length};
 ghost use Rattle.std.specs.List.{Contains};
 ghost use Rattle.ckc_syntax.specs.declared.tree.Name.TheVariants as name;
 ghost use Rattle.ckc_base.specs.Phases.{◌>=>◌};
@@ -15,10 +15,7 @@ ghost use Rattle.ckc_bounds.specs.Phase.{bounding};
 ghost use Rattle.ckc_typed_welltyped.specs.Texts.{TypedAs};
 ghost use Rattle.ckc_source.specs.LaidOut.{IsLaidOut};
 ghost use Rattle.ckc_build_elaborate.specs.Elaborated.{elaborated};
-ghost use Rattle.ckc_types.specs.declared.types.CType.{CType};
-ghost use Rattle.ckc_typed.specs.Environment.{type_of_name};
 ghost use Rattle.ckc_typed.specs.Trees.{NotedDecl};
-ghost use Rattle.ckc_typed.specs.Types.{is_scalar};
 ghost use Rattle.ckc_bounds_points.specs.Flow.{in_bounds};
 ghost use Rattle.ckc_bounds_statements.specs.Paths.{path};
 ghost use Rattle.ckc_typed.specs.declared.typed.Typed.{Typed};
