@@ -1,6 +1,6 @@
 -- The locals of a judged text are variables of their functions, and scalars, and their bounds name locals.
 use Rattle.std.proofs.Common.{◌≡◌, ◌∙◌, sym, ap, subst, inl, inr, refl, arith, ℕ, zero, suc, ◌<◌, length}
-use Rattle.std.specs.Prelude.{◌⊎◌, ◌≤◌, ◌&&◌, Bool, true, false, List, Option, None, Some}
+use Rattle.std.specs.Prelude.{◌⊎◌, ◌≤◌, true, false, List, Option, None, Some}
 use Rattle.std.specs.List.{Contains}
 use Rattle.ckc_base.specs.declared.arithmetic.Mode.{Mode}
 use Rattle.ckc_linear.specs.declared.forms.Base.{Base}
@@ -8,13 +8,11 @@ use Rattle.ckc_linear.specs.declared.forms.Base.TheVariants as base
 use Rattle.ckc_linear.specs.declared.forms.Form.{Form}
 use Rattle.ckc_syntax.specs.declared.tree.Item.TheVariants as item
 use Rattle.ckc_syntax.specs.declared.tree.Name.TheVariants as name
-use Rattle.ckc_types.specs.declared.types.CType.{CType}
-use Rattle.ckc_typed.specs.declared.environment.Object.{Object}
 use Rattle.ckc_typed.specs.declared.environment.Variable.{Variable}
 use Rattle.ckc_typed.specs.declared.typed.Typed.{Typed}
-use Rattle.ckc_typed.specs.Environment.{object_named, or_variable, same_name, type_of_name, variable_named, variables_of}
+use Rattle.ckc_typed.specs.Environment.{variable_named, variables_of}
 use Rattle.ckc_typed.specs.Trees.{NotedHead, NotedStmt}
-use Rattle.ckc_typed.specs.Types.{is_object_type, is_scalar}
+use Rattle.ckc_typed.specs.Types.{is_scalar}
 use Rattle.ckc_bounds.specs.Declarations.{few_of, declared_in}
 use Rattle.ckc_bounds.specs.Frames.{all_of, function_frame}
 use Rattle.ckc_bounds_points.specs.declared.frame.Bounds.{Bounds}
@@ -25,9 +23,8 @@ use Rattle.ckc_bounds_statements.specs.Paths.{Here}
 use Rattle.ckc_source.specs.Code.{Code, Expr, Function}
 use Rattle.ckc_blame_sound.specs.Settings.{Setting, IsFunction, frame_of_text, setting_of}
 use Rattle.ckc_blame_sound.specs.Steps.{IsStep, IsCondition}
-use Rattle.ckc_blame_texts.specs.Judged.{IsJudged, globals_in}
-use Rattle.ckc_blame_texts.proofs.Frames.{first_at, locals_counted, statics_named}
-use Rattle.ckc_blame_texts.proofs.Lists.{found}
+use Rattle.ckc_blame_texts.specs.Judged.{IsJudged}
+use Rattle.ckc_blame_texts.proofs.Frames.{first_at, locals_counted}
 use Rattle.ckc_blame_contained.specs.Ends.{IsBase, IsCounter, IsCounted, IsEnd, AreEnds}
 use Rattle.ckc_blame_pointers.specs.Covered.{IsInScope, IsIntegerLocal, IsLocalVariable, IsLocalBase, IsLocalForm, AreLocalBounds, DeclareLocals}
 use Rattle.ckc_blame_declared.proofs.HaveEnds.{locals_have_ends}

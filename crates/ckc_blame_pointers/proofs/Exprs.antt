@@ -28,8 +28,8 @@ use Rattle.ckc_bounds_points.specs.Codes.{bad_limits}
 use Rattle.ckc_bounds_points.specs.Flow.{State}
 use Rattle.ckc_bounds_ranges.specs.Rows.{range_of_local}
 use Rattle.ckc_bounds_views.specs.Parts.{LimitsView, NodeView, View, NodeOfViews, fresh_behind}
-use Rattle.ckc_bounds_views.specs.Conditions.{right_point, widening, widening_side}
-use Rattle.ckc_bounds_views.specs.Judged.{is_counted_kind, counts_bytes, fault_if, has_none_of_node, access_fault, fault_of_node, operand_fault_of_node, node_judged}
+use Rattle.ckc_bounds_views.specs.Conditions.{right_point, widening}
+use Rattle.ckc_bounds_views.specs.Judged.{is_counted_kind, counts_bytes, fault_if, has_none_of_node, fault_of_node, operand_fault_of_node, node_judged}
 use Rattle.ckc_bounds_views.specs.Fresh.{own_fresh}
 use Rattle.ckc_bounds_views.specs.Ranges.{range_of_one, pointer_range}
 use Rattle.ckc_bounds_views.specs.Views.{limits_view, node_view, expr_view, view_of_limits, view_of_node, view}
@@ -54,7 +54,6 @@ use Rattle.ckc_blame_numbers.proofs.Exprs as numbers
 use Rattle.ckc_blame_numbers.proofs.Holding.{form_exact, form_exact_in, side_told}
 use Rattle.ckc_blame_numbers.proofs.Types.{sign_row, IsWide, number_wide, size_wide}
 use Rattle.ckc_blame_sound.specs.Bodies.{AreFresh}
-use Rattle.ckc_blame_pointers.specs.Valuations.{address_by}
 use Rattle.ckc_blame_pointers.specs.Covered.{DeclareLocals, DeclareOnes, IsSoundStore, IsElement, IsSingle, IsArrow, IsPointerArrow, IsAddressed, IsStaticInteger, IsStaticArray, IsStaticPointer, IsStaticBounded, IsStaticStructure, IsStructureTarget, IsPointerTarget, IsStructureElement, IsStructureNode, IsCoveredNode, IsCoveredExpr, AreCovered, IsCovered}
 use Rattle.ckc_blame_pointers.specs.Meant.{IsNotStuck}
 use Rattle.ckc_blame_pointers.proofs.Claims.{Claims, weaker, holds_on, nothing_read}
