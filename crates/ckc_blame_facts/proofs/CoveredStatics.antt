@@ -7,7 +7,7 @@ use Rattle.ckc_base.specs.declared.arithmetic.Mode.{Mode}
 use Rattle.ckc_base.specs.declared.arithmetic.Mode.TheVariants.{Unchecked}
 use Rattle.ckc_types.specs.declared.types.Kind.{Kind}
 use Rattle.ckc_types.specs.declared.types.Kind.TheVariants as kind
-use Rattle.ckc_types.specs.declared.types.CType.{CType, CType-F, out-CType, map-CType, fold_out-CType, the_lemmas}
+use Rattle.ckc_types.specs.declared.types.CType.{CType, CType-F, out-CType, the_lemmas}
 use Rattle.ckc_types.specs.declared.types.CType.TheVariants as ctype
 use Rattle.ckc_types.specs.declared.types.Structs.{Structs}
 use Rattle.ckc_syntax.specs.declared.tree.Name.{Name}
@@ -23,7 +23,7 @@ use Rattle.ckc_typed.specs.Operands.{is_raw_kind}
 use Rattle.ckc_typed.specs.Statics.{is_terminated}
 use Rattle.ckc_typed.specs.Texts.{globals_of}
 use Rattle.ckc_typed.specs.Trees.{Item, Tree, NotedItem, NotedLimits}
-use Rattle.ckc_typed.specs.Types.{type_written, is_integer_form, is_pointer, is_pointer_form, is_void, is_void_form, is_object_type, integer_object, object_parts, kind_of, kind_in}
+use Rattle.ckc_typed.specs.Types.{type_written, is_integer_form, is_pointer, is_pointer_form, is_void, is_void_form, kind_of, kind_in}
 use Rattle.ckc_typed.specs.Walk.{pragma_after}
 use Rattle.ckc_typed_welltyped.specs.Noteless.{bare_item, without_notes}
 use Rattle.ckc_typed_welltyped.specs.Texts.{WellTypedItem, WellTypedItems}
@@ -45,39 +45,15 @@ use Rattle.ckc_blame_pointers.specs.Covered.{IsCountedAs}
 use Rattle.ckc_blame_texts.specs.Judged.{IsJudged, globals_in}
 use Rattle.ckc_blame_texts.proofs.Bares.{same_tree}
 use Rattle.ckc_blame_facts.specs.Statics.{IsStatic, range_counted}
+use Rattle.ckc_blame_facts.proofs.ObjectTypes.{integer_is_object, object_solid}
 use Rattle.ckc_blame_facts.proofs.StaticKinds.{statics_integers, statics_arrays, statics_pointers}
 use Rattle.ckc_blame_facts.proofs.Told.{statics_told}
 use Rattle.ckc_blame_facts.specs.Told.{IsStaticOf}
 
 -- ---- no object is void
 
-integer_solid : (f : CType-F CType) → is_integer_form f ≡ true → is_void_form f ≡ false
-integer_solid CType-F.Int h = refl
-integer_solid CType-F.Unsigned h = refl
-integer_solid CType-F.Char h = refl
-integer_solid CType-F.Void h = absurd (cc)
-integer_solid (CType-F.Struct tag) h = refl
-integer_solid (CType-F.Pointer k t) h = refl
-
-object_solid : (t : CType) → is_object_type t ≡ true → is_void t ≡ false
-object_solid t h = by (out-CType t) refl
-  where
-    different : false ≡ true → ⊥
-    different e = cc
-
-    by : (f : CType-F CType) → out-CType t ≡ f → is_void_form (out-CType t) ≡ false
-    by CType-F.Void e =
-        let object : integer_object t ≡ object_parts CType-F.Void =
-        fold_out-CType (Option Bool) object_parts t ∙ ap (λ x. object_parts (map-CType CType (Option Bool) integer_object x)) e in
-        absurd (different (sym (ap (λ (o : Option Bool). is_some o) object) ∙ h))
-    by CType-F.Int e = ap is_void_form e
-    by CType-F.Unsigned e = ap is_void_form e
-    by CType-F.Char e = ap is_void_form e
-    by (CType-F.Struct tag) e = ap is_void_form e
-    by (CType-F.Pointer k u) e = ap is_void_form e
-
 element_solid : (n : Length) (t : CType) → is_element_for n t ≡ true → is_void t ≡ false
-element_solid (lengths.Nt n) t h = integer_solid (out-CType t) h
+element_solid (lengths.Nt n) t h = object_solid t (integer_is_object t h)
 element_solid lengths.Plain t h = object_solid t h
 element_solid (lengths.Raw n at) t h = object_solid t h
 element_solid (lengths.Checked n) t h = object_solid t h

@@ -38,8 +38,16 @@ void_in CType-F.Char e = absurd cc
 void_in (CType-F.Struct tag) e = absurd cc
 void_in (CType-F.Pointer k t) e = absurd cc
 
-pub void_is_none : (t : CType) → is_void t ≡ true → is_object_type t ≡ false
-void_is_none t e = ap is_some (object_out t ∙ void_in (out-CType t) e)
+-- no object is void
+pub object_solid : (t : CType) → is_object_type t ≡ true → is_void t ≡ false
+object_solid t o = by (is_void t) refl
+  where
+    different : true ≡ false → ⊥
+    different e = cc
+
+    by : (b : Bool) → is_void t ≡ b → b ≡ false
+    by true v = absurd (different (sym o ∙ ap is_some (object_out t ∙ void_in (out-CType t) v)))
+    by false v = refl
 
 -- ---- pointers
 

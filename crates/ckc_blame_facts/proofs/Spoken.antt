@@ -25,7 +25,7 @@ use Rattle.ckc_typed.specs.Environment.{object_named, type_of_name, variable_nam
 use Rattle.ckc_typed.specs.Expressions.{address_kind, has_address, is_no_array, is_object_form, is_placed_form, string_type}
 use Rattle.ckc_typed.specs.Operands.{is_raw_kind, dot_type}
 use Rattle.ckc_typed.specs.Trees.{NotedExpr, NotedLayer}
-use Rattle.ckc_typed.specs.Types.{type_written, is_integer, is_integer_form, is_object_type, is_pointer, is_pointer_form, is_scalar, is_void_form, element_of, kind_in, kind_of}
+use Rattle.ckc_typed.specs.Types.{type_written, is_integer, is_integer_form, is_object_type, is_pointer, is_pointer_form, is_scalar, is_void, is_void_form, element_of, kind_in, kind_of}
 use Rattle.ckc_typed_welltyped.specs.Expressions.{AnyLimits, AnyNode, HasType, unary_row}
 use Rattle.ckc_typed_welltyped.specs.Productions.{callless_expr}
 use Rattle.ckc_bounds_points.specs.Flow.{State}
@@ -55,7 +55,7 @@ use Rattle.ckc_blame_facts.proofs.Down.{layer, Down, each_parts, each_whole}
 use Rattle.ckc_blame_facts.proofs.Layouts.{structs_told}
 use Rattle.ckc_blame_facts.proofs.Members.{member_found, struct_form}
 use Rattle.ckc_blame_facts.proofs.NamedObjects.{IsStaticName, free_object, object_static, text_is, typed_name, variable_local}
-use Rattle.ckc_blame_facts.proofs.ObjectTypes.{element_is_object, void_is_none}
+use Rattle.ckc_blame_facts.proofs.ObjectTypes.{element_is_object, object_solid}
 use Rattle.ckc_blame_facts.proofs.Pointees.{fine_integer, object_fine, pointer_out}
 use Rattle.ckc_blame_facts.proofs.Ranges.{judging_keeps}
 use Rattle.ckc_blame_facts.proofs.Told.{statics_told}
@@ -86,7 +86,7 @@ read_element e o = by (out-CType (element_of e.note.ctype)) refl
     by CType-F.Int h = inl (ap is_integer_form h)
     by CType-F.Unsigned h = inl (ap is_integer_form h)
     by CType-F.Char h = inl (ap is_integer_form h)
-    by CType-F.Void h = absurd (true_false (is_object_type (element_of e.note.ctype)) (element_is_object e.note.ctype o.0 o.1) (void_is_none (element_of e.note.ctype) (ap is_void_form h)))
+    by CType-F.Void h = absurd (true_false (is_void (element_of e.note.ctype)) (ap is_void_form h) (object_solid (element_of e.note.ctype) (element_is_object e.note.ctype o.0 o.1)))
     by (CType-F.Struct tag) h = inr (record { other = other_kind e.note.ctype (inl o.0) (ap is_integer_form h); form = inl (tag, h) })
     by (CType-F.Pointer k u) h = inr (record { other = other_kind e.note.ctype (inl o.0) (ap is_integer_form h); form = inr (ap is_pointer_form h) })
 

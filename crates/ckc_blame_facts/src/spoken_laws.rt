@@ -14,8 +14,8 @@ ghost use Rattle.ckc_blame_texts.specs.Judged.{IsJudged, globals_in};
 ghost use Rattle.ckc_blame_facts.specs.Checked.{IsChecked};
 ghost use Rattle.ckc_blame_facts.specs.Told.{IsSpoken};
 
-/// Of what a typed expression of a function of a judged text is judged as, it is said what it comes to, if it has no
-/// unchecked pointers and no calls and locals that are `_Ptr` have the bounds of their type.
+/// A typed expression without unchecked pointers and without calls is judged as one of which it is
+/// said what it comes to, if locals that are `_Ptr` have the bounds of their type.
 pub fn checked_expressions_are_spoken()
     ensures { (p : Typed) (s : Setting) (f : Function) (before after : NotedExpr) (fresh : ℕ)
         (at : State) → IsJudged p → IsFunction p s f → DeclareOnes s
