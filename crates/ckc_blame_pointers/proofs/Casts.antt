@@ -208,6 +208,32 @@ pub whole_elements : (n : ℕ) → n ≡ 1 → (o : Option Form) → elements n 
 whole_elements n one None = refl
 whole_elements n one (Some f) = ap (λ n. if n == 1 then Some f else elements_of n f) one
 
+-- the type of the fresh variable that an amount needs
+abbrev Needed : NotedExpr → Option Form → Option CType
+Needed f a = if is_some a then None else Some f.note.ctype
+
+-- A cast with limits that count an amount is a pointer that stands for itself.
+pub counted_own : (s : Setting) (here : Here) (x : TypeTree) (e : NotedExpr) (t : CType) (f : NotedExpr) (l : LimitsView) → ((widened : List ℕ) → l.fresh (record here.at { widened = widened }) ≡ l.fresh here.at)
+    → l.counted ≡ Some f.note.ctype → (a : Option Form) → l.amount (size_of s.frame.structs (element_of t)) here.at.facts ≡ a
+    → IsOwnNode here t (range_of_own (λ k. form_or_fresh a k)) (Needed f a) (node_view s.frame (Node-F.Tested x (view s.frame e) (Some l)))
+counted_own s here x e t f l same counted a amount = record {
+  alone = refl;
+  known = refl;
+  nowhere = λ first facts. refl;
+  kept = λ widened.
+      ap (λ ts. ts ++ l.fresh (record here.at { widened = widened })) (fresh_same s.frame e here.at widened) ∙ ap (λ ts. (view s.frame e).fresh here.at ++ ts) (same widened);
+  ranged = λ own first fresh widened.
+      ap (λ c. range_counted c (l.amount (size_of s.frame.structs (element_of t)) here.at.facts) own) counted ∙ ap (λ a. range_counted (Some f.note.ctype) a own) amount;
+  needs = ap (λ (a : Option Form). if is_some a then None else l.counted) amount ∙ ap (λ (c : Option CType). if is_some a then None else c) counted;
+  behind = refl;
+  some = refl;
+  quiet = quiet;
+}
+  where
+    quiet : (b : Bool) → (node_view s.frame (Node-F.Tested x (view s.frame e) (Some l))).side b here.at ≡ here.at
+    quiet true = refl
+    quiet false = refl
+
 module _ (s : Setting) (store : Store) (entry : List ℕ) (here : Here) (h : HoldsAt s store entry here) (x : TypeTree) (e : NotedExpr) (t : CType) (pointer : is_pointer t ≡ true) (place : Pos) (v : Expr)
     (left : IsNotStuck (ExprClaims s store entry here e) (evaluated store v)) (able : (x : Value) → ExprClaims s store entry here e x → IsTestable s store t x) where
   -- one element, of a `_Ptr`
@@ -236,9 +262,9 @@ module _ (s : Setting) (store : Store) (entry : List ℕ) (here : Here) (h : Hol
       one_is c is = ap (exact Int) (plain_is 1 c is)
 
   -- as many elements as an expression says
-  module _ (f : NotedExpr) (w : Expr) (integer : is_integer f.note.ctype ≡ true) (right : IsNotStuck (ExprClaims s store entry here f) (evaluated store w))
-      (index : (c : Value) → evaluated store w ≡ Ok c → IsIndex s store entry here (exact (integer_of f.note.ctype) c.number) (view s.frame f).form) (l : LimitsView)
-      (same : (widened : List ℕ) → l.fresh (record here.at { widened = widened }) ≡ l.fresh here.at) (counted : l.counted ≡ Some f.note.ctype)
+  module _ (f : NotedExpr) (l : LimitsView) (same : (widened : List ℕ) → l.fresh (record here.at { widened = widened }) ≡ l.fresh here.at) (counted : l.counted ≡ Some f.note.ctype) (w : Expr)
+      (integer : is_integer f.note.ctype ≡ true) (right : IsNotStuck (ExprClaims s store entry here f) (evaluated store w))
+      (index : (c : Value) → evaluated store w ≡ Ok c → IsIndex s store entry here (exact (integer_of f.note.ctype) c.number) (view s.frame f).form)
       (amount : l.amount (size_of s.frame.structs (element_of t)) here.at.facts ≡ (view s.frame f).form here.at.facts) (several : kind_of t ≡ Some kind.One → ⊥) where
     abbrev made : NodeView
     made = node_view s.frame (Node-F.Tested x (view s.frame e) (Some l))
@@ -246,41 +272,23 @@ module _ (s : Setting) (store : Store) (entry : List ℕ) (here : Here) (h : Hol
     abbrev z : Value → ℤ
     z c = exact (integer_of f.note.ctype) c.number
 
-    abbrev Needed : Option Form → Option CType
-    Needed a = if is_some a then None else Some f.note.ctype
-
-    own : (a : Option Form) → (view s.frame f).form here.at.facts ≡ a → IsOwnNode here t (range_of_own (λ k. form_or_fresh a k)) (Needed a) made
-    own a is = record {
-      alone = refl;
-      known = refl;
-      nowhere = λ first facts. refl;
-      kept = λ widened.
-          ap (λ ts. ts ++ l.fresh (record here.at { widened = widened })) (fresh_same s.frame e here.at widened) ∙ ap (λ ts. (view s.frame e).fresh here.at ++ ts) (same widened);
-      ranged = λ own first fresh widened.
-          ap (λ c. range_counted c (l.amount (size_of s.frame.structs (element_of t)) here.at.facts) own) counted ∙ ap (λ a. range_counted (Some f.note.ctype) a own) (amount ∙ is);
-      needs = ap (λ (a : Option Form). if is_some a then None else l.counted) (amount ∙ is) ∙ ap (λ (c : Option CType). if is_some a then None else c) counted;
-      behind = refl;
-      some = refl;
-      quiet = λ b. nothing_read s store entry (λ facts. None) b here.at;
-    }
-
-    needed_typed : (a : Option Form) (c : Value) → ExprClaims s store entry here f c → IfSome (Needed a) (λ u. IsNumberOf u (z c))
+    needed_typed : (a : Option Form) (c : Value) → ExprClaims s store entry here f c → IfSome (Needed f a) (λ u. IsNumberOf u (z c))
     needed_typed (Some g) c p = tt
     needed_typed None c p = word_lies f.note.ctype c.number integer p.word
 
     counts : (a : Option Form) → (view s.frame f).form here.at.facts ≡ a → (c : Value) → evaluated store w ≡ Ok c → (k : ℕ) (v : Valuation) → Fits s.frame store.locals v
-        → IfSome (Needed a) (λ u. v.numbers (capped k 1) ≡ z c) → number_of v.numbers (form_or_fresh a k) ≡ z c
+        → IfSome (Needed f a) (λ u. v.numbers (capped k 1) ≡ z c) → number_of v.numbers (form_or_fresh a k) ≡ z c
     counts (Some g) is c there k v fits number = sym (index c there v fits here.at.facts (inl refl) g is)
     counts None is c there k v fits number = fresh_counts f.note.ctype (z c) (pos 0) k v number ∙ none (z c)
       where
         none : (z : ℤ) → z +ℤ pos 0 ≡ z
         none z = omega (arith, ints)
 
-    pub counted_claims : IsNotStuck (NodeClaims s store entry here h t (node_view s.frame (Node-F.Tested x (view s.frame e) (Some l)))) (evaluated store (Tested (size_behind s.text.layout t) (integer_of f.note.ctype) place v w))
+    pub counted_claims : IsNotStuck (NodeClaims s store entry here h t made) (evaluated store (Tested (size_behind s.text.layout t) (integer_of f.note.ctype) place v w))
     counted_claims = by_amount ((view s.frame f).form here.at.facts) refl
       where
         by_amount : (a : Option Form) → (view s.frame f).form here.at.facts ≡ a
             → IsNotStuck (NodeClaims s store entry here h t made) (evaluated store (Tested (size_behind s.text.layout t) (integer_of f.note.ctype) place v w))
         by_amount a is =
-            tested_claims s store entry here h e t pointer place v w (integer_of f.note.ctype) left able (ExprClaims s store entry here f) right made (Needed a) (λ k. form_or_fresh a k) (own a is)
-            (λ c there p. needed_typed a c p) (λ c there p. counts a is c there) (λ one c there p. absurd (several one))
+            tested_claims s store entry here h e t pointer place v w (integer_of f.note.ctype) left able (ExprClaims s store entry here f) right made (Needed f a) (λ k. form_or_fresh a k)
+            (counted_own s here x e t f l same counted a (amount ∙ is)) (λ c there p. needed_typed a c p) (λ c there p. counts a is c there) (λ one c there p. absurd (several one))

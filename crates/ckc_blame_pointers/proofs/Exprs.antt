@@ -30,7 +30,7 @@ use Rattle.ckc_bounds_points.specs.Flow.{State}
 use Rattle.ckc_bounds_ranges.specs.Rows.{range_of_local}
 use Rattle.ckc_bounds_views.specs.Parts.{LimitsView, NodeView, View, NodeOfViews, fresh_behind}
 use Rattle.ckc_bounds_views.specs.Conditions.{right_point, widening}
-use Rattle.ckc_bounds_views.specs.Judged.{is_counted_kind, fault_if, has_none_of_node, fault_of_node, operand_fault_of_node, node_judged}
+use Rattle.ckc_bounds_views.specs.Judged.{is_counted_kind, counts_bytes, fault_if, has_none_of_node, fault_of_node, operand_fault_of_node, node_judged}
 use Rattle.ckc_bounds_views.specs.Fresh.{own_fresh}
 use Rattle.ckc_bounds_views.specs.Ranges.{range_of_one, pointer_range}
 use Rattle.ckc_bounds_views.specs.Views.{limits_view, node_view, expr_view, view_of_limits, view_of_node, view}
@@ -55,7 +55,7 @@ use Rattle.ckc_blame_numbers.proofs.Exprs as numbers
 use Rattle.ckc_blame_numbers.proofs.Holding.{form_exact, form_exact_in, side_told}
 use Rattle.ckc_blame_numbers.proofs.Types.{sign_row, IsWide, number_wide, size_wide}
 use Rattle.ckc_blame_sound.specs.Bodies.{AreFresh}
-use Rattle.ckc_blame_pointers.specs.Covered.{DeclareLocals, DeclareOnes, IsSoundStore, IsElement, IsSingle, IsArrow, IsPointerArrow, IsAddressed, IsStaticInteger, IsStaticArray, IsStaticPointer, IsStaticBounded, IsStaticStructure, IsStructureTarget, IsPointerTarget, IsStructureElement, IsStructureNode, IsCoveredNode, IsCoveredExpr, AreCovered, CountsElements}
+use Rattle.ckc_blame_pointers.specs.Covered.{DeclareLocals, DeclareOnes, IsSoundStore, IsElement, IsSingle, IsArrow, IsPointerArrow, IsAddressed, IsStaticInteger, IsStaticArray, IsStaticPointer, IsStaticBounded, IsStaticStructure, IsStructureTarget, IsPointerTarget, IsStructureElement, IsStructureNode, IsCoveredNode, IsCoveredExpr, AreCovered}
 use Rattle.ckc_blame_pointers.specs.Meant.{IsNotStuck}
 use Rattle.ckc_blame_pointers.proofs.Claims.{weaker, holds_on, nothing_read}
 use Rattle.ckc_blame_numbers.proofs.Known.{form_known}
@@ -74,7 +74,8 @@ use Rattle.ckc_blame_pointers.proofs.Arrows.{arrow_node}
 use Rattle.ckc_blame_pointers.proofs.Held.{held_claims}
 use Rattle.ckc_blame_pointers.proofs.Through.{target_reached, element_reached, target_structure, element_structure}
 use Rattle.ckc_blame_pointers.proofs.ReadThrough.{read_claims}
-use Rattle.ckc_blame_pointers.proofs.Casts.{one_claims, counted_claims, no_limits, whole_elements}
+use Rattle.ckc_blame_pointers.proofs.Casts.{one_claims, no_limits}
+use Rattle.ckc_blame_pointers.proofs.Bytes.{IsAmount, amount_claims, bytes_amount}
 use Rattle.ckc_blame_pointers.proofs.Operands.{tested_pointer, operand_scalar, operand_testable}
 use Rattle.ckc_blame_pointers.proofs.Reach.{IsStructurePlace}
 use Rattle.ckc_blame_pointers.proofs.Pointees.{pointee_claims}
@@ -510,10 +511,10 @@ module _ (globals : Globals) (s : Setting) (agrees : Agrees globals s) (declares
         subst (λ t. IsNotStuck (NodeClaims s store entry here h note.ctype (node_view s.frame (Node-F.Tested x (view s.frame e.0) None))) (evaluated store (Tested (size_behind s.text.layout t) Int place ((part_of e.0).value s.text s.variables k) (Number 1)))) row.row.2
         (one_claims s store entry here h x e.0 note.ctype (tested_pointer note.ctype e.0 tested) place ((part_of e.0).value s.text s.variables k)
         (e.1.claims typed here covered (operand_scalar globals s store here note.ctype e.0 typed covered tested) h fresh first are left k (first_strings s e.0 [] k strings))
-        (operand_testable globals s store here note.ctype e.0 typed covered tested entry next ready h node.0 place fresh first are (viewed_type e.0) fault left))
+        (operand_testable globals s store here note.ctype e.0 typed covered tested entry next ready h node place fresh first are (viewed_type e.0) fault left))
     node_step (Node-F.Tested x e (Some l)) note place row typed covered node checked scalar fresh little are fault judged noted k strings =
         subst (λ v. Goal v (part_of_limits l.0)) (sym view_is) (subst (λ q. Goal (limits_view (viewed_limits layer)) q) (sym part_is)
-        (by layer (limits_layer l.0 layer refl) l.1 (limits_every (HasRow globals s) l.0 typed.1) (limits_every (IsCoveredExpr s store here.seen) l.0 covered.1) node.1
+        (by layer (limits_layer l.0 layer refl) l.1 (limits_every (HasRow globals s) l.0 typed.1) (limits_every (IsCoveredExpr s store here.seen) l.0 covered.1)
         (subst (λ v. fresh + length (node_fresh note.ctype (made v) here.at) < 2 ^ 32) view_is little)
         (subst (λ v. node_judged s.frame (Node-F.Tested x (view s.frame e.0) (Some v)) note.ctype fresh here.at ≡ Ok (node_of (Node-F.Tested x e.0 (Some l.0)))) view_is judged)
         (subst (λ xs. AreStrings s m xs) (limits_strings_are l.0) (later_strings s e.0 (strings_of_limits l.0) k strings))))
@@ -547,19 +548,19 @@ module _ (globals : Globals) (s : Setting) (agrees : Agrees globals s) (declares
 
         -- as many elements as an expression says
         by_count : (f : NotedExpr) → ExprHolds f → IsTyped globals s f → AreCovered s store here.seen f → (l : LimitsView) → ((widened : List ℕ) → l.fresh (record here.at { widened = widened }) ≡ l.fresh here.at)
-            → l.fresh here.at ≡ (view s.frame f).fresh here.at → l.counted ≡ Some f.note.ctype → l.amount (size_of s.frame.structs (element_of note.ctype)) here.at.facts ≡ (view s.frame f).form here.at.facts
-            → fresh + length (node_fresh note.ctype (made l) here.at) < 2 ^ 32 → (view s.frame e.0).judged fresh here.at ≡ Ok e.0
+            → l.fresh here.at ≡ (view s.frame f).fresh here.at → l.counted ≡ Some f.note.ctype → fresh + length (node_fresh note.ctype (made l) here.at) < 2 ^ 32 → (view s.frame e.0).judged fresh here.at ≡ Ok e.0
             → (view s.frame f).judged (fresh_behind (view s.frame e.0) fresh here.at) here.at ≡ Ok f → is_integer (view s.frame f).ctype ≡ true → AreStrings s m (strings_of_expr f)
-            → Of (type_written x) l (integer_of (part_of f).ctype) ((part_of f).value s.text s.variables m)
-        by_count f held rows covers l same needs counted amount little left right whole within =
-            subst (λ t. Of t l (integer_of (part_of f).ctype) ((part_of f).value s.text s.variables m)) row.row.2
-            (subst (λ u. Of note.ctype l (integer_of u) ((part_of f).value s.text s.variables m)) (sym (parted_type f))
-            (counted_claims s store entry here h x e.0 note.ctype (tested_pointer note.ctype e.0 tested) place ((part_of e.0).value s.text s.variables k)
+            → (w : CType → CType → Expr) → (is_integer f.note.ctype ≡ true → IsAmount s here note.ctype f l ((part_of f).value s.text s.variables m) (w note.ctype f.note.ctype))
+            → Of (type_written x) l (integer_of (part_of f).ctype) (w (type_written x) (part_of f).ctype)
+        by_count f held rows covers l same needs counted little left right whole within w amount =
+            subst (λ t. Of t l (integer_of (part_of f).ctype) (w t (part_of f).ctype)) row.row.2
+            (subst (λ u. Of note.ctype l (integer_of u) (w note.ctype u)) (sym (parted_type f))
+            (amount_claims s store entry here h x e.0 note.ctype (tested_pointer note.ctype e.0 tested) place ((part_of e.0).value s.text s.variables k)
             (e.1.claims typed.0 here covered.0 (operand_scalar globals s store here note.ctype e.0 typed.0 covered.0 tested) h fresh first are left k operand_strings)
-            (operand_testable globals s store here note.ctype e.0 typed.0 covered.0 tested entry next ready h node.0 place fresh first are (viewed_type e.0) fault left)
-            f ((part_of f).value s.text s.variables m) integer
+            (operand_testable globals s store here note.ctype e.0 typed.0 covered.0 tested entry next ready h node place fresh first are (viewed_type e.0) fault left)
+            f l same counted ((part_of f).value s.text s.variables m) integer
             (held.claims rows here covers (integer_scalar f.note.ctype integer) h (fresh_behind (view s.frame e.0) fresh here.at) second (are_on e.0 fresh first are) right m within)
-            (λ c there. index_of here h f rows m c there) l same counted amount (no_limits (type_written x) note.ctype row.row.2 row.row.0)))
+            (λ c there. index_of here h f rows m c there) (no_limits (type_written x) note.ctype row.row.2 row.row.0) (w note.ctype f.note.ctype) (amount integer)))
           where
             integer : is_integer f.note.ctype ≡ true
             integer = sym (ap is_integer (viewed_type f)) ∙ whole
@@ -573,24 +574,24 @@ module _ (globals : Globals) (s : Setting) (agrees : Agrees globals s) (declares
             second : fresh_behind (view s.frame e.0) fresh here.at + length ((view s.frame f).fresh here.at) < 2 ^ 32
             second = subst (λ us. fresh_behind (view s.frame e.0) fresh here.at + length us < 2 ^ 32) needs (right_room fresh ((view s.frame e.0).fresh here.at) (l.fresh here.at) inside)
 
-        by : (z : LimitsLayer) → l.0 ≡ limits_of z → PartsHold z → LimitsEvery (HasRow globals s) z → LimitsEvery (IsCoveredExpr s store here.seen) z → CountsElements s note.ctype z
+        by : (z : LimitsLayer) → l.0 ≡ limits_of z → PartsHold z → LimitsEvery (HasRow globals s) z → LimitsEvery (IsCoveredExpr s store here.seen) z
             → fresh + length (node_fresh note.ctype (made (limits_view (viewed_limits z))) here.at) < 2 ^ 32
             → node_judged s.frame (Node-F.Tested x (view s.frame e.0) (Some (limits_view (viewed_limits z)))) note.ctype fresh here.at ≡ Ok (node_of (Node-F.Tested x e.0 (Some l.0)))
             → AreStrings s m (strings_in_limits z) → Goal (limits_view (viewed_limits z)) (limits_parts (part_limits z))
-        by (Limits-F.Count f spot) is held rows covers counts little judged within =
+        by (Limits-F.Count f spot) is held rows covers little judged within =
             let parts = tested_parts x _ _ e.0 (Some l.0) judged in
             let right = limits_part (λ a. Limits-F.Count a spot) (λ a b e. cc) _ _ _ spot f (some_there _ l.0 parts.1 ∙ ap Ok is) in
-            by_count f held rows covers (limits_view (viewed_limits (Limits-F.Count f spot))) (fresh_same s.frame f here.at) refl (ap Some (viewed_type f)) refl little parts.0 right.0 (not_false (is_integer (view s.frame f).ctype) right.1) within
-        by (Limits-F.ByteCount f spot) is held rows covers counts little judged within =
+            by_count f held rows covers (limits_view (viewed_limits (Limits-F.Count f spot))) (fresh_same s.frame f here.at) refl (ap Some (viewed_type f)) little parts.0 right.0
+            (not_false (is_integer (view s.frame f).ctype) right.1) within (λ t u. (part_of f).value s.text s.variables m) (λ integer. inl (refl, refl))
+        by (Limits-F.ByteCount f spot) is held rows covers little judged within =
             let parts = tested_parts x _ _ e.0 (Some l.0) judged in
             let right = limits_part (λ a. Limits-F.ByteCount a spot) (λ a b e. cc) _ _ _ spot f (some_there _ l.0 parts.1 ∙ ap Ok is) in
-            subst (λ w. Of (type_written x) (limits_view (viewed_limits (Limits-F.ByteCount f spot))) (integer_of (part_of f).ctype) w)
-            (sym (ap (λ n. elements_in n (part_of f).ctype spot ((part_of f).value s.text s.variables m)) (ap (size_behind s.text.layout) (sym row.row.2) ∙ counts)))
-            (by_count f held rows covers (limits_view (viewed_limits (Limits-F.ByteCount f spot))) (fresh_same s.frame f here.at) refl (ap Some (viewed_type f))
-            (whole_elements (size_of s.frame.structs (element_of note.ctype)) (ap (λ n. size_of n (element_of note.ctype)) agrees.structs ∙ counts) ((view s.frame f).form here.at.facts)) little parts.0 right.0
-            (and_parts (is_integer (view s.frame f).ctype) _ (not_false _ right.1)).0 within)
-        by (Limits-F.Between f g spot) is held rows covers counts little judged within = absurd (no_ends ((view s.frame f).judged (fresh_behind (view s.frame e.0) fresh here.at) here.at) ((view s.frame g).judged (fresh_behind (view s.frame f) (fresh_behind (view s.frame e.0) fresh here.at) here.at) here.at) bad_limits spot l.0 (some_there _ l.0 (tested_parts x _ _ e.0 (Some l.0) judged).1))
-        by (Limits-F.Unknown spot) is held rows covers counts little judged within = absurd (no_amount bad_limits spot l.0 (some_there _ l.0 (tested_parts x _ _ e.0 (Some l.0) judged).1))
+            let bytes = not_false (counts_bytes (size_of s.frame.structs (element_of note.ctype)) (view s.frame f)) right.1 in
+            by_count f held rows covers (limits_view (viewed_limits (Limits-F.ByteCount f spot))) (fresh_same s.frame f here.at) refl (ap Some (viewed_type f)) little parts.0 right.0
+            (and_parts (is_integer (view s.frame f).ctype) _ bytes).0 within (λ t u. elements_in (size_behind s.text.layout t) u spot ((part_of f).value s.text s.variables m))
+            (λ integer. bytes_amount s here note.ctype f spot ((part_of f).value s.text s.variables m) agrees.structs integer bytes)
+        by (Limits-F.Between f g spot) is held rows covers little judged within = absurd (no_ends ((view s.frame f).judged (fresh_behind (view s.frame e.0) fresh here.at) here.at) ((view s.frame g).judged (fresh_behind (view s.frame f) (fresh_behind (view s.frame e.0) fresh here.at) here.at) here.at) bad_limits spot l.0 (some_there _ l.0 (tested_parts x _ _ e.0 (Some l.0) judged).1))
+        by (Limits-F.Unknown spot) is held rows covers little judged within = absurd (no_amount bad_limits spot l.0 (some_there _ l.0 (tested_parts x _ _ e.0 (Some l.0) judged).1))
     node_step y note place row typed covered node checked scalar fresh little are fault judged noted k strings = absurd node
 
     not_raw : (e : NotedExpr) → AreCovered s store here.seen e → is_raw_kind (kind_of (view s.frame e).ctype) ≡ false

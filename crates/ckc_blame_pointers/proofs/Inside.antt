@@ -240,10 +240,10 @@ module _ (frame : Frame) where
   abbrev viewed_node : NotedLayer → NodeOfViews
   viewed_node = map-Node Name Note NotedLimits NotedNode NotedExpr LimitsView NodeView View (view_of_limits frame) (view_of_node frame) (view frame)
 
-  view_is : (e : NotedExpr) → view frame e ≡ expr_view (record { node = view_of_node frame e.node; pos = e.pos; note = e.note })
+  pub view_is : (e : NotedExpr) → view frame e ≡ expr_view (record { node = view_of_node frame e.node; pos = e.pos; note = e.note })
   view_is e = fold_out-Expr Name Note LimitsView NodeView View limits_view (node_view frame) expr_view e
 
-  node_view_is : (n : NotedNode) → view_of_node frame n ≡ node_view frame (viewed_node (out-Node Name Note n))
+  pub node_view_is : (n : NotedNode) → view_of_node frame n ≡ node_view frame (viewed_node (out-Node Name Note n))
   node_view_is n = fold_out-Node Name Note LimitsView NodeView View limits_view (node_view frame) expr_view n
 
   -- the range that is noted is that of the point

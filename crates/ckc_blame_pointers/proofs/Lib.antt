@@ -39,6 +39,8 @@ pub mod Pointees
 pub mod Arrows
 pub mod Shorter
 pub mod Casts
+pub mod Quotients
+pub mod Bytes
 pub mod Operands
 pub mod Literals
 pub mod Strings

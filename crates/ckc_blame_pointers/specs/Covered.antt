@@ -14,7 +14,6 @@ use Rattle.ckc_syntax.specs.declared.tree.Name.{Name}
 use Rattle.ckc_syntax.specs.declared.tree.Name.TheVariants as name
 use Rattle.ckc_syntax.specs.declared.tree.TreeOp.{TreeOp}
 use Rattle.ckc_syntax.specs.declared.tree.TreeOp.TheVariants as op
-use Rattle.ckc_syntax.specs.declared.tree.Limits.{Limits-F, out-Limits}
 use Rattle.ckc_syntax.specs.declared.tree.Node.{Node-F, out-Node}
 use Rattle.ckc_syntax.specs.declared.tree.Expr.{Expr-F, every-Expr}
 use Rattle.ckc_typed.specs.declared.typed.Note.{Note}
@@ -28,7 +27,6 @@ use Rattle.ckc_typed.specs.Environment.{variable_named}
 use Rattle.ckc_typed.specs.Operands.{is_raw_kind, dot_type}
 use Rattle.ckc_typed.specs.Trees.{NotedLimits, NotedNode, NotedExpr, NotedLayer}
 use Rattle.ckc_typed.specs.Types.{kind_of, element_of, is_char, is_integer, is_pointer, is_scalar}
-use Rattle.ckc_typed_welltyped.specs.Parts.{LimitsLayer}
 use Rattle.ckc_typed_welltyped.specs.Expressions.{AnyLimits, AnyNode}
 use Rattle.ckc_bounds_points.specs.declared.frame.Bounds.{Bounds}
 use Rattle.ckc_bounds_points.specs.declared.frame.Bounds.TheVariants as bounds
@@ -339,16 +337,6 @@ abbrev pub IsTestedOperand : NotedExpr → Type 0
 IsTestedOperand e =
     (is_null e ≡ true) ⊎ ((is_counted_kind (kind_of e.note.ctype) ≡ true) ⊎ (is_missing e.note.range ≡ false))
 
--- The limits of a bounds cast to a type count elements, or bytes of elements of one byte.
-abbrev pub CountsElements : Setting → CType → LimitsLayer → Type 0
-CountsElements s t (Limits-F.ByteCount e at) = size_behind s.text.layout t ≡ 1
-CountsElements s t l = Unit {0}
-
--- the same of limits that there may be
-abbrev pub CountsElementsIf : Setting → CType → Option NotedLimits → Type 0
-CountsElementsIf s t None = Unit {0}
-CountsElementsIf s t (Some l) = CountsElements s t (out-Limits Name Note l)
-
 -- The nodes of a type of which it is said what they come to: numbers, string literals, `sizeof`, `NULL`, locals in
 -- scope, static integers, arrays and pointers, operators, `?:`, casts, bounds casts that are tested, what is read
 -- through pointers, what `->` and `.` read, and the addresses of static objects, elements and members; and the structures
@@ -370,7 +358,7 @@ IsCoveredNode s store seen t (Node-F.Index e f) =
     IsElement e ⊎ (IsStructureElement e ⊎ (IsPointerTarget s store e × (kind_of e.note.ctype ≡ Some kind.Arr)))
 IsCoveredNode s store seen t (Node-F.Arrow e n spot) = IsArrow s e n t ⊎ IsPointerArrow s store e n t
 IsCoveredNode s store seen t (Node-F.Dot e n spot) = IsDot s store e n t
-IsCoveredNode s store seen t (Node-F.Tested w e l) = IsTestedOperand e × CountsElementsIf s t l
+IsCoveredNode s store seen t (Node-F.Tested w e l) = IsTestedOperand e
 IsCoveredNode s store seen t _ = ⊥
 
 -- Such an expression is no unchecked pointer, the size of what it points to is a word, and so is the number of its

@@ -1,4 +1,4 @@
--- The size of a type is a word.
+-- The size of a type is less than 2 ^ 31.
 use Rattle.std.proofs.Common.{◌≡◌, ℕ, ◌+◌, ◌-◌, ◌*◌, ◌%◌, ◌<◌, ◌≤◌, ◌^◌, Bool, true, false, List, [], ◌∷◌, length, refl, arith}
 use Rattle.std.specs.Prelude.{nat_lt, nat_le, ◌&&◌, if◌then◌else◌, slice_get, is_some}
 use Rattle.std.proofs.Math.Nat.{mod-lt}
@@ -44,7 +44,7 @@ ends at (m ∷ ms) =
     let rest : end_of (start at m + scalar_size m.ctype) ms ≤ start at m + scalar_size m.ctype + 8 * length ms = ends (start at m + scalar_size m.ctype) ms in
     omega (arith, near, small, rest)
 
-struct_small : (ms : List MemberShape) → length ms ≤ 16384 → struct_size ms < 2 ^ 32
+struct_small : (ms : List MemberShape) → length ms ≤ 16384 → struct_size ms < 2 ^ 31
 struct_small ms h =
     let e = ends 0 ms in
     let near : struct_size ms ≤ end_of 0 ms + 4 = next_near (end_of 0 ms) (struct_align ms) (struct_align_positive ms) (struct_align_at_most ms) in
@@ -54,7 +54,7 @@ both : (a b : Bool) → (a && b) ≡ true → (a ≡ true) × (b ≡ true)
 both true b e = (refl, e)
 both false b e = absurd cc
 
-size_small : (structs : Structs) (t : CType) (form : CType-F CType) (laid : Bool) → is_laid_out_form structs form ≡ laid → (if laid then size_by_form structs form else 0) < 2 ^ 32
+size_small : (structs : Structs) (t : CType) (form : CType-F CType) (laid : Bool) → is_laid_out_form structs form ≡ laid → (if laid then size_by_form structs form else 0) < 2 ^ 31
 size_small structs t form false e = omega arith
 size_small structs t CType-F.Int true e = omega arith
 size_small structs t CType-F.Unsigned true e = omega arith
@@ -70,5 +70,8 @@ size_small structs t (CType-F.Struct tag) true e =
     few : (n : ℕ) → nat_le n 16384 ≡ true → n ≤ 16384
     few n f = grind (arith, nat_tests)
 
+pub sizes_are_small : (structs : Structs) (t : CType) → size_of structs t < 2 ^ 31
+sizes_are_small structs t = size_small structs t (out-CType t) (is_laid_out_form structs (out-CType t)) refl
+
 pub sizes_are_words : (structs : Structs) (t : CType) → size_of structs t < 2 ^ 32
-sizes_are_words structs t = size_small structs t (out-CType t) (is_laid_out_form structs (out-CType t)) refl
+sizes_are_words structs t = let small = sizes_are_small structs t in omega (arith, small)
