@@ -34,17 +34,17 @@ use Rattle.ckc_build_values.specs.Expressions.{Part, part_of}
 use Rattle.ckc_blame_sound.specs.Bodies.{AreFresh}
 use Rattle.ckc_blame_sound.specs.Points.{HoldsAt}
 use Rattle.ckc_blame_sound.specs.Settings.{Setting, AreStrings}
-use Rattle.ckc_blame_sound.proofs.Strings.{strings_in_front}
 use Rattle.ckc_blame_numbers.specs.Typed.{IsRow, HasRow, IsTyped, Agrees}
 use Rattle.ckc_blame_pointers.specs.Covered.{DeclareLocals, IsSoundStore, IsCoveredExpr, IsCovered}
 use Rattle.ckc_blame_pointers.specs.Meant.{IsNotStuck}
 use Rattle.ckc_blame_pointers.proofs.Binary.{ExprClaims}
 use Rattle.ckc_blame_pointers.proofs.Elements.{IsRanged, ranged_pointer}
-use Rattle.ckc_blame_pointers.proofs.Exprs.{expr_claims}
+use Rattle.ckc_blame_pointers.proofs.Induction.{expr_claims}
 use Rattle.ckc_blame_pointers.proofs.Inside.{IsJudged, judged_is, one_part, two_parts, parts_every, node_every, PartsEvery}
 use Rattle.ckc_blame_pointers.proofs.Numbers.{nothing_behind, same_number}
 use Rattle.ckc_blame_numbers.proofs.Claims.{plain_is}
 use Rattle.ckc_source.specs.Words.{exact, elements_behind}
+use Rattle.ckc_blame_pointers.proofs.Strings.{first_strings, later_strings}
 use Rattle.ckc_blame_pointers.proofs.Sums.{fresh_on}
 use Rattle.ckc_blame_pointers.proofs.Later.{next_more, left_room, right_room, parts_room}
 use Rattle.ckc_blame_given.specs.Targets.{IsThrough, ComesTo}
@@ -94,7 +94,7 @@ module _ (globals : Globals) (s : Setting) (agrees : Agrees globals s) (declares
 
   pub claims : (f : NotedExpr) → IsTyped globals s f → IsCovered s store here.seen f → HasRoom f → (view s.frame f).judged fresh here.at ≡ Ok f → (k : ℕ)
       → AreStrings s k (strings_of_expr f) → IsNotStuck (ExprClaims s store entry here f) (evaluated store ((part_of f).value s.text s.variables k))
-  claims f typed covered room judged k strings = expr_claims globals s agrees declares store entry next ready f typed here covered h fresh room are judged k
+  claims f typed covered room judged k strings = expr_claims globals s agrees declares store entry next ready f typed here covered h fresh room are judged k strings
 
   ranged_at : (f : NotedExpr) (covered : IsCovered s store here.seen f) (room : HasRoom f) (place : Pos) → access_fault (view s.frame f) place fresh here.at ≡ None → is_counted_kind (kind_of f.note.ctype) ≡ true
       → (x : Value) → ExprClaims s store entry here f x → IsRanged s store entry next ready here h f fresh (few f covered) room are x
@@ -144,9 +144,9 @@ module _ (globals : Globals) (s : Setting) (agrees : Agrees globals s) (declares
           let left : HasRoom f = left_room fresh ((view s.frame f).fresh here.at) ((view s.frame g).fresh here.at) (node_room e room (Node-F.Index f g) out) in
           let parts = two_parts (λ a b. Node-F.Index a b) (λ a b c d e. (cc, cc)) _ _ f g (j.node ∙ ap Ok (node_is e (Node-F.Index f g) out)) in
           subst (λ u. Of u (part_of g).ctype) (sym (parted_type f)) (subst (λ u. Of f.note.ctype u) (sym (parted_type g))
-          (counted_aims s store entry next ready here h f e.pos v (claims f typed_parts.0 covered left parts.0 k (strings_in_front s (strings_of_expr f) (strings_of_expr g) k strings)) offset Q width fresh (few f covered) left are (integer_of g.note.ctype) w (ExprClaims s store entry here g)
+          (counted_aims s store entry next ready here h f e.pos v (claims f typed_parts.0 covered left parts.0 k (first_strings s f (strings_of_expr g) k strings)) offset Q width fresh (few f covered) left are (integer_of g.note.ctype) w (ExprClaims s store entry here g)
           (expr_claims globals s agrees declares store entry next ready g typed_parts.1 here too h (fresh_behind (view s.frame f) fresh here.at) (right_room fresh ((view s.frame f).fresh here.at) ((view s.frame g).fresh here.at) (node_room e room (Node-F.Index f g) out))
-          (fresh_on s store entry here h fresh (fresh_behind (view s.frame f) fresh here.at) (next_more fresh ((view s.frame f).fresh here.at) left) are) parts.1 (k + (part_of f).literals))
+          (fresh_on s store entry here h fresh (fresh_behind (view s.frame f) fresh here.at) (next_more fresh ((view s.frame f).fresh here.at) left) are) parts.1 (k + (part_of f).literals) (later_strings s f (strings_of_expr g) k strings))
           counted (ranged_at f covered left e.pos j.fault counted)
           (λ x i is there a exactly hit. goes f.note.ctype (some_if (is_moved f.note.ctype && is_integer g.note.ctype) (element_of f.note.ctype) e.note.ctype row.row) _ refl x a hit)))
         where
