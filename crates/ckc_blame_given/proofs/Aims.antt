@@ -52,12 +52,13 @@ use Rattle.ckc_blame_texts.proofs.SameViews.{same_view}
 use Rattle.ckc_blame_pointers.specs.Covered.{DeclareLocals, IsInScope, IsSoundStore, IsCovered}
 use Rattle.ckc_blame_pointers.proofs.Inside.{one_part}
 use Rattle.ckc_blame_pointers.proofs.Members.{member_behind}
+use Rattle.ckc_blame_pointers.proofs.Strings.{strings_in_node}
 use Rattle.ckc_blame_pointers.proofs.Structures.{IsWholeElement}
 use Rattle.ckc_blame_texts.proofs.Accesses.{scalar_part}
 use Rattle.ckc_blame_given.specs.Planned.{IsTarget, IsLocalTarget}
 use Rattle.ckc_blame_given.specs.Targets.{KeepRunsFree, IsStaticTarget, IsThrough, IsMemberNamed, IsCoveredPlace, IsCoveredTarget, pointed_by, placed_by, begin_in, begin_of, LiesIn, GoesThere, ComesTo, IsAimed}
 use Rattle.ckc_blame_given.proofs.Hits.{IsHit}
-use Rattle.ckc_blame_given.proofs.Layers.{viewed, view_is, part_is, part_by, strings_by, strings_are, dot_every, DotEvery}
+use Rattle.ckc_blame_given.proofs.Layers.{viewed, view_is, part_is, part_by, strings_are, dot_every, DotEvery}
 use Rattle.ckc_blame_given.proofs.Places.{Goes, IsIn, Lies, allowed_is, member_struct, scalar_target, struct_target, hit_goes, hit_scalar, hit_struct}
 use Rattle.ckc_blame_given.proofs.Pointers.{viewed_type, parted_type, node_is, node_room, node_judged_at, row_at, parts_at, behind_aims, deref_aims, index_aims}
 use Rattle.ckc_blame_pointers.proofs.Reached.{IsElementReached, IsRunReached}
@@ -250,7 +251,7 @@ module _ (globals : Globals) (s : Setting) (agrees : Agrees globals s) (declares
           struct_goes f.note.ctype n m (local_is (Node-F.Dot f n at) out) found_there r is access lies v a hit
           (λ b begins. let no : None ≡ Some b = sym none ∙ sym (begin_is (Node-F.Dot f n at) out) ∙ begins in absurd (cc))
 
-      by : (y : NotedLayer) → out-Node Name Note f.node ≡ y → IsCoveredPlace s store here.seen f.note.ctype y → AreStrings s k (strings_by y)
+      by : (y : NotedLayer) → out-Node Name Note f.node ≡ y → IsCoveredPlace s store here.seen f.note.ctype y → AreStrings s k (strings_in_node y)
           → ComesTo Gone (aimed store (memory t (member_place s.text.layout (tag_of f.note.ctype) n ((part_by f y).place s.text s.variables k))))
       by (Node-F.Name (name.Static j)) out_f c strings =
           static_member_aims s store next ready p (local_is (Node-F.Dot f n at) out) e.pos j f.note.ctype c (member f.note.ctype n m) found_there (form f.note.ctype n m).1 (named_there f.note.ctype n m)
@@ -265,7 +266,7 @@ module _ (globals : Globals) (s : Setting) (agrees : Agrees globals s) (declares
 
   -- ---- all of them
 
-  each : (x : NotedLayer) → out-Node Name Note e.node ≡ x → IsCoveredTarget s store here.seen e x → AreStrings s k (strings_by x) → Sent x
+  each : (x : NotedLayer) → out-Node Name Note e.node ≡ x → IsCoveredTarget s store here.seen e x → AreStrings s k (strings_in_node x) → Sent x
   each (Node-F.Name (name.Local j)) out c strings = local_goes j out c
   each (Node-F.Name (name.Static j)) out c strings = static_goes j out c
   each (Node-F.Un op.Deref f) out c strings =

@@ -1,12 +1,11 @@
 -- What is said of an expression by what is said of the parts of its node.
 use Rattle.std.proofs.Common.{◌≡◌, sym, ap, subst, ◌∙◌, rules}
 use Rattle.ckc_syntax.specs.declared.tree.Name.{Name}
-use Rattle.ckc_syntax.specs.Inside.{listed, inside_limits}
-use Rattle.ckc_syntax.specs.declared.tree.Node.{Node-F, map-Node, out-Node, roll-Node, fold-Node, fold-roll-Node, every_held-Node, the_lemmas}
+use Rattle.ckc_syntax.specs.declared.tree.Node.{Node-F, map-Node, out-Node, roll-Node, fold-roll-Node, every_held-Node, the_lemmas}
 use Rattle.ckc_syntax.specs.declared.tree.Limits.{every-Limits}
 use Rattle.ckc_syntax.specs.declared.tree.Expr.{Expr-F, fold-roll-Expr}
 use Rattle.ckc_typed.specs.declared.typed.Note.{Note}
-use Rattle.ckc_typed.specs.Statics.{Strings, node_strings, expr_strings, strings_of_limits, strings_of_expr}
+use Rattle.ckc_typed.specs.Statics.{strings_of_expr}
 use Rattle.ckc_typed.specs.Trees.{NotedLimits, NotedNode, NotedExpr, NotedLayer}
 use Rattle.ckc_typed_welltyped.specs.Expressions.{AnyLimits, AnyNode}
 use Rattle.ckc_bounds_points.specs.declared.frame.Frame.{Frame}
@@ -15,6 +14,7 @@ use Rattle.ckc_bounds_views.specs.Parts.{LimitsView, NodeView, View, NodeOfViews
 use Rattle.ckc_bounds_views.specs.Views.{limits_view, node_view, expr_view, view_of_limits, view_of_node, view}
 use Rattle.ckc_build_values.specs.Expressions.{Part, NodePart, LimitsPart, limits_parts, node_parts, expr_parts, part_of, part_of_node, part_of_limits}
 use Rattle.ckc_blame_pointers.proofs.Inside.{Every, EveryNode, node_every}
+use Rattle.ckc_blame_pointers.proofs.Strings.{strings_of_node, strings_in_node, expr_strings_are, node_strings_are}
 
 pub node_whole : (n : NotedNode) → roll-Node Name Note (out-Node Name Note n) ≡ n
 node_whole n = search (rules, the_lemmas)
@@ -56,16 +56,9 @@ part_is e =
 
 -- ---- the string literals in it
 
-abbrev strings_of_node : NotedNode → Strings
-strings_of_node = fold-Node Name Note Strings Strings Strings (inside_limits listed (λ e. e)) node_strings expr_strings
-
-abbrev pub strings_by : NotedLayer → Strings
-strings_by x = node_strings (map-Node Name Note NotedLimits NotedNode NotedExpr Strings Strings Strings strings_of_limits strings_of_node strings_of_expr x)
-
-pub strings_are : (e : NotedExpr) → strings_of_expr e ≡ strings_by (out-Node Name Note e.node)
+pub strings_are : (e : NotedExpr) → strings_of_expr e ≡ strings_in_node (out-Node Name Note e.node)
 strings_are e =
-    fold-roll-Expr Name Note Strings Strings Strings (inside_limits listed (λ e. e)) node_strings expr_strings (record { node = e.node; pos = e.pos; note = e.note })
-    ∙ ap strings_of_node (sym (node_whole e.node)) ∙ fold-roll-Node Name Note Strings Strings Strings (inside_limits listed (λ e. e)) node_strings expr_strings (out-Node Name Note e.node)
+    expr_strings_are (record { node = e.node; pos = e.pos; note = e.note }) ∙ ap strings_of_node (sym (node_whole e.node)) ∙ node_strings_are (out-Node Name Note e.node)
 
 -- ---- which targets it names
 
