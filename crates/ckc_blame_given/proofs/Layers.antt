@@ -5,6 +5,7 @@ use Rattle.ckc_syntax.specs.declared.tree.Node.{Node-F, map-Node, out-Node, roll
 use Rattle.ckc_syntax.specs.declared.tree.Limits.{every-Limits}
 use Rattle.ckc_syntax.specs.declared.tree.Expr.{Expr-F, fold-roll-Expr}
 use Rattle.ckc_typed.specs.declared.typed.Note.{Note}
+use Rattle.ckc_typed.specs.Statics.{strings_of_expr}
 use Rattle.ckc_typed.specs.Trees.{NotedLimits, NotedNode, NotedExpr, NotedLayer}
 use Rattle.ckc_typed_welltyped.specs.Expressions.{AnyLimits, AnyNode}
 use Rattle.ckc_bounds_points.specs.declared.frame.Frame.{Frame}
@@ -13,6 +14,7 @@ use Rattle.ckc_bounds_views.specs.Parts.{LimitsView, NodeView, View, NodeOfViews
 use Rattle.ckc_bounds_views.specs.Views.{limits_view, node_view, expr_view, view_of_limits, view_of_node, view}
 use Rattle.ckc_build_values.specs.Expressions.{Part, NodePart, LimitsPart, limits_parts, node_parts, expr_parts, part_of, part_of_node, part_of_limits}
 use Rattle.ckc_blame_pointers.proofs.Inside.{Every, EveryNode, node_every}
+use Rattle.ckc_blame_pointers.proofs.Strings.{strings_of_node, strings_in_node, expr_strings_are, node_strings_are}
 
 pub node_whole : (n : NotedNode) → roll-Node Name Note (out-Node Name Note n) ≡ n
 node_whole n = search (rules, the_lemmas)
@@ -51,6 +53,12 @@ part_is e =
     node_is : part_of_node e.node ≡ node_parts (parted (out-Node Name Note e.node))
     node_is =
         ap part_of_node (sym (node_whole e.node)) ∙ fold-roll-Node Name Note LimitsPart NodePart Part limits_parts node_parts expr_parts (out-Node Name Note e.node)
+
+-- ---- the string literals in it
+
+pub strings_are : (e : NotedExpr) → strings_of_expr e ≡ strings_in_node (out-Node Name Note e.node)
+strings_are e =
+    expr_strings_are (record { node = e.node; pos = e.pos; note = e.note }) ∙ ap strings_of_node (sym (node_whole e.node)) ∙ node_strings_are (out-Node Name Note e.node)
 
 -- ---- which targets it names
 
