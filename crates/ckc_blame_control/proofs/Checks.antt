@@ -16,6 +16,7 @@ use Rattle.ckc_typed.specs.declared.environment.Variable.{Variable}
 use Rattle.ckc_typed.specs.declared.typed.Note.{Note}
 use Rattle.ckc_typed.specs.declared.typed.Typed.{Typed}
 use Rattle.ckc_typed.specs.Trees.{NotedDecl, NotedExpr, NotedInit, NotedLayer, NotedStmt}
+use Rattle.ckc_typed_welltyped.specs.Productions.{Given, given_act}
 use Rattle.ckc_typed_welltyped.specs.Statements as rows
 use Rattle.ckc_typed_welltyped.specs.Statements.{act_rows, mode_in_form, WellTypedStmt}
 use Rattle.ckc_bounds_points.specs.Codes.{not_contained, bad_bundle}
@@ -33,6 +34,7 @@ use Rattle.ckc_blame_sound.specs.Few.{nodes_of_value, nodes_in}
 use Rattle.ckc_blame_sound.proofs.Nodes.{nodes_rolled}
 use Rattle.ckc_blame_sound.proofs.Tallies.{is_tally}
 use Rattle.ckc_blame_sound.proofs.Words.{exprs_inside, exprs_are}
+use Rattle.ckc_blame_sound.proofs.Given.{given_inside, given_are}
 use Rattle.ckc_blame_sound.specs.Bodies.{globals_of_text}
 use Rattle.ckc_blame_sound.specs.Steps.{is_simple, IsStep, IsCondition}
 use Rattle.ckc_blame_sound.proofs.Words.{exprs_inside, exprs_are}
@@ -149,6 +151,7 @@ module _ (s : Setting) (here there : Here) (sp : Spot) (e : Expr) (step : IsStep
             typed = subst (λ m. rows.IsCondition (globals_of_text s.text) s.variables m x) (mode_of x is (ap (λ (st : NotedStmt). st.note) last.0) code) (check_inside x is);
             words = λ w. subst HasWordsAct is (words_in step.before (step.inside.words w));
             safe = λ w. step.inside.safe w x (first_there x is);
+            given = λ w. subst (λ (g : Given). g.fine ≡ true) (given_are step.before ∙ ap (λ y. given_act (given_inside y)) is) (step.inside.given w);
           };
           room = λ w. let less = check_nodes x is in let all = step.room w in omega (arith, less, all);
           scope = record {

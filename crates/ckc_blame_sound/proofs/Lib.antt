@@ -3,6 +3,7 @@ pub mod Flow
 pub mod Kept
 pub mod Joined
 pub mod Words
+pub mod Given
 pub mod Tallies
 pub mod Typed
 pub mod Nodes

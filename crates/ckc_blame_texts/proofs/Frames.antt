@@ -248,11 +248,13 @@ locals_are_there p s f k is less few =
     let P : Setting → Type 0 = λ z. k < length z.variables → length z.variables < 1024 → (l : Local) × (local_at z.frame k ≡ Some l) in
     subst P (sym is.judged) (λ a b. frame_has (frame_of_text p) is.head is.body k a b) less few
 
+-- there are as many as are declared
+pub declared_counted : (frame : Frame) (ds : List NotedDecl) → length ds ≡ length (declared_in frame ds)
+declared_counted frame ds =
+    sym (length-map ds (λ (d : NotedDecl). type_written d.ctype)) ∙ ap length (sym (declared_types frame ds)) ∙ length-map (declared_in frame ds) (λ (x : Local). x.ctype)
+
 pub function_counts : (p : Typed) (s : Setting) (f : Function) → IsFunction p s f → (f.locals ≡ length s.variables) × (f.params ≡ length s.head.params)
 unfolding setting_of
 function_counts p s f is =
     let P : Setting → Type 0 = λ z. (f.locals ≡ length z.variables) × (f.params ≡ length z.head.params) in
-    let h = is.head in
-    let params : length h.params ≡ length (declared_in (frame_of_text p) h.params) =
-    sym (length-map h.params (λ (d : NotedDecl). type_written d.ctype)) ∙ ap length (sym (declared_types (frame_of_text p) h.params)) ∙ length-map (declared_in (frame_of_text p) h.params) (λ (x : Local). x.ctype) in
-    subst P (sym is.judged) (ap (λ (g : Function). g.locals) is.runs, ap (λ (g : Function). g.params) is.runs ∙ params)
+    subst P (sym is.judged) (ap (λ (g : Function). g.locals) is.runs, ap (λ (g : Function). g.params) is.runs ∙ declared_counted (frame_of_text p) is.head.params)

@@ -16,3 +16,4 @@ pub mod Accesses
 pub mod Bounds
 pub mod Slots
 pub mod Bodies
+pub mod Parameters

@@ -24,8 +24,9 @@ use Rattle.ckc_blame_sound.specs.Few.{nodes_in, AreFew, HasRoom}
 use Rattle.ckc_blame_sound.specs.Judged.{Judged}
 use Rattle.ckc_blame_texts.specs.Judged.{IsJudged, IsBodyJudged, globals_in}
 use Rattle.ckc_blame_texts.proofs.Bodies.{bodies_are_typed, declared_known}
-use Rattle.ckc_blame_texts.proofs.Frames.{variables_moved}
+use Rattle.ckc_blame_texts.proofs.Frames.{variables_moved, declared_counted}
 use Rattle.ckc_blame_texts.proofs.Locals.{names_declared, variables_declared}
+use Rattle.ckc_blame_texts.proofs.Parameters.{locals_come_after}
 use Rattle.ckc_blame_nested.specs.Nested.{AreNested}
 use Rattle.ckc_blame_walk.specs.Walks.{leaving}
 use Rattle.ckc_blame_walk.proofs.Twins.{Agree, SameHere, bare, Twin}
@@ -114,9 +115,18 @@ variables_counted h body =
     let ds = all_of h body in
     sym (length-map ds (λ (d : NotedDecl). variable_declared d)) ∙ sym (length_permutation (variables_declared ds) (variables_of h body) (variables_moved h body))
 
-setting_inside : (p : Typed) (j : IsJudged p) (h : NotedHead) (body : NotedStmt) (b : IsBodyJudged (globals_in p) j.typed h body) → IsInBody (setting_of p h body) b.before
+setting_inside : (p : Typed) (j : IsJudged p) (h : NotedHead) (body : NotedStmt) (b : IsBodyJudged (globals_in p) j.typed h body) → AreLocals 0 (names_declared (all_of h b.before)) → IsInBody (setting_of p h body) b.before
 unfolding setting_of
-setting_inside p j h body b = record { mode = b.mode; looped = false; typed = b.fits; known = declared_known (globals_in p) j.typed h body b; words = λ w. w j.typed h b.before j.has_bounds b.there; safe = λ w. w j.typed h b.before j.has_bounds b.there }
+setting_inside p j h body b numbers = record {
+  mode = b.mode;
+  looped = false;
+  typed = b.fits;
+  known = declared_known (globals_in p) j.typed h body b;
+  words = λ w. w j.typed h b.before j.has_bounds b.there;
+  safe = λ w. w j.typed h b.before j.has_bounds b.there;
+  late = λ d k there named. subst (λ n. n ≤ k) (declared_counted (frame_of_text p) h.params) (locals_come_after h.params (path b.before).declared d k numbers there named);
+  given = λ g. g j.typed h b.before j.has_bounds b.there;
+}
 
 setting_fresh : (p : Typed) (h : NotedHead) (body : NotedStmt) → IsNextFresh (setting_of p h body) (first_fresh h body)
 unfolding setting_of
@@ -148,7 +158,6 @@ text_goes p s f j fine is =
     let judged : body_judged (frame_of_text p) is.head b.before ≡ Ok is.body = ap (λ g. body_judged g is.head b.before) same.frame ∙ b.judged in
     let twin : Twin (path is.body) (path b.before) = body_twin (frame_of_text p) is.head b.before is.body judged in
     let firsts : first_fresh is.head is.body ≡ first_fresh is.head b.before = fresh_same (frame_of_text p) is.head is.body b.before twin in
-    let inside : IsInBody s b.before = subst (λ x. IsInBody x b.before) (sym is.judged) (setting_inside p j is.head is.body b) in
     let fresh : IsNextFresh s (first_fresh is.head b.before) =
     subst (IsNextFresh s) firsts (subst (λ x. IsNextFresh x (first_fresh is.head is.body)) (sym is.judged) (setting_fresh p is.head is.body)) in
     let room : HasRoom s (first_fresh is.head b.before) (nodes_in b.before) = body_room p s f is b.before firsts judged in
@@ -156,6 +165,7 @@ text_goes p s f j fine is =
     ap (λ (x : Setting). x.frame) is.judged ∙ frame_same (frame_of_text p) is.head is.body b.before twin in
     let numbers : AreLocals 0 (names_declared (all_of is.head b.before)) =
     subst (AreLocals 0) (names_same (all_of is.head is.body) (all_of is.head b.before) (declared_bare (frame_of_text p) is.head is.body b.before twin)) (numbered p is.head is.body j is.there) in
+    let inside : IsInBody s b.before = subst (λ x. IsInBody x b.before) (sym is.judged) (setting_inside p j is.head is.body b numbers) in
     let many : length s.variables ≡ first_fresh is.head b.before = ap (λ (x : Setting). length x.variables) is.judged ∙ sym (variables_counted is.head is.body) ∙ firsts in
     let text : s.text ≡ p = ap (λ (x : Setting). x.text) is.judged in
     let scoped : IsScoped s b.before (flat_map name_seen is.head.params) = body_scoped p j s (frame_of_text p) is.head b.before b.there text frame_is many numbers in

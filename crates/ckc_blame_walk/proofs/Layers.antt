@@ -1,12 +1,13 @@
 -- What a statement leaves visible, and what is asked of its names, by its direct parts.
-use Rattle.std.proofs.Common.{◌≡◌, refl, sym, ap, ◌∙◌, List, [], ◌∷◌, map, rules}
+use Rattle.std.proofs.Common.{◌≡◌, refl, sym, ap, subst, ◌∙◌, List, [], ◌∷◌, map, rules, arith}
 use Rattle.std.specs.Prelude.{None, Some}
+use Rattle.std.specs.List.{Contains}
 use Rattle.ckc_base.specs.declared.places.Pos.{Pos}
 use Rattle.ckc_syntax.specs.declared.tree.Name.{Name}
 use Rattle.ckc_syntax.specs.declared.tree.Act.{Act-F, map-Act, out-Act, roll-Act, fold-roll-Act, the_lemmas}
 use Rattle.ckc_syntax.specs.declared.tree.Stmt.{fold-roll-Stmt}
 use Rattle.ckc_typed.specs.declared.typed.Note.{Note}
-use Rattle.ckc_typed.specs.Trees.{NotedAct, NotedStmt}
+use Rattle.ckc_typed.specs.Trees.{NotedAct, NotedDecl, NotedStmt}
 use Rattle.ckc_typed_welltyped.specs.Noteless.{BareAct, BareStmt, act_noteless, act_bared, stmt_bared, bare_act, bare_stmt}
 use Rattle.ckc_resolve.specs.Trees.{NamedItem}
 use Rattle.ckc_typed_fit.specs.Tests.{Tests, Walked, act_walked, stmt_walked, walked_act, walked}
@@ -35,6 +36,10 @@ pub declared_are : (st : NotedStmt) (x : Layer) → out-Act Name Note st.body �
 declared_are st x is =
     ap (λ (a : NotedAct). (path (stated st.pos st.note a)).declared) (sym (act_back st.body) ∙ ap (roll-Act Name Note) is)
     ∙ declared_rolled st.pos st.note x
+
+-- a declaration declares what it says
+pub declares_itself : (st : NotedStmt) (d : NotedDecl) → out-Act Name Note st.body ≡ Act-F.Local d → Contains (path st).declared d
+declares_itself st d is = subst (λ ds. Contains ds d) (sym (declared_are st (Act-F.Local d) is)) (0, omega arith, refl)
 
 -- ---- what is visible
 

@@ -1,5 +1,5 @@
 -- What a step says of the locals that it names and declares.
-use Rattle.std.proofs.Common.{◌≡◌, refl, sym, subst, ℕ, length, arith}
+use Rattle.std.proofs.Common.{◌≡◌, refl, subst, ℕ, length, arith}
 use Rattle.std.specs.Prelude.{◌<◌, Some, IfSome, Ok}
 use Rattle.std.specs.List.{Contains}
 use Rattle.ckc_base.specs.declared.arithmetic.Mode.{Mode}
@@ -25,7 +25,7 @@ use Rattle.ckc_blame_contained.specs.Given.{IsUnnamed}
 use Rattle.ckc_blame_texts.proofs.Bares.{bare_kept}
 use Rattle.ckc_blame_texts.proofs.Frames.{locals_are_there}
 use Rattle.ckc_blame_texts.proofs.Kept.{Keeps}
-use Rattle.ckc_blame_walk.proofs.Layers.{declared_are}
+use Rattle.ckc_blame_walk.proofs.Layers.{declares_itself}
 
 -- a judged expression is the same without its notes
 judged_same : (s : Setting) (e f : NotedExpr) (fresh : ℕ) (at : State) → (view s.frame e).judged fresh at ≡ Ok f → bare_expr f ≡ bare_expr e
@@ -41,7 +41,7 @@ module _ (s : Setting) (here there : Here) (step : Code → Code) (i : IsStep s 
   pub declared_unnamed : (d : NotedDecl) (k : ℕ) → out-Act Name Note i.before.body ≡ Act-F.Local d → d.name ≡ name.Local k
       → IsUnnamed s here.seen k × (Contains here.seen k → ⊥) × (k < length s.variables)
   declared_unnamed d k is named =
-      let new : IsNewLocal s here.seen k = i.scope.new d k (subst (λ ds. Contains ds d) (sym (declared_are i.before (Act-F.Local d) is)) (0, omega arith, refl)) named in
+      let new : IsNewLocal s here.seen k = i.scope.new d k (declares_itself i.before d is) named in
       (new.unnamed, λ c. (let less = new.later k c in absurd (omega (arith, less))), new.there)
 
 module _ (s : Setting) (mode : Mode) (here one other : Here) (x : Expr) (c : IsCondition s mode here x one other) where
