@@ -6,8 +6,8 @@ mod covers_laws;
 mod laws;
 
 pub use accepted_laws::{
-    declared_types_are_fine, locals_are_spared, names_of_members_are_small, objects_begin_as_bytes,
-    runs_are_free,
+    bodies_are_given, declared_types_are_fine, locals_are_spared, names_of_members_are_small,
+    objects_begin_as_bytes, runs_are_free,
 };
 pub use covers_laws::{
     checked_conditions_are_covered, checked_parts_are_safe, declared_structures_are_laid_out,

@@ -16,4 +16,4 @@ mod DepthKept
 mod SmallKept
 pub mod ByParts
 mod Exactly
-mod FormKept
+pub mod FormKept
