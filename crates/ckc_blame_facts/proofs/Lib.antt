@@ -40,3 +40,4 @@ pub mod NamedObjects
 mod ValueTypes
 pub mod Spoken
 pub mod Variables
+pub mod Given

@@ -1,6 +1,6 @@
 //! What follows from the definitions alone, each the contract of a function that does nothing.
 
-ghost use Rattle.std.specs.Prelude.{◌≡◌, ℕ, ◌≤◌, false, List, length};
+ghost use Rattle.std.specs.Prelude.{◌≡◌, ℕ, ◌≤◌, true, false, List, length};
 ghost use Rattle.std.specs.List.{Contains};
 ghost use Rattle.ckc_syntax.specs.declared.tree.Name.TheVariants as name;
 ghost use Rattle.ckc_base.specs.Phases.{◌>=>◌};
@@ -12,6 +12,7 @@ ghost use Rattle.ckc_parser_grammar.specs.Trees.{Tree};
 ghost use Rattle.ckc_resolve.specs.Phase.{naming};
 ghost use Rattle.ckc_scopes.specs.Phase.{scoping};
 ghost use Rattle.ckc_bounds.specs.Phase.{bounding};
+ghost use Rattle.ckc_typed_welltyped.specs.Productions.{given_tree};
 ghost use Rattle.ckc_typed_welltyped.specs.Texts.{TypedAs};
 ghost use Rattle.ckc_source.specs.LaidOut.{IsLaidOut};
 ghost use Rattle.ckc_build_elaborate.specs.Elaborated.{elaborated};
@@ -20,6 +21,7 @@ ghost use Rattle.ckc_bounds_points.specs.Flow.{in_bounds};
 ghost use Rattle.ckc_bounds_statements.specs.Paths.{path};
 ghost use Rattle.ckc_typed.specs.declared.typed.Typed.{Typed};
 ghost use Rattle.ckc_blame_texts.specs.Judged.{IsJudged, globals_in};
+ghost use Rattle.ckc_blame_sound.specs.Given.{AreGiven};
 ghost use Rattle.ckc_blame_sound.specs.Settings.{Setting, IsFunction};
 ghost use Rattle.ckc_source.specs.Code.{Function};
 ghost use Rattle.ckc_blame_facts.specs.Pointees.{AreFine};
@@ -53,6 +55,12 @@ pub fn locals_are_spared()
     ensures declared { (p : Typed) (s : Setting) (f : Function) (d : NotedDecl) (k : ℕ)
         → IsJudged p → (is : IsFunction p s f) → Contains (path is.body).declared d
         → d.name ≡ name.Local k → in_bounds k s.head.bounds ≡ false }
+{}
+
+/// The grammar gives the bodies of a judged text, as they were before they were judged, if it gives
+/// the tree of its names.
+pub fn bodies_are_given()
+    ensures { (p : Typed) (j : IsJudged p) → given_tree j.named.tree ≡ true → AreGiven p }
 {}
 
 /// Each string literal of a text that the phases accept is made of bytes, so the objects of its

@@ -8,7 +8,7 @@ mod locals_laws;
 mod spoken_laws;
 
 pub use accepted_laws::{
-    declared_types_are_fine, locals_are_spared, names_of_members_are_small,
+    bodies_are_given, declared_types_are_fine, locals_are_spared, names_of_members_are_small,
     objects_begin_as_bytes, runs_are_free,
 };
 pub use covers_laws::{

@@ -27,8 +27,8 @@ abbrev pub globals_of_text : Typed → Globals
 globals_of_text p = globals_of (without_notes p.tree).items
 
 -- A statement may stand in the body of a function, before it is judged: it is well typed among the variables of the
--- function, and declares no others and no parameter; its literals are words and its expressions safe if those of the text
--- are, and the grammar gives it if it gives the bodies of the text.
+-- function, and declares no others and no parameter; its literals are words and its expressions safe if those of the
+-- text are, and the grammar gives it if it gives the bodies of the text.
 pub record IsInBody (s : Setting) (st : NotedStmt) : Type 0 where
   pub mode : Mode
   pub looped : Bool
@@ -39,8 +39,8 @@ pub record IsInBody (s : Setting) (st : NotedStmt) : Type 0 where
   pub late : (d : NotedDecl) (k : ℕ) → Contains (path st).declared d → d.name ≡ name.Local k → length s.head.params ≤ k
   pub given : AreGiven s.text → (given_stmt st).fine ≡ true
 
--- A condition may stand there, in a statement of a mode: if it is not left out it is a well typed scalar, its literals are
--- words and it is safe if those of the text are, and it has no call if the grammar gives the bodies of the text.
+-- A condition may stand there, in a statement of a mode: if it is not left out it is a well typed scalar, its literals
+-- are words and it is safe if those of the text are, and it has no call if the grammar gives the bodies of the text.
 pub record IsTestInBody (s : Setting) (mode : Mode) (e : Option NotedExpr) : Type 0 where
   pub typed : IfSome e (rows.IsCondition (globals_of_text s.text) s.variables mode)
   pub words : HaveWords s.text → IfSome e HasWords
