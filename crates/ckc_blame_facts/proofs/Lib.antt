@@ -32,3 +32,4 @@ pub mod FineNames
 pub mod TreeStrings
 pub mod Spared
 pub mod LaidOut
+pub mod CalledNames
