@@ -42,3 +42,8 @@ pub mod Made
 pub mod Allocations
 pub mod KeptSound
 pub mod Promised
+pub mod ScalarValues
+pub mod CallsMade
+pub mod CoveredTargets
+pub mod FitExprs
+pub mod CoveredRights
