@@ -57,7 +57,7 @@ use Rattle.ckc_blame_facts.proofs.Judged.{judged_covered}
 use Rattle.ckc_blame_facts.proofs.Pointees.{fine_integer}
 use Rattle.ckc_blame_given.specs.Targets.{IsCoveredTarget}
 use Rattle.ckc_blame_given.proofs.Views.{node_back}
-use Rattle.ckc_blame_steps.specs.Before.{AreSpoken, IsCoveredThere, AreCoveredThere}
+use Rattle.ckc_blame_steps.specs.Before.{AreSpoken, IsSizedNode, IsSizedPart, IsSized, IsCoveredThere, AreCoveredThere}
 use Rattle.ckc_blame_steps.specs.Granted.{HasPlaces, IsCoveredValue, IsCoveredFirst, IsCoveredCall, IsCoveredRight, IsCoveredAlone}
 use Rattle.ckc_blame_steps.proofs.CallsMade.{call_made, calloc_made}
 use Rattle.ckc_blame_steps.proofs.CoveredTargets.{IsNamedForm, target_covered}
@@ -180,9 +180,9 @@ module _ (p : Typed) (j : IsJudged p) (s : Setting) (f : Function) (function : I
   AllFit [] = Unit {0}
   AllFit (e ∷ es) = Fits e × AllFit es
 
-  all_fit : (es : List NotedExpr) → AllDown (IsTyped globals s) es → AllDown IsChecked es → AllDown (NamesSeen here.seen) es → AllDown (HaveFewValues s.frame) es → AllFit es
-  all_fit [] a b c d = tt
-  all_fit (e ∷ es) a b c d = (record { typed = a.0; checked = b.0; names = c.0; few = d.0 }, all_fit es a.1 b.1 c.1 d.1)
+  all_fit : (es : List NotedExpr) → AllDown (IsTyped globals s) es → AllDown IsChecked es → AllDown (NamesSeen here.seen) es → AllDown (HaveFewValues s.frame) es → AllDown (IsSized s) es → AllFit es
+  all_fit [] a b c d z = tt
+  all_fit (e ∷ es) a b c d z = (record { typed = a.0; checked = b.0; names = c.0; few = d.0; sized = z.0 }, all_fit es a.1 b.1 c.1 d.1 z.1)
 
   down : (P : ExprLayer → Type 0) (e : NotedExpr) (d : NotedLayer) → out-Node Name Note e.node ≡ d → EachExpr P e → Down (EachExpr P) (EachLimits P) d
   down P e d is h = subst (Down (EachExpr P) (EachLimits P)) is (each_parts P e h)
@@ -191,11 +191,18 @@ module _ (p : Typed) (j : IsJudged p) (s : Setting) (f : Function) (function : I
   arguments_fit e n es is h =
       let d = Node-F.Call n es in
       all_fit es (down (HasRow globals s) e d is h.typed) (down IsCheckedPart e d is h.checked) (down (HasAmong here.seen) e d is h.names) (down (HasFewValues s.frame) e d is h.few)
+      (down (IsSizedPart s) e d is h.sized)
 
   count_fits : (e n : NotedExpr) (w u : TypeTree) → out-Node Name Note e.node ≡ Node-F.Calloc w n u → Fits e → Fits n
   count_fits e n w u is h =
       let d = Node-F.Calloc w n u in
-      record { typed = down (HasRow globals s) e d is h.typed; checked = down IsCheckedPart e d is h.checked; names = down (HasAmong here.seen) e d is h.names; few = down (HasFewValues s.frame) e d is h.few }
+      record {
+        typed = down (HasRow globals s) e d is h.typed;
+        checked = down IsCheckedPart e d is h.checked;
+        names = down (HasAmong here.seen) e d is h.names;
+        few = down (HasFewValues s.frame) e d is h.few;
+        sized = down (IsSizedPart s) e d is h.sized;
+      }
 
   -- ---- calls
 
@@ -221,6 +228,25 @@ module _ (p : Typed) (j : IsJudged p) (s : Setting) (f : Function) (function : I
       subst (λ xs. AreCoveredThere p s store here (e ∷ es) xs fresh) (ok_same n.2)
       (one_covered t e m.0 fresh h.0 c.0 goes.0 m.1, arguments_covered ts es n.0 next h.1 c.1 goes.1 n.1)
 
+  call_row : (e : NotedExpr) (n : Name) (es : List NotedExpr) → Fits e → out-Node Name Note e.node ≡ Node-F.Call n es → IsCall globals n es e.note.ctype
+  call_row e n es h is =
+      let row : IsRow globals s (out-Node Name Note e.node) e.note = every_here-Expr Name Note AnyLimits AnyNode (HasRow globals s) e h.typed in
+      subst (λ (x : NotedLayer). HasType globals s.variables row.mode x e.note.ctype) is row.row
+
+  pub parts_covered : (e : NotedExpr) (n : Name) (es gs : List NotedExpr) (fresh : ℕ) → Fits e → out-Node Name Note e.node ≡ Node-F.Call n es → list_all callless_expr es ≡ true
+      → all_judged (map (view s.frame) es) fresh here.at ≡ Ok gs → AreCoveredThere p s store here es gs fresh
+  parts_covered e n es gs fresh h is callless judged =
+      let w = call_row e n es h is in
+      arguments_covered w.0.params es gs fresh (arguments_fit e n es is h) callless w.2 judged
+
+  -- what a right side that is a call passes has no calls
+  pub right_arguments : (e : NotedExpr) (n : Name) (es : List NotedExpr) → is_right e ≡ true → out-Node Name Note e.node ≡ Node-F.Call n es → list_all callless_expr es ≡ true
+  right_arguments e n es right is =
+      ⊎_elim (λ c. sym (ap (λ (x : NotedLayer). call_form x) is) ∙ c) (λ c. absurd (different (sym (callless_is e ∙ ap without_calls is) ∙ c))) (one_of (is_call e) (callless_expr e) right)
+    where
+      different : false ≡ true → ⊥
+      different h = cc
+
   first_covered : (t : CType) (ts : List CType) (es gs : List NotedExpr) (fresh : ℕ) → AreArguments (t ∷ ts) es → AreCoveredThere p s store here es gs fresh → IsCoveredFirst s store here.seen gs
   first_covered t ts [] gs fresh goes h = absurd goes
   first_covered t ts (e ∷ es) [] fresh goes h = absurd h
@@ -236,10 +262,9 @@ module _ (p : Typed) (j : IsJudged p) (s : Setting) (f : Function) (function : I
   pub call_covered : (e g : NotedExpr) (n : Name) (es : List NotedExpr) (fresh : ℕ) → Fits e → out-Node Name Note e.node ≡ Node-F.Call n es → list_all callless_expr es ≡ true
       → (view s.frame e).judged fresh here.at ≡ Ok g → IsCallCovered n es g fresh
   call_covered e g n es fresh h is callless judged =
-      let row : IsRow globals s (out-Node Name Note e.node) e.note = every_here-Expr Name Note AnyLimits AnyNode (HasRow globals s) e h.typed in
-      let w : IsCall globals n es e.note.ctype = subst (λ (x : NotedLayer). HasType globals s.variables row.mode x e.note.ctype) is row.row in
+      let w = call_row e n es h is in
       let m = call_made s.frame here.at fresh e g judged n es is in
-      let arguments = arguments_covered w.0.params es m.afters fresh (arguments_fit e n es is h) callless w.2 m.judged in
+      let arguments = parts_covered e n es m.afters fresh h is callless m.judged in
       record { afters = m.afters; node = m.node; arguments = arguments; call = by n w.0 (called_callable p j n w.0 w.1) w.1 w.2 m.afters arguments }
     where
       by : (n : Name) (t : Signature) → IsCallable n → signature_named globals n ≡ Some t → AreArguments t.params es → (gs : List NotedExpr) → AreCoveredThere p s store here es gs fresh → IsCoveredCall s store here.seen n gs
@@ -257,28 +282,25 @@ module _ (p : Typed) (j : IsJudged p) (s : Setting) (f : Function) (function : I
   plain_right t g (Node-F.Calloc w n u) node c = absurd node
   plain_right t g d node c = c
 
-  -- what a `calloc` makes has a size
-  abbrev pub IsSized : NotedExpr → Type 0
-  IsSized e = (n : NotedExpr) (w u : TypeTree) → out-Node Name Note e.node ≡ Node-F.Calloc w n u → 0 < size_of s.text.layout (type_written w)
-
   calloc_covered : (t : CType) (e g n : NotedExpr) (w u : TypeTree) (fresh : ℕ) → Fits e → out-Node Name Note e.node ≡ Node-F.Calloc w n u → callless_expr n ≡ true → converts t e ≡ true → IsFine t
-      → IsSized e → (view s.frame e).judged fresh here.at ≡ Ok g → IsCoveredRight s store here.seen t g (out-Node Name Note g.node)
-  calloc_covered t e g n w u fresh h is callless goes fine sized judged =
+      → (view s.frame e).judged fresh here.at ≡ Ok g → IsCoveredRight s store here.seen t g (out-Node Name Note g.node)
+  calloc_covered t e g n w u fresh h is callless goes fine judged =
       let row : IsRow globals s (out-Node Name Note e.node) e.note = every_here-Expr Name Note AnyLimits AnyNode (HasRow globals s) e h.typed in
       let a : IsAllocation (type_written w) n (type_written u) e.note.ctype = subst (λ (x : NotedLayer). HasType globals s.variables row.mode x e.note.ctype) is row.row in
       let other : is_integer e.note.ctype ≡ false = ap is_integer a.pointer ∙ ap is_integer_form (pointer_out kind.Arr (type_written w)) in
       let element : element_of t ≡ type_written w = calloc_element t e n w u is other goes ∙ ap element_of a.pointer ∙ ap element_in (pointer_out kind.Arr (type_written w)) in
+      let sized : 0 < size_of s.text.layout (type_written w) = subst (IsSizedNode s) is (every_here-Expr Name Note AnyLimits AnyNode (IsSizedPart s) e h.sized) in
       let m = calloc_made s.frame here.at fresh e g judged w u n is in
       let places : HasPlaces s t = record {
-        sized = subst (λ (x : CType). 0 < size_of s.text.layout x) (sym element) (sized n w u is);
+        sized = subst (λ (x : CType). 0 < size_of s.text.layout x) (sym element) sized;
         terminated = λ k. fine_integer t fine (terminated_kind (kind_of t) k);
       } in
       subst (IsCoveredRight s store here.seen t g) (sym m.node)
       (places, value_covered n m.count fresh (count_fits e n w u is h) callless (integer_scalar n.note.ctype a.counted) m.judged)
 
-  pub right_covered : (t : CType) (e g : NotedExpr) (fresh : ℕ) → Fits e → is_right e ≡ true → converts t e ≡ true → IsFine t → IsSized e → (view s.frame e).judged fresh here.at ≡ Ok g
+  pub right_covered : (t : CType) (e g : NotedExpr) (fresh : ℕ) → Fits e → is_right e ≡ true → converts t e ≡ true → IsFine t → (view s.frame e).judged fresh here.at ≡ Ok g
       → IsCoveredRight s store here.seen t g (out-Node Name Note g.node)
-  right_covered t e g fresh h right goes fine sized judged = ⊎_elim (λ c. by (out-Node Name Note e.node) refl c) plain (one_of (is_call e) (callless_expr e) right)
+  right_covered t e g fresh h right goes fine judged = ⊎_elim (λ c. by (out-Node Name Note e.node) refl c) plain (one_of (is_call e) (callless_expr e) right)
     where
       plain : callless_expr e ≡ true → IsCoveredRight s store here.seen t g (out-Node Name Note g.node)
       plain callless =
@@ -289,7 +311,7 @@ module _ (p : Typed) (j : IsJudged p) (s : Setting) (f : Function) (function : I
       by (Node-F.Call n es) is callless =
           let c = call_covered e g n es fresh h is callless judged in
           subst (IsCoveredRight s store here.seen t g) (sym c.node) c.call
-      by (Node-F.Calloc w n u) is callless = calloc_covered t e g n w u fresh h is callless goes fine sized judged
+      by (Node-F.Calloc w n u) is callless = calloc_covered t e g n w u fresh h is callless goes fine judged
       by d is callless = absurd cc
 
   -- a call that is a statement

@@ -3,6 +3,7 @@ use Rattle.std.proofs.Common.{◌≡◌, ◌∙◌, ⊎_elim, sym, ap, subst, re
 use Rattle.std.specs.Prelude.{◌&&◌, nat_le, length, Option, Some, None, IfSome}
 use Rattle.std.specs.List.{AllByRecursion, Contains, list_all}
 use Rattle.std.proofs.lemmas.Bool.{and_parts}
+use Rattle.std.proofs.lemmas.List.{length-map}
 use Rattle.std.proofs.lemmas.List.Elements.{Contains-append_left, Contains-append_right}
 use Rattle.ckc_syntax.specs.Inside.{listed, inside_each, inside_init}
 use Rattle.ckc_syntax.specs.declared.tree.Name.{Name}
@@ -27,14 +28,16 @@ use Rattle.ckc_blame_facts.specs.Checked.{IsChecked, IsCheckedInit, AreCheckedSi
 use Rattle.ckc_blame_facts.specs.Rooms.{HavePlaces}
 use Rattle.ckc_blame_facts.specs.Values.{HaveFewValues}
 use Rattle.ckc_blame_facts.proofs.Callees.{none_in, split_in}
+use Rattle.ckc_blame_steps.specs.Before.{IsSized}
 
 module _ (globals : Globals) (s : Setting) (seen : List ℕ) where
-  -- An expression is typed, safe and small, and names locals in scope.
+  -- An expression is typed, safe and small, names locals in scope, and what it allocates has a size.
   pub record IsFit (e : NotedExpr) : Type 0 where
     pub typed : IsTyped globals s e
     pub checked : IsChecked e
     pub names : NamesSeen seen e
     pub few : HaveFewValues s.frame e
+    pub sized : IsSized s e
 
   abbrev pub IsFitInit : NotedInit → Type 0
   IsFitInit init.Nothing = Unit {0}
@@ -55,13 +58,13 @@ module _ (globals : Globals) (s : Setting) (seen : List ℕ) where
   IsFitAct a = AreFitSides a
 
   abbrev IsSmall : NotedExpr → Type 0
-  IsSmall e = NamesSeen seen e × HaveFewValues s.frame e
+  IsSmall e = NamesSeen seen e × HaveFewValues s.frame e × IsSized s e
 
   abbrev AreSmall : List NotedExpr → Type 0
   AreSmall es = (e : NotedExpr) → Contains es e → IsSmall e
 
   fit : (e : NotedExpr) → IsTyped globals s e → IsChecked e → IsSmall e → IsFit e
-  fit e typed checked small = record { typed = typed; checked = checked; names = small.0; few = small.1 }
+  fit e typed checked small = record { typed = typed; checked = checked; names = small.0; few = small.1; sized = small.2 }
 
   fit_init : (i : NotedInit) → IsTypedInit globals s i → IsCheckedInit i → AreSmall (inside_init listed (λ e. e ∷ []) i) → IsFitInit i
   fit_init init.Nothing typed checked small = tt
@@ -121,7 +124,8 @@ IsGivenAct (Act-F.Local d) = IsGivenInit d.init
 IsGivenAct (Act-F.Call e) = is_call e ≡ true
 IsGivenAct (Act-F.Return e) = IfSome e (λ (x : NotedExpr). callless_expr x ≡ true)
 IsGivenAct (Act-F.Check e) = callless_expr e ≡ true
-IsGivenAct (Act-F.Bundle ss) = AllByRecursion (λ (st : NotedStmt). AreGivenSides (out-Act Name Note st.body)) ss
+IsGivenAct (Act-F.Bundle ss) =
+    (nat_le 2 (length ss) ≡ true) × AllByRecursion (λ (st : NotedStmt). AreGivenSides (out-Act Name Note st.body)) ss
 IsGivenAct a = AreGivenSides a
 
 act_back : (a : NotedAct) → roll-Act Name Note (out-Act Name Note a) ≡ a
@@ -155,6 +159,9 @@ parts_given (st ∷ ss) h =
     let one = and_parts (given_stmt st).fine (given_stmt st).assigns both.0 in
     (sides_given (out-Act Name Note st.body) (ap (λ (g : Given). g.fine) (sym (given_are st)) ∙ one.0), parts_given ss both.1)
 
+two_given : (ss : List NotedStmt) → nat_le 2 (length (map given_stmt ss)) ≡ true → nat_le 2 (length ss) ≡ true
+two_given ss h = ap (λ n. nat_le 2 n) (sym (length-map ss (λ (st : NotedStmt). given_stmt st))) ∙ h
+
 act_given : (x : ActLayer) → (given_act (given_inside x)).fine ≡ true → IsGivenAct x
 act_given (Act-F.Local d) h = init_given d.init (and_parts (callless_bounds d.bounds) (right_init d.init) h).1
 act_given (Act-F.Call e) h = h
@@ -162,7 +169,8 @@ act_given (Act-F.Return None) h = tt
 act_given (Act-F.Return (Some e)) h = h
 act_given (Act-F.Check e) h = h
 act_given (Act-F.Bundle ss) h =
-    parts_given ss (and_parts (nat_le 2 (length (map given_stmt ss))) (list_all (λ (g : Given). g.fine && g.assigns) (map given_stmt ss)) h).1
+    let both = and_parts (nat_le 2 (length (map given_stmt ss))) (list_all (λ (g : Given). g.fine && g.assigns) (map given_stmt ss)) h in
+    (two_given ss both.0, parts_given ss both.1)
 act_given (Act-F.Assign e f) h = sides_given (Act-F.Assign e f) h
 act_given x h = tt
 

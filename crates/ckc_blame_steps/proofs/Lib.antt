@@ -47,3 +47,6 @@ pub mod CallsMade
 pub mod CoveredTargets
 pub mod FitExprs
 pub mod CoveredRights
+pub mod CoveredParts
+pub mod CoveredActs
+pub mod CoveredCalls

@@ -4,12 +4,14 @@ use Rattle.std.specs.Prelude.{◌≡◌, ℕ, ◌<◌, true, false, List, [], �
 use Rattle.std.specs.List.{Contains}
 use Rattle.ckc_syntax.specs.declared.tree.Name.{Name}
 use Rattle.ckc_syntax.specs.declared.tree.Node.{Node-F, out-Node}
+use Rattle.ckc_syntax.specs.declared.tree.Expr.{Expr-F, every-Expr}
 use Rattle.ckc_typed.specs.declared.typed.Note.{Note}
 use Rattle.ckc_typed.specs.declared.typed.Typed.{Typed}
 use Rattle.ckc_typed.specs.Constants.{size_of}
 use Rattle.ckc_typed.specs.Conversions.{is_allocation}
-use Rattle.ckc_typed.specs.Trees.{NotedExpr, NotedStmt, TypeTree}
+use Rattle.ckc_typed.specs.Trees.{NotedLimits, NotedNode, NotedExpr, NotedLayer, NotedStmt}
 use Rattle.ckc_typed.specs.Types.{type_written}
+use Rattle.ckc_typed_welltyped.specs.Expressions.{AnyLimits, AnyNode}
 use Rattle.ckc_typed_welltyped.specs.Productions.{callless_expr, given_stmt}
 use Rattle.ckc_bounds_views.specs.Parts.{fresh_behind}
 use Rattle.ckc_bounds_views.specs.Views.{view}
@@ -31,11 +33,22 @@ AreSpoken p s here =
     (before after : NotedExpr) (fresh : ℕ) → IsTyped (globals_in p) s before → IsChecked before
     → callless_expr before ≡ true → (view s.frame before).judged fresh here.at ≡ Ok after → IsSpoken s after
 
--- The elements that each `calloc` of a statement makes have a size, where it is a whole right side.
-abbrev pub AllocateSizes : Setting → NotedStmt → Type 0
-AllocateSizes s st =
-    (e n : NotedExpr) (w u : TypeTree) → Contains (exprs_in st) e
-    → out-Node Name Note e.node ≡ Node-F.Calloc w n u → 0 < size_of s.text.layout (type_written w)
+-- The elements that a `calloc` makes have a size.
+abbrev pub IsSizedNode : Setting → NotedLayer → Type 0
+IsSizedNode s (Node-F.Calloc w n u) = 0 < size_of s.text.layout (type_written w)
+IsSizedNode s n = Unit {0}
+
+-- the same of the node of an expression
+abbrev pub IsSizedPart : Setting → Expr-F Name Note NotedLimits NotedNode NotedExpr → Type 0
+IsSizedPart s e = IsSizedNode s (out-Node Name Note e.node)
+
+-- this of each `calloc` in an expression, however deep
+abbrev pub IsSized : Setting → NotedExpr → Type 0
+IsSized s = every-Expr Name Note AnyLimits AnyNode (IsSizedPart s)
+
+-- this of the expressions in a statement, and in each statement in it
+abbrev pub HasOnlySized : Setting → NotedStmt → Type 0
+HasOnlySized s st = (e : NotedExpr) → Contains (exprs_in st) e → IsSized s e
 
 -- What is asked of a statement at a point: what is told of the names there, and what is said of expressions without
 -- calls; the grammar gives the statement, and what it allocates has a size.
@@ -43,7 +56,7 @@ pub record Premises (p : Typed) (s : Setting) (store : Store) (here : Here) (st 
   pub told : IsTold (globals_in p) s store here.seen
   pub spoken : AreSpoken p s here
   pub given : (given_stmt st).fine ≡ true
-  pub sized : AllocateSizes s st
+  pub sized : HasOnlySized s st
 
 -- ---- after
 
