@@ -11,16 +11,16 @@ pub mod StaticTargets
 pub mod Pointees
 pub mod Few
 pub mod Rooms
-mod Down
+pub mod Down
 mod Spots
 mod Fine
 mod Scoped
-mod Modes
-mod Checked
+pub mod Modes
+pub mod Checked
 mod Ranges
 mod FewValues
 mod Cover
-mod Judged
+pub mod Judged
 mod Layouts
 mod Members
 mod CoveredStatics
@@ -41,3 +41,4 @@ mod ValueTypes
 pub mod Spoken
 pub mod Variables
 pub mod Given
+pub mod CalledNames

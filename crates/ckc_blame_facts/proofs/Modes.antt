@@ -3,6 +3,7 @@ use Rattle.std.proofs.Common.{◌≡◌, ◌∙◌, sym, ap, refl, ℕ, ◌+◌,
 use Rattle.std.specs.Prelude.{true, not, Ok}
 use Rattle.ckc_base.specs.declared.places.Pos.{Pos}
 use Rattle.ckc_base.specs.declared.arithmetic.Mode.{Mode}
+use Rattle.ckc_base.specs.declared.arithmetic.Mode.TheVariants.{Unchecked}
 use Rattle.ckc_base.specs.Outcomes.{bind}
 use Rattle.ckc_syntax.specs.declared.tree.Name.{Name}
 use Rattle.ckc_syntax.specs.declared.tree.Name.TheVariants as name
@@ -20,7 +21,8 @@ use Rattle.ckc_bounds_points.specs.declared.frame.Frame.{Frame}
 use Rattle.ckc_bounds_points.specs.Codes.{bad_bundle, not_contained}
 use Rattle.ckc_bounds_statements.specs.Paths.{Here, path, value_judged, maybe_judged, side_of, is_returned, gone, parts_judged, is_good, bundle_judged, sides_judged, behind_stores, decl_judged, stated, act_judged}
 use Rattle.ckc_source.specs.declared.stmt.Spot.{Spot}
-use Rattle.ckc_source.specs.Code.{Code, End}
+use Rattle.ckc_source.specs.Code.{Code, End, Assign, Bundle, Get, Put, Call, If, Loop, Return, Check}
+use Rattle.ckc_source.specs.Steps.{spot_in}
 use Rattle.ckc_build_values.specs.Expressions.{literals_of}
 use Rattle.ckc_build_elaborate.specs.Steps.{Destination, spot, nowhere, destination_of, called, assigned, assigned_form, started, declared}
 use Rattle.ckc_build_elaborate.specs.Statements.{act_code}
@@ -82,8 +84,8 @@ module _ (frame : Frame) (head : HeadBounds) (at : Pos) (note : Note) where
 
 -- ---- the code of a simple statement
 
-module _ (p : Typed) (locals : List Variable) (s : Spot) (to : Destination) (k : ℕ) where
-  called_mode : (n : Name) (es : List NotedExpr) (at : Pos) → mode_of (called p locals s to k n es at End) ≡ s.mode
+module _ (end : Spot) (p : Typed) (locals : List Variable) (s : Spot) (to : Destination) (k : ℕ) where
+  called_mode : (n : Name) (es : List NotedExpr) (at : Pos) → (spot_in end (called p locals s to k n es at End)).mode ≡ s.mode
   called_mode (name.Function f) es at = refl
   called_mode name.Getchar es at = refl
   called_mode name.Putchar es at = refl
@@ -92,7 +94,7 @@ module _ (p : Typed) (locals : List Variable) (s : Spot) (to : Destination) (k :
   called_mode (name.Tag x) es at = refl
   called_mode (name.Member x) es at = refl
 
-  form_mode : (e : NotedExpr) (node : NotedLayer) → mode_of (assigned_form p locals s to k e node End) ≡ s.mode
+  form_mode : (e : NotedExpr) (node : NotedLayer) → (spot_in end (assigned_form p locals s to k e node End)).mode ≡ s.mode
   form_mode e (Node-F.Call n es) = called_mode n es e.pos
   form_mode e (Node-F.Number n u) = refl
   form_mode e (Node-F.Text bytes) = refl
@@ -110,32 +112,44 @@ module _ (p : Typed) (locals : List Variable) (s : Spot) (to : Destination) (k :
   form_mode e (Node-F.Tested t a l) = refl
   form_mode e (Node-F.Calloc t n u) = refl
 
-  assigned_mode : (e : NotedExpr) → mode_of (assigned p locals s to k e End) ≡ s.mode
+  assigned_mode : (e : NotedExpr) → (spot_in end (assigned p locals s to k e End)).mode ≡ s.mode
   assigned_mode e = form_mode e (out-Node Name Note e.node)
 
-  started_mode : (i : NotedInit) → mode_of (started p locals s to k i End) ≡ s.mode
+  started_mode : (i : NotedInit) → (spot_in end (started p locals s to k i End)).mode ≡ s.mode
   started_mode init.Nothing = refl
   started_mode (init.One e) = assigned_mode e
   started_mode (init.Many es) = refl
 
-declared_mode : (p : Typed) (locals : List Variable) (s : Spot) (k : ℕ) (d : NotedDecl) → mode_of (declared p locals s k d End) ≡ s.mode
-declared_mode p locals s k d = started_mode p locals s _ _ d.init
+declared_mode : (end : Spot) (p : Typed) (locals : List Variable) (s : Spot) (k : ℕ) (d : NotedDecl) → (spot_in end (declared p locals s k d End)).mode ≡ s.mode
+declared_mode end p locals s k d = started_mode end p locals s _ _ d.init
 
-code_mode : (s : Setting) (y : ActLayer) (at : Pos) (mode : Mode) (k : ℕ) (f : Code → Code) → is_simple y ≡ true
-    → act_code (parted y) at mode s.text s.variables s.result k ≡ f ∷ [] → mode_of (f End) ≡ mode
-code_mode s (Act-F.Local d) at mode k f simple code =
-    sym (ap mode_of (first_step (declared s.text s.variables (spot at mode) k d) f code)) ∙ declared_mode s.text s.variables (spot at mode) k d
-code_mode s (Act-F.Assign a b) at mode k f simple code =
-    sym (ap mode_of (first_step (assigned s.text s.variables (spot at mode) (destination_of s.text s.variables k a) (k + literals_of a) b) f code))
-    ∙ assigned_mode s.text s.variables (spot at mode) (destination_of s.text s.variables k a) (k + literals_of a) b
-code_mode s (Act-F.Call e) at mode k f simple code =
-    sym (ap mode_of (first_step (assigned s.text s.variables (spot e.pos mode) nowhere k e) f code)) ∙ assigned_mode s.text s.variables (spot e.pos mode) nowhere k e
-code_mode s (Act-F.Return e) at mode k f simple code = sym (ap mode_of (first_step _ f code))
-code_mode s (Act-F.Check e) at mode k f simple code = sym (ap mode_of (first_step _ f code))
-code_mode s (Act-F.Bundle ss) at mode k f simple code = sym (ap mode_of (first_step _ f code))
-code_mode s d at mode k f simple code = absurd (cc)
+code_mode : (end : Spot) (s : Setting) (y : ActLayer) (at : Pos) (mode : Mode) (k : ℕ) (f : Code → Code) → is_simple y ≡ true
+    → act_code (parted y) at mode s.text s.variables s.result k ≡ f ∷ [] → (spot_in end (f End)).mode ≡ mode
+code_mode end s (Act-F.Local d) at mode k f simple code =
+    sym (ap (λ (c : Code). (spot_in end c).mode) (first_step (declared s.text s.variables (spot at mode) k d) f code)) ∙ declared_mode end s.text s.variables (spot at mode) k d
+code_mode end s (Act-F.Assign a b) at mode k f simple code =
+    sym (ap (λ (c : Code). (spot_in end c).mode) (first_step (assigned s.text s.variables (spot at mode) (destination_of s.text s.variables k a) (k + literals_of a) b) f code))
+    ∙ assigned_mode end s.text s.variables (spot at mode) (destination_of s.text s.variables k a) (k + literals_of a) b
+code_mode end s (Act-F.Call e) at mode k f simple code =
+    sym (ap (λ (c : Code). (spot_in end c).mode) (first_step (assigned s.text s.variables (spot e.pos mode) nowhere k e) f code)) ∙ assigned_mode end s.text s.variables (spot e.pos mode) nowhere k e
+code_mode end s (Act-F.Return e) at mode k f simple code = sym (ap (λ (c : Code). (spot_in end c).mode) (first_step _ f code))
+code_mode end s (Act-F.Check e) at mode k f simple code = sym (ap (λ (c : Code). (spot_in end c).mode) (first_step _ f code))
+code_mode end s (Act-F.Bundle ss) at mode k f simple code = sym (ap (λ (c : Code). (spot_in end c).mode) (first_step _ f code))
+code_mode end s d at mode k f simple code = absurd (cc)
 
 -- ---- together
+
+mode_is : (at : Pos) (code : Code) → mode_of code ≡ (spot_in (record { at = at; mode = Unchecked }) code).mode
+mode_is at (Assign spot target right rest) = refl
+mode_is at (Bundle spot assigns rest) = refl
+mode_is at (Get spot target rest) = refl
+mode_is at (Put spot target e rest) = refl
+mode_is at (Call spot target callee es rest) = refl
+mode_is at (If spot e one two rest) = refl
+mode_is at (Loop spot e body step rest) = refl
+mode_is at (Return spot e rest) = refl
+mode_is at (Check spot e rest) = refl
+mode_is at code = refl
 
 module _ (s : Setting) (here there : Here) (step : Code → Code) (is : IsStep s here step there) where
   after_stated : IsStated is.before.pos is.before.note is.after
@@ -143,12 +157,16 @@ module _ (s : Setting) (here there : Here) (step : Code → Code) (is : IsStep s
       (simple_stated s.frame s.head is.before.pos is.before.note (out-Act Name Note is.before.body) here is.simple).made (is.after, is.behind)
       (sym (judged_is is.before s.frame s.head here) ∙ is.judged)
 
-  pub step_mode : mode_of (step End) ≡ is.before.note.mode
-  step_mode =
+  -- the spot of the step, whatever the end of the function is
+  pub step_spot : (end : Spot) → (spot_in end (step End)).mode ≡ is.before.note.mode
+  step_spot end =
       let a = after_stated in
-      code_mode s (out-Act Name Note is.after.body) is.after.pos is.after.note.mode is.literals step
+      code_mode end s (out-Act Name Note is.after.body) is.after.pos is.after.note.mode is.literals step
       (ap (λ (st : NotedStmt). is_simple (out-Act Name Note st.body)) (sym a.made) ∙ a.simple) (sym (code_is s is.literals is.after) ∙ is.becomes)
       ∙ sym (ap (λ (st : NotedStmt). st.note.mode) a.made)
+
+  pub step_mode : mode_of (step End) ≡ is.before.note.mode
+  step_mode = mode_is is.before.pos (step End) ∙ step_spot (record { at = is.before.pos; mode = Unchecked })
 
   -- and that is the mode in which the statement is typed
   pub inside_mode : is.inside.mode ≡ is.before.note.mode

@@ -41,11 +41,11 @@ use Rattle.ckc_blame_given.proofs.Pointers.{viewed_type}
 
 -- ---- options
 
-option_by : {T : Type 0} (P : Option T → Type 0) → P None → ((t : T) → P (Some t)) → (o : Option T) → P o
+pub option_by : {T : Type 0} (P : Option T → Type 0) → P None → ((t : T) → P (Some t)) → (o : Option T) → P o
 option_by P none some None = none
 option_by P none some (Some t) = some t
 
-bool_by : (P : Bool → Type 0) → P true → P false → (b : Bool) → P b
+pub bool_by : (P : Bool → Type 0) → P true → P false → (b : Bool) → P b
 bool_by P a b true = a
 bool_by P a b false = b
 

@@ -68,7 +68,7 @@ pub record IsCall (frame : Frame) (at : State) (fresh : ℕ) (x : NotedExpr) (k 
   pub fault : head_fault (slice_get frame.heads k) (map (view frame) args) fresh at ≡ None
   pub judged : all_judged (map (view frame) args) fresh at ≡ Ok afters
 
-no_refusal : {A : Type 0} (r : Option Refusal) (o : A) (a : A) → by_fault r (Ok o) ≡ Ok a → (r ≡ None) × (o ≡ a)
+pub no_refusal : {A : Type 0} (r : Option Refusal) (o : A) (a : A) → by_fault r (Ok o) ≡ Ok a → (r ≡ None) × (o ≡ a)
 no_refusal None o a e = (refl, cc)
 no_refusal (Some r) o a e = absurd cc
 

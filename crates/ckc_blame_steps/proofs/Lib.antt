@@ -43,3 +43,11 @@ pub mod Allocations
 pub mod KeptSound
 pub mod Promised
 pub mod Rooms
+pub mod ScalarValues
+pub mod CallsMade
+pub mod CoveredTargets
+pub mod FitExprs
+pub mod CoveredRights
+pub mod CoveredParts
+pub mod CoveredActs
+pub mod CoveredCalls

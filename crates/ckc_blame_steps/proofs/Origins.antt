@@ -57,7 +57,7 @@ module _ (s : Setting) (here there : Here) (step : Code → Code) (i : IsStep s 
     Bundles : (ss : List NotedStmt) → out-Act Name Note i.before.body ≡ Act-F.Bundle ss → is_bundled (step End) ≡ true → Kind
     Others : is_ending (step End) ≡ true → Kind
 
-  as_call : (x : NotedExpr) → out-Act Name Note i.before.body ≡ Act-F.Call x → IsCallAlone
+  pub as_call : (x : NotedExpr) → out-Act Name Note i.before.body ≡ Act-F.Call x → IsCallAlone
   as_call x is =
       let m = made_of (value_judged s.frame x here) (λ p. Ok (stated i.before.pos i.before.note (act.Call p.0), p.1)) (i.after, i.behind) (judged_as (Act-F.Call x) is) in
       let last = pair_same (stated i.before.pos i.before.note (act.Call m.0.0)) i.after m.0.1 i.behind m.2 in

@@ -8,3 +8,4 @@ pub mod Spared
 pub mod Givable
 pub mod Known
 pub mod Rooms
+pub mod Before

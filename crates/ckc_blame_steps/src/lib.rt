@@ -4,6 +4,7 @@
 
 mod allocated_laws;
 mod calls_laws;
+mod covered_laws;
 mod decided_laws;
 mod laws;
 mod results_laws;
@@ -12,6 +13,7 @@ mod whole_laws;
 
 pub use allocated_laws::allocations_draw;
 pub use calls_laws::{calls_keep_sound, ends_keep_sound, results_are_known, returns_keep_sound};
+pub use covered_laws::checked_steps_are_covered;
 pub use decided_laws::conditions_are_decided;
 pub use laws::{assignments_keep_sound, bytes_keep_sound};
 pub use results_laws::{

@@ -1,0 +1,200 @@
+-- The targets of checked assignments are those of which it is said where they lie.
+use Rattle.std.proofs.Common.{◌≡◌, ◌∙◌, ⊎_elim, sym, ap, subst, refl, inl, inr, ℕ, Bool, true, false, List, rules}
+use Rattle.std.specs.Prelude.{◌⊎◌, ◌&&◌, ◌||◌, not, if◌then◌else◌, Option, Some, None, is_some}
+use Rattle.std.proofs.lemmas.Bool.{and_parts}
+use Rattle.ckc_base.specs.declared.arithmetic.Mode.{Mode}
+use Rattle.ckc_types.specs.declared.types.Kind.{Kind}
+use Rattle.ckc_types.specs.declared.types.Kind.TheVariants as kind
+use Rattle.ckc_types.specs.declared.types.CType.{CType, CType-F, out-CType, the_lemmas}
+use Rattle.ckc_types.specs.declared.types.CType.TheVariants as ctype
+use Rattle.ckc_syntax.specs.declared.tree.Name.{Name}
+use Rattle.ckc_syntax.specs.declared.tree.Name.TheVariants as name
+use Rattle.ckc_syntax.specs.declared.tree.TreeOp.TheVariants as op
+use Rattle.ckc_syntax.specs.declared.tree.Node.{Node-F, out-Node}
+use Rattle.ckc_syntax.specs.declared.tree.Expr.{every_here-Expr}
+use Rattle.ckc_typed.specs.declared.environment.Globals.{Globals}
+use Rattle.ckc_typed.specs.declared.environment.Variable.{Variable}
+use Rattle.ckc_typed.specs.declared.typed.Note.{Note}
+use Rattle.ckc_typed.specs.declared.typed.Typed.{Typed}
+use Rattle.ckc_typed.specs.Environment.{object_named, type_of_name, used, variable_named}
+use Rattle.ckc_typed.specs.Expressions.{is_no_array, is_object_form, is_placed_form}
+use Rattle.ckc_typed.specs.Operands.{arrow_type, dot_type, index_type, is_moved, target_type}
+use Rattle.ckc_typed.specs.Statements.{is_variable_form}
+use Rattle.ckc_typed.specs.Trees.{NotedExpr, NotedLayer}
+use Rattle.ckc_typed.specs.Types.{is_integer, is_pointer, is_pointer_form, is_scalar, element_of, kind_in, kind_of}
+use Rattle.ckc_typed_welltyped.specs.Expressions.{AnyLimits, AnyNode, HasType}
+use Rattle.ckc_bounds_views.specs.Judged.{is_counted_kind}
+use Rattle.ckc_source.specs.Code.{Function}
+use Rattle.ckc_source.specs.Eval.{Store}
+use Rattle.ckc_blame_sound.specs.Settings.{Setting, IsFunction}
+use Rattle.ckc_blame_numbers.specs.Typed.{IsRow, HasRow, IsTyped}
+use Rattle.ckc_blame_pointers.specs.Covered as covers
+use Rattle.ckc_blame_pointers.specs.Covered.{IsElement, IsStructureElement, IsPointerTarget, IsArrow, IsPointerArrow, IsStructureNode, IsCoveredUnary, IsCoveredNode, IsCoveredExpr, AreCovered, IsCovered}
+use Rattle.ckc_blame_texts.specs.Judged.{IsJudged, globals_in}
+use Rattle.ckc_blame_texts.proofs.Every.{EachLimits}
+use Rattle.ckc_blame_facts.specs.Statics.{IsStatic}
+use Rattle.ckc_blame_facts.specs.Told.{IsTold}
+use Rattle.ckc_blame_facts.proofs.Down.{Down, each_parts}
+use Rattle.ckc_blame_facts.proofs.StaticTargets.{statics_counts}
+use Rattle.ckc_blame_facts.proofs.Told.{none_named, statics_told}
+use Rattle.ckc_blame_given.specs.Targets.{IsStaticObject, IsStaticTarget, IsThrough, IsMemberNamed, IsCoveredPlace, IsCoveredTarget}
+use Rattle.ckc_blame_steps.proofs.Objects.{single, as_object}
+use Rattle.ckc_blame_steps.proofs.ScalarValues.{integer_scalar, pointer_scalar}
+use Rattle.ckc_blame_steps.proofs.Stores.{text_is}
+
+-- ---- types
+
+counted_form : (x : CType-F CType) → is_counted_kind (kind_in x) ≡ true → is_pointer_form x ≡ true
+counted_form (CType-F.Pointer k t) h = refl
+counted_form x h = absurd cc
+
+one_form : (x : CType-F CType) → kind_in x ≡ Some kind.One → is_pointer_form x ≡ true
+one_form (CType-F.Pointer k t) h = refl
+one_form x h = absurd cc
+
+pointer_out : (k : Kind) (t : CType) → out-CType (ctype.Pointer k t) ≡ CType-F.Pointer k t
+pointer_out k t = search (rules, the_lemmas)
+
+-- if something is there, the condition held
+held : {A : Type 0} (b : Bool) (a r : A) → ◌≡◌ {A = Option A} (if b then Some a else None) (Some r) → b ≡ true
+held true a r h = refl
+held false a r h = absurd cc
+
+-- a named target is a variable, or an object of file scope that is no array
+abbrev pub IsNamedForm : {A L M E : Type 0} → Globals → List Variable → Node-F Name A L M E → Type 0
+IsNamedForm globals variables n =
+    ((is_variable_form variables n || is_object_form globals n) ≡ true) ⊎ (is_placed_form n ≡ true)
+
+module _ (p : Typed) (j : IsJudged p) (s : Setting) (f : Function) (function : IsFunction p s f) (store : Store) (seen : List ℕ) (told : IsTold (globals_in p) s store seen) where
+  abbrev globals : Globals
+  globals = globals_in p
+
+  abbrev IsNamed : NotedLayer → Type 0
+  IsNamed n = IsNamedForm globals s.variables n
+
+  -- ---- checked pointers
+
+  through : (e : NotedExpr) → covers.IsThrough s e.note.ctype → IsThrough s e
+  through e (inl array) = record { through = inl (ap is_counted_kind array) }
+  through e (inr one) = record { through = inr one }
+
+  deref_through : (e : NotedExpr) → IsCoveredUnary s store op.Deref e → IsThrough s e
+  deref_through e (inl x) = record { through = inl x.counted }
+  deref_through e (inr (inl x)) = record { through = inr (x.single, x.declared) }
+  deref_through e (inr (inr (inl x))) = through e x.through
+  deref_through e (inr (inr (inr x))) = through e x.through
+
+  arrow_through : (e : NotedExpr) (n : Name) (t : CType) → IsArrow s e n t ⊎ IsPointerArrow s store e n t → IsThrough s e
+  arrow_through e n t (inl x) = record { through = x.through }
+  arrow_through e n t (inr x) = through e x.through
+
+  index_counted : (e : NotedExpr) → IsElement e ⊎ (IsStructureElement e ⊎ (IsPointerTarget s store e × (kind_of e.note.ctype ≡ Some kind.Arr))) → is_counted_kind (kind_of e.note.ctype) ≡ true
+  index_counted e (inl x) = x.counted
+  index_counted e (inr (inl x)) = ap is_counted_kind x.array
+  index_counted e (inr (inr x)) = ap is_counted_kind x.1
+
+  through_scalar : (e : NotedExpr) → IsThrough s e → is_scalar e.note.ctype ≡ true
+  through_scalar e h = pointer_scalar e.note.ctype (⊎_elim (λ c. counted_form (out-CType e.note.ctype) c) (λ o. one_form (out-CType e.note.ctype) o.0) h.through)
+
+  counted_scalar : (e : NotedExpr) → is_counted_kind (kind_of e.note.ctype) ≡ true → is_scalar e.note.ctype ≡ true
+  counted_scalar e c = pointer_scalar e.note.ctype (counted_form (out-CType e.note.ctype) c)
+
+  index_scalar : (e f : NotedExpr) (t : CType) → index_type e.note.ctype f.note.ctype ≡ Some t → is_scalar f.note.ctype ≡ true
+  index_scalar e f t row =
+      integer_scalar f.note.ctype (and_parts (is_moved e.note.ctype) (is_integer f.note.ctype) (held (is_moved e.note.ctype && is_integer f.note.ctype) (element_of e.note.ctype) t row)).1
+
+  member_named : (u t : CType) (n : Name) → dot_type globals.structs u n ≡ Some t → IsMemberNamed s u t n
+  member_named u t n row =
+      let here : dot_type s.text.layout u n ≡ Some t = subst (λ x. dot_type x u n ≡ Some t) told.structs row in
+      ⊎_elim
+      (λ m. record { number = m.number; named = m.named; there = here })
+      (λ m. record { number = m.number; named = m.named; there = here })
+      (told.members u t n here)
+
+  -- ---- static objects
+
+  static_of : (t : CType) (k : ℕ) → type_of_name globals s.variables (name.Static k) ≡ Some t → IsStatic s t k
+  static_of t k row = statics_told p s f t k j function row
+
+  object_of : (t : CType) (k : ℕ) (w : IsStatic s t k) → w.object.array ≡ None → IsStaticObject s t k
+  object_of t k w none = as_object p j s (text_is p s f function) t k w none
+
+  named_single : (t : CType) (k : ℕ) (w : IsStatic s t k) → IsNamed (Node-F.Name (name.Static k)) → w.object.array ≡ None
+  named_single t k w (inl h) =
+      let none : variable_named s.variables (name.Static k) ≡ None = none_named p j s f k function in
+      single p j s (text_is p s f function) t k w
+      (subst (λ (o : Option Variable). (is_some o || is_no_array (object_named globals (name.Static k))) ≡ true) none h)
+  named_single t k w (inr h) = absurd cc
+
+  struct_single : (t : CType) (k tag : ℕ) (w : IsStatic s t k) → out-CType t ≡ CType-F.Struct tag → w.object.array ≡ None
+  struct_single t k tag w struct = by w.object.array refl
+    where
+      no_pointer : (a : Kind) (u : CType) → ◌≡◌ {A = CType-F CType} (CType-F.Pointer a u) (CType-F.Struct tag) → ⊥
+      no_pointer a u e = cc
+
+      by : (o : Option Kind) → w.object.array ≡ o → w.object.array ≡ None
+      by None e = e
+      by (Some a) e =
+          absurd (no_pointer a w.object.element (sym (ap out-CType (w.type ∙ ap (used w.object.element) e) ∙ pointer_out a w.object.element) ∙ struct))
+
+  static_target : (e : NotedExpr) (k : ℕ) → out-Node Name Note e.node ≡ Node-F.Name (name.Static k) → type_of_name globals s.variables (name.Static k) ≡ Some e.note.ctype
+      → IsNamed (Node-F.Name (name.Static k)) → IsStaticTarget s e k
+  static_target e k is row named =
+      let w = static_of e.note.ctype k row in
+      let alone = named_single e.note.ctype k w named in
+      record {
+        object = object_of e.note.ctype k w alone;
+        counts = λ n c. statics_counts s e.note.ctype k n e w alone is refl c;
+      }
+
+  -- ---- structures of which a target is a member
+
+  row_of : (e : NotedExpr) → IsTyped globals s e → IsRow globals s (out-Node Name Note e.node) e.note
+  row_of e typed = every_here-Expr Name Note AnyLimits AnyNode (HasRow globals s) e typed
+
+  node_of : (e : NotedExpr) → AreCovered s store seen e → IsCoveredNode s store seen e.note.ctype (out-Node Name Note e.node)
+  node_of e covered = (every_here-Expr Name Note AnyLimits AnyNode (IsCoveredExpr s store seen) e covered).node
+
+  abbrev Parts : NotedLayer → Type 0
+  Parts = Down (AreCovered s store seen) (EachLimits (IsCoveredExpr s store seen))
+
+  parts_of : (e : NotedExpr) → AreCovered s store seen e → Parts (out-Node Name Note e.node)
+  parts_of e covered = each_parts (IsCoveredExpr s store seen) e covered
+
+  place_form : (t : CType) (tag : ℕ) (mode : Mode) (d : NotedLayer) → out-CType t ≡ CType-F.Struct tag → HasType globals s.variables mode d t → IsCoveredNode s store seen t d → Parts d
+      → IsStructureNode d → IsCoveredPlace s store seen t d
+  place_form t tag mode (Node-F.Name (name.Static k)) struct row node parts operand = let w = static_of t k row in object_of t k w (struct_single t k tag w struct)
+  place_form t tag mode (Node-F.Un op.Deref e) struct row node parts operand = let h = deref_through e node in ((parts, through_scalar e h), h)
+  place_form t tag mode (Node-F.Index e g) struct row node parts operand =
+      let c = index_counted e node in ((parts.0, counted_scalar e c), (parts.1, index_scalar e g t row), c)
+  place_form t tag mode d struct row node parts operand = absurd operand
+
+  place_covered : (e : NotedExpr) (tag : ℕ) → out-CType e.note.ctype ≡ CType-F.Struct tag → IsTyped globals s e → AreCovered s store seen e → IsStructureNode (out-Node Name Note e.node)
+      → IsCoveredPlace s store seen e.note.ctype (out-Node Name Note e.node)
+  place_covered e tag struct typed covered operand =
+      place_form e.note.ctype tag (row_of e typed).mode (out-Node Name Note e.node) struct (row_of e typed).row (node_of e covered) (parts_of e covered) operand
+
+  -- ---- targets
+
+  abbrev TypedParts : NotedLayer → Type 0
+  TypedParts = Down (IsTyped globals s) (EachLimits (HasRow globals s))
+
+  target_form : (e : NotedExpr) (mode : Mode) (d : NotedLayer) → out-Node Name Note e.node ≡ d → HasType globals s.variables mode d e.note.ctype → IsCoveredNode s store seen e.note.ctype d → Parts d → TypedParts d
+      → IsNamed d → IsCoveredTarget s store seen e d
+  target_form e mode (Node-F.Name (name.Local k)) is row node parts typed named = node
+  target_form e mode (Node-F.Name (name.Static k)) is row node parts typed named = static_target e k is row named
+  target_form e mode (Node-F.Un op.Deref a) is row node parts typed named = let h = deref_through a node in ((parts, through_scalar a h), h)
+  target_form e mode (Node-F.Index a b) is row node parts typed named =
+      let c = index_counted a node in ((parts.0, counted_scalar a c), (parts.1, index_scalar a b e.note.ctype row), c)
+  target_form e mode (Node-F.Arrow a n at) is row node parts typed named =
+      let h = arrow_through a n e.note.ctype node in ((parts, through_scalar a h), h, member_named (element_of a.note.ctype) e.note.ctype n row)
+  target_form e mode (Node-F.Dot a n at) is row node parts typed named =
+      (place_covered a node.tag node.struct typed parts node.operand, member_named a.note.ctype e.note.ctype n row)
+  target_form e mode (Node-F.Name n) is row node parts typed named = absurd node
+  target_form e mode d is row node parts typed (inl named) = absurd cc
+  target_form e mode d is row node parts typed (inr named) = absurd cc
+
+  -- a typed expression that is covered and may be a target
+  pub target_covered : (e : NotedExpr) → IsTyped globals s e → AreCovered s store seen e → IsNamed (out-Node Name Note e.node) → IsCoveredTarget s store seen e (out-Node Name Note e.node)
+  target_covered e typed covered named =
+      target_form e (row_of e typed).mode (out-Node Name Note e.node) refl (row_of e typed).row (node_of e covered) (parts_of e covered) (each_parts (HasRow globals s) e typed) named

@@ -1,0 +1,84 @@
+-- What is asked of the statement of a checked step before it is judged, and what is said of the arguments of a call and
+-- of what is returned once they are.
+use Rattle.std.specs.Prelude.{◌≡◌, ℕ, ◌<◌, true, false, List, [], ◌∷◌, Option, None, Some, Ok}
+use Rattle.std.specs.List.{Contains}
+use Rattle.ckc_syntax.specs.declared.tree.Name.{Name}
+use Rattle.ckc_syntax.specs.declared.tree.Node.{Node-F, out-Node}
+use Rattle.ckc_syntax.specs.declared.tree.Expr.{Expr-F, every-Expr}
+use Rattle.ckc_typed.specs.declared.typed.Note.{Note}
+use Rattle.ckc_typed.specs.declared.typed.Typed.{Typed}
+use Rattle.ckc_typed.specs.Constants.{size_of}
+use Rattle.ckc_typed.specs.Conversions.{is_allocation}
+use Rattle.ckc_typed.specs.Trees.{NotedLimits, NotedNode, NotedExpr, NotedLayer, NotedStmt}
+use Rattle.ckc_typed.specs.Types.{type_written}
+use Rattle.ckc_typed_welltyped.specs.Expressions.{AnyLimits, AnyNode}
+use Rattle.ckc_typed_welltyped.specs.Productions.{callless_expr, given_stmt}
+use Rattle.ckc_bounds_views.specs.Parts.{fresh_behind}
+use Rattle.ckc_bounds_views.specs.Views.{view}
+use Rattle.ckc_bounds_statements.specs.Paths.{Here}
+use Rattle.ckc_source.specs.Eval.{Store}
+use Rattle.ckc_blame_sound.specs.Settings.{Setting}
+use Rattle.ckc_blame_sound.specs.Words.{exprs_in}
+use Rattle.ckc_blame_numbers.specs.Typed.{IsTyped}
+use Rattle.ckc_blame_pointers.specs.Covered.{IsCovered}
+use Rattle.ckc_blame_texts.specs.Judged.{globals_in}
+use Rattle.ckc_blame_facts.specs.Checked.{IsChecked}
+use Rattle.ckc_blame_facts.specs.Told.{IsTold, IsSpoken}
+
+-- ---- before
+
+-- Of each typed expression of a checked scope without calls it is said what it comes to, as it is judged at a point.
+abbrev pub AreSpoken : Typed → Setting → Here → Type 0
+AreSpoken p s here =
+    (before after : NotedExpr) (fresh : ℕ) → IsTyped (globals_in p) s before → IsChecked before
+    → callless_expr before ≡ true → (view s.frame before).judged fresh here.at ≡ Ok after → IsSpoken s after
+
+-- The elements that a `calloc` makes have a size.
+abbrev pub IsSizedNode : Setting → NotedLayer → Type 0
+IsSizedNode s (Node-F.Calloc w n u) = 0 < size_of s.text.layout (type_written w)
+IsSizedNode s n = Unit {0}
+
+-- the same of the node of an expression
+abbrev pub IsSizedPart : Setting → Expr-F Name Note NotedLimits NotedNode NotedExpr → Type 0
+IsSizedPart s e = IsSizedNode s (out-Node Name Note e.node)
+
+-- this of each `calloc` in an expression, however deep
+abbrev pub IsSized : Setting → NotedExpr → Type 0
+IsSized s = every-Expr Name Note AnyLimits AnyNode (IsSizedPart s)
+
+-- this of the expressions in a statement, and in each statement in it
+abbrev pub HasOnlySized : Setting → NotedStmt → Type 0
+HasOnlySized s st = (e : NotedExpr) → Contains (exprs_in st) e → IsSized s e
+
+-- What is asked of a statement at a point: what is told of the names there, and what is said of expressions without
+-- calls; the grammar gives the statement, and what it allocates has a size.
+pub record Premises (p : Typed) (s : Setting) (store : Store) (here : Here) (st : NotedStmt) : Type 0 where
+  pub told : IsTold (globals_in p) s store here.seen
+  pub spoken : AreSpoken p s here
+  pub given : (given_stmt st).fine ≡ true
+  pub sized : HasOnlySized s st
+
+-- ---- after
+
+-- A typed expression, which is no `calloc`, is judged at a point from a fresh variable on; what it is judged to be is
+-- covered.
+pub record IsCoveredThere (p : Typed) (s : Setting) (store : Store) (here : Here) (e f : NotedExpr) (fresh : ℕ)
+    : Type 0 where
+  pub typed : IsTyped (globals_in p) s e
+  pub whole : is_allocation e ≡ false
+  pub judged : (view s.frame e).judged fresh here.at ≡ Ok f
+  pub covered : IsCovered s store here.seen f
+
+-- this of each expression of a list, with the fresh variables of each after those in front of it
+abbrev pub AreCoveredThere : Typed → Setting → Store → Here → List NotedExpr → List NotedExpr → ℕ → Type 0
+AreCoveredThere p s store here [] [] fresh = Unit {0}
+AreCoveredThere p s store here (e ∷ es) (f ∷ fs) fresh =
+    IsCoveredThere p s store here e f fresh
+    × AreCoveredThere p s store here es fs (fresh_behind (view s.frame e) fresh here.at)
+AreCoveredThere p s store here _ _ fresh = ⊥
+
+-- this of an expression that there may be
+abbrev pub IsCoveredIf : Typed → Setting → Store → Here → Option NotedExpr → Option NotedExpr → ℕ → Type 0
+IsCoveredIf p s store here None None fresh = Unit {0}
+IsCoveredIf p s store here (Some e) (Some f) fresh = IsCoveredThere p s store here e f fresh
+IsCoveredIf p s store here _ _ fresh = ⊥
