@@ -15,6 +15,7 @@ use Rattle.ckc_syntax_limits.specs.Marks.{marks_of_expr, is_node}
 use Rattle.ckc_typed.specs.declared.environment.Variable.{Variable}
 use Rattle.ckc_typed.specs.declared.typed.Note.{Note}
 use Rattle.ckc_typed.specs.declared.typed.Typed.{Typed}
+use Rattle.ckc_typed.specs.Statics.{strings_of_expr, act_strings, strings_of_stmt}
 use Rattle.ckc_typed.specs.Trees.{NotedDecl, NotedExpr, NotedInit, NotedLayer, NotedStmt}
 use Rattle.ckc_typed_welltyped.specs.Statements as rows
 use Rattle.ckc_typed_welltyped.specs.Statements.{act_rows, mode_in_form, WellTypedStmt}
@@ -26,11 +27,12 @@ use Rattle.ckc_source.specs.Code as code
 use Rattle.ckc_build_values.specs.Expressions.{expr_elaborated, literals_of}
 use Rattle.ckc_build_elaborate.specs.Steps.{Destination, spot, nowhere, destination_of, called, assigned, assigned_form, started, declared, returned}
 use Rattle.ckc_build_elaborate.specs.Statements.{all_assigns, act_code, part_of}
-use Rattle.ckc_blame_sound.specs.Settings.{Setting}
+use Rattle.ckc_blame_sound.specs.Settings.{Setting, AreStrings}
 use Rattle.ckc_blame_sound.specs.Points.{GoesTo}
 use Rattle.ckc_blame_sound.specs.Words.{HasWordsAct, exprs_in, exprs_of_act}
 use Rattle.ckc_blame_sound.specs.Few.{nodes_of_value, nodes_in}
 use Rattle.ckc_blame_sound.proofs.Nodes.{nodes_rolled}
+use Rattle.ckc_blame_sound.proofs.Strings.{strings_inside, strings_are}
 use Rattle.ckc_blame_sound.proofs.Tallies.{is_tally}
 use Rattle.ckc_blame_sound.proofs.Words.{exprs_inside, exprs_are}
 use Rattle.ckc_blame_sound.specs.Bodies.{globals_of_text}
@@ -129,6 +131,9 @@ module _ (s : Setting) (here there : Here) (sp : Spot) (e : Expr) (step : IsStep
   abbrev at : Spot
   at = spot step.after.pos step.after.note.mode
 
+  check_strings : (x : NotedExpr) → out-Act Name Note step.after.body ≡ Act-F.Check x → strings_of_stmt step.after ≡ strings_of_expr x
+  check_strings x is = strings_are step.after ∙ ap (λ y. act_strings (strings_inside y)) is
+
   as_check : (x : NotedExpr) → out-Act Name Note step.before.body ≡ Act-F.Check x → Tests s sp.mode here e there
   as_check x is =
       let m = made_of (value_judged s.frame x here) (λ p. Ok (stated step.before.pos step.before.note (act.Check p.0), record p.1 { at = side_of s.frame true p.0 p.1.at })) (step.after, step.behind)
@@ -162,6 +167,7 @@ module _ (s : Setting) (here there : Here) (sp : Spot) (e : Expr) (step : IsStep
           becomes = same_check code;
           true_side = refl;
           false_side = refl;
+          strings = subst (AreStrings s step.literals) (check_strings m.0.0 (layer_of (act.Check m.0.0) (Act-F.Check m.0.0) last.0 (out_check m.0.0))) step.strings;
         };
         goes = subst (λ h. GoesTo s.frame h there) (sym last.1) step.goes;
       }

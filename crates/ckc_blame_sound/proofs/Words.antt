@@ -18,7 +18,7 @@ exprs_in_act = fold-Act Name Note (List NotedExpr) (List NotedExpr) exprs_of_act
 abbrev pub exprs_inside : Layer → Act-F Name Note (List NotedExpr) (List NotedExpr)
 exprs_inside = map-Act Name Note NotedAct NotedStmt (List NotedExpr) (List NotedExpr) exprs_in_act exprs_in
 
-act_back : (a : NotedAct) → roll-Act Name Note (out-Act Name Note a) ≡ a
+pub act_back : (a : NotedAct) → roll-Act Name Note (out-Act Name Note a) ≡ a
 act_back a = search (rules, the_lemmas)
 
 pub exprs_rolled : (at : Pos) (note : Note) (x : Layer) → exprs_in (record { body = roll-Act Name Note x; pos = at; note = note }) ≡ exprs_of_act (exprs_inside x)

@@ -6,7 +6,7 @@ use Rattle.ckc_syntax.specs.declared.tree.Item.TheVariants as item
 use Rattle.ckc_typed.specs.declared.environment.Variable.{Variable}
 use Rattle.ckc_typed.specs.declared.typed.StaticObject.{StaticObject}
 use Rattle.ckc_typed.specs.declared.typed.Typed.{Typed}
-use Rattle.ckc_typed.specs.Statics.{Strings, object_of_string}
+use Rattle.ckc_typed.specs.Statics.{Strings, object_of_string, strings_of_item}
 use Rattle.ckc_typed.specs.Trees.{NotedHead, NotedStmt}
 use Rattle.ckc_typed.specs.Types.{type_written}
 use Rattle.ckc_typed.specs.Environment.{variables_of}
@@ -54,7 +54,8 @@ abbrev pub AreStrings : Setting → ℕ → Strings → Type 0
 AreStrings s k [] = Unit {0}
 AreStrings s k (bytes ∷ more) = IsString s bytes k × AreStrings s (k + 1) more
 
--- The function f is one of the text with its body, and has the setting s.
+-- The function f is one of the text with its body, and has the setting s; the static objects from one on are those of its
+-- string literals.
 pub record IsFunction (p : Typed) (s : Setting) (f : Function) : Type 0 where
   pub head : NotedHead
   pub body : NotedStmt
@@ -62,3 +63,4 @@ pub record IsFunction (p : Typed) (s : Setting) (f : Function) : Type 0 where
   pub there : Contains p.tree.items (item.Function head body)
   pub judged : s ≡ setting_of p head body
   pub runs : f ≡ function_elaborated p literals head body
+  pub strings : AreStrings s literals (strings_of_item (item.Function head body))

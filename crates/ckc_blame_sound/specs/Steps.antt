@@ -5,12 +5,13 @@ use Rattle.ckc_base.specs.declared.arithmetic.Mode.{Mode}
 use Rattle.ckc_syntax.specs.declared.tree.Name.{Name}
 use Rattle.ckc_syntax.specs.declared.tree.Act.{Act-F, out-Act}
 use Rattle.ckc_typed.specs.declared.typed.Note.{Note}
+use Rattle.ckc_typed.specs.Statics.{strings_of_stmt, strings_of_value}
 use Rattle.ckc_typed.specs.Trees.{NotedAct, NotedExpr, NotedStmt}
 use Rattle.ckc_bounds_statements.specs.Paths.{Here, path, maybe_judged, maybe_side}
 use Rattle.ckc_source.specs.Code.{Expr, Code}
 use Rattle.ckc_build_elaborate.specs.Statements.{stmt_elaborated}
 use Rattle.ckc_build_elaborate.specs.Steps.{condition}
-use Rattle.ckc_blame_sound.specs.Settings.{Setting}
+use Rattle.ckc_blame_sound.specs.Settings.{Setting, AreStrings}
 use Rattle.ckc_blame_sound.specs.Values.{NamesIntegers}
 use Rattle.ckc_blame_sound.specs.Points.{GoesTo}
 use Rattle.ckc_blame_sound.specs.Bodies.{IsInBody, IsTestInBody, IsNextFresh}
@@ -28,8 +29,8 @@ is_simple (Act-F.Bundle ss) = true
 is_simple a = false
 
 -- A statement of the function is judged at a point, and not only counted, and each fact there names the number zero and
--- integer locals alone; it stands in the scope of the locals there, and there is room for its fresh variables; what
--- becomes of it is this one step, and control goes from there to another point.
+-- integer locals alone; it stands in the scope of the locals there, there is room for its fresh variables, and its string
+-- literals have static objects; what becomes of it is this one step, and control goes from there to another point.
 pub record IsStep (s : Setting) (here : Here) (step : Code → Code) (there : Here) : Type 0 where
   pub before : NotedStmt
   pub after : NotedStmt
@@ -45,10 +46,11 @@ pub record IsStep (s : Setting) (here : Here) (step : Code → Code) (there : He
   pub room : HasRoom s here.next (nodes_in before)
   pub becomes : stmt_elaborated s.text s.variables s.result literals after ≡ step ∷ []
   pub goes : GoesTo s.frame behind there
+  pub strings : AreStrings s literals (strings_of_stmt after)
 
--- A condition of a statement of a mode in the function is judged at such a point, with room for its fresh variables, and
--- becomes this expression; if it is true control is at a second point, and if it is false at a third. One that is left
--- out is true.
+-- A condition of a statement of a mode in the function is judged at such a point, with room for its fresh variables and
+-- static objects for its string literals, and becomes this expression; if it is true control is at a second point, and if
+-- it is false at a third. One that is left out is true.
 pub record IsCondition (s : Setting) (mode : Mode) (here : Here) (e : Expr) (yes no : Here) : Type 0 where
   pub before : Option NotedExpr
   pub after : Option NotedExpr
@@ -64,3 +66,4 @@ pub record IsCondition (s : Setting) (mode : Mode) (here : Here) (e : Expr) (yes
   pub becomes : e ≡ condition s.text s.variables literals after
   pub true_side : yes ≡ record behind { at = maybe_side s.frame true after behind.at }
   pub false_side : no ≡ record behind { at = maybe_side s.frame false after behind.at }
+  pub strings : AreStrings s literals (strings_of_value after)

@@ -15,4 +15,5 @@ pub mod Lists
 pub mod Accesses
 pub mod Bounds
 pub mod Slots
+pub mod Literals
 pub mod Bodies

@@ -143,14 +143,14 @@ from_bare k (item.Struct n ms at ∷ is) h = from_bare k is h
 from_bare k (item.Proto g ∷ is) h = from_bare k is h
 from_bare k (item.Function g body ∷ is) h = from_bare k is h
 
-abbrev static_type : {A : Type 0} → Item Name A → List CType
+abbrev pub static_type : {A : Type 0} → Item Name A → List CType
 static_type (item.Static d) = type_written d.ctype ∷ []
 static_type i = []
 
-abbrev static_types : {A : Type 0} → List (Item Name A) → List CType
+abbrev pub static_types : {A : Type 0} → List (Item Name A) → List CType
 static_types is = flat_map static_type is
 
-types_bare : (is : List NotedItem) → static_types (map bare_item is) ≡ static_types is
+pub types_bare : (is : List NotedItem) → static_types (map bare_item is) ≡ static_types is
 types_bare [] = refl
 types_bare (item.Static d ∷ is) = ap (λ ts. type_written d.ctype ∷ ts) (types_bare is)
 types_bare (item.Directive d ∷ is) = types_bare is

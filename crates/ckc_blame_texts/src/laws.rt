@@ -1,7 +1,7 @@
 //! What follows from the definitions alone, each the contract of a function that does nothing.
 
 ghost use Rattle.std.specs.Prelude.{◌≡◌, ℕ, Bool, ◌<◌, ◌^◌, true, map, Option, Some, IfSome, Ok, length};
-ghost use Rattle.std.specs.List.{Contains};
+ghost use Rattle.std.specs.List.{Contains, flat_map};
 ghost use Rattle.ckc_base.specs.declared.arithmetic.Mode.{Mode};
 ghost use Rattle.ckc_base.specs.declared.arithmetic.Width.TheVariants.{Word};
 ghost use Rattle.ckc_types.specs.declared.types.CType.{CType};
@@ -18,6 +18,7 @@ ghost use Rattle.ckc_typed.specs.declared.typed.Note.{Note};
 ghost use Rattle.ckc_typed.specs.declared.typed.Typed.{Typed};
 ghost use Rattle.ckc_typed.specs.Trees.{NotedDecl, NotedExpr, NotedHead, NotedStmt};
 ghost use Rattle.ckc_typed.specs.Constants.{size_of};
+ghost use Rattle.ckc_typed.specs.Statics.{strings_of_item};
 ghost use Rattle.ckc_typed.specs.Types.{is_scalar};
 ghost use Rattle.ckc_typed.specs.Environment.{member_type, variable_declared, variables_of};
 ghost use Rattle.ckc_resolve.specs.Trees.{Tree};
@@ -26,7 +27,7 @@ ghost use Rattle.ckc_scopes.specs.Phase.{scoping};
 ghost use Rattle.ckc_typed_welltyped.specs.Expressions.{WellTypedExpr};
 ghost use Rattle.ckc_typed_welltyped.specs.Noteless.{without_notes};
 ghost use Rattle.ckc_typed_welltyped.specs.Parts.{StmtByParts};
-ghost use Rattle.ckc_typed_welltyped.specs.Texts.{TypedAs};
+ghost use Rattle.ckc_typed_welltyped.specs.Texts.{TypedAs, WellTyped};
 ghost use Rattle.ckc_bounds_points.specs.declared.frame.Frame.{Frame};
 ghost use Rattle.ckc_bounds_points.specs.declared.frame.Local.{Local};
 ghost use Rattle.ckc_bounds_points.specs.Frames.{local_at};
@@ -37,8 +38,9 @@ ghost use Rattle.ckc_bounds.specs.Frames.{all_of};
 ghost use Rattle.ckc_bounds.specs.Phase.{bounding};
 ghost use Rattle.ckc_build_values.specs.Kinds.{width_of};
 ghost use Rattle.ckc_build_values.specs.Members.{offset_of};
+ghost use Rattle.ckc_build_elaborate.specs.Objects.{count_declared};
 ghost use Rattle.ckc_source.specs.Code.{Function};
-ghost use Rattle.ckc_blame_sound.specs.Settings.{Setting, IsFunction};
+ghost use Rattle.ckc_blame_sound.specs.Settings.{Setting, AreStrings, IsFunction, setting_of};
 ghost use Rattle.ckc_blame_sound.specs.Words.{HasWords, HasWordsAct};
 ghost use Rattle.ckc_blame_numbers.specs.Typed.{Agrees, IsTyped, IsTypedIf, IsTypedStmt};
 ghost use Rattle.ckc_blame_sound.specs.Slots.{Slot, slots_of};
@@ -127,6 +129,14 @@ pub fn accesses_are_parts()
 pub fn phases_judge()
     ensures { (tree : Tree) (named : NamedText) (typed p : Typed) → naming.Makes tree named
         → TypedAs named typed → (scoping >=> bounding).Makes typed p → IsJudged p }
+{}
+
+/// The static objects of a judged text that come after the declared ones are those of its string literals, one after
+/// another, in the setting of each function.
+pub fn strings_have_objects()
+    ensures { (q p : Typed) (h : NotedHead) (body : NotedStmt) → WellTyped q → bounding.Makes q p
+        → AreStrings (setting_of p h body) (count_declared p.tree.items)
+        (flat_map strings_of_item p.tree.items) }
 {}
 
 /// Bounds stand on pointers alone: a slot of an element is a pointer of it.

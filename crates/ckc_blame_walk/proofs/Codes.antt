@@ -8,6 +8,7 @@ use Rattle.ckc_syntax.specs.declared.tree.Init.TheVariants as init
 use Rattle.ckc_syntax.specs.declared.tree.Node.{Node-F, out-Node}
 use Rattle.ckc_syntax.specs.declared.tree.Act.{out-Act}
 use Rattle.ckc_typed.specs.declared.typed.Note.{Note}
+use Rattle.ckc_typed.specs.Statics.{strings_of_stmt}
 use Rattle.ckc_typed.specs.Trees.{NotedExpr, NotedLayer, NotedInit, NotedStmt}
 use Rattle.ckc_bounds_points.specs.declared.frame.Frame.{Frame}
 use Rattle.ckc_bounds_statements.specs.Paths.{Here, path}
@@ -15,7 +16,7 @@ use Rattle.ckc_source.specs.declared.stmt.Spot.{Spot}
 use Rattle.ckc_source.specs.Code.{Code, End, chained}
 use Rattle.ckc_build_elaborate.specs.Steps.{Destination, called, assigned_form, assigned, started}
 use Rattle.ckc_build_elaborate.specs.Statements.{stmt_elaborated}
-use Rattle.ckc_blame_sound.specs.Settings.{Setting}
+use Rattle.ckc_blame_sound.specs.Settings.{Setting, AreStrings}
 use Rattle.ckc_blame_sound.specs.Points.{IsKnown, GoesTo}
 use Rattle.ckc_blame_sound.specs.Steps.{is_simple, IsStep}
 use Rattle.ckc_blame_sound.specs.Bodies.{IsInBody}
@@ -87,11 +88,11 @@ module _ (s : Setting) where
 
   -- a statement that is a step by itself
   pub step_code : {Claimed : Type 0} (before after : NotedStmt) (here there : Here) (k : ℕ) (exits : Exits) (f : Code → Code) → is_simple (out-Act Name Note before.body) ≡ true
-      → (Claimed → IsInBody s before) → StandsInScope s before here.seen → IsOn s Claimed here → AreNamed s.frame here.at.facts → IsWalk before here (after, there) → HasRoom s here.next (nodes_in after) → stmt_elaborated s.text s.variables s.result k after ≡ f ∷ [] → GoesOn f → IsCode (stmt_elaborated s.text s.variables s.result k after) exits here there
-  step_code before after here there k exits f simple inside scope on named walk room becomes goes_on =
+      → (Claimed → IsInBody s before) → StandsInScope s before here.seen → IsOn s Claimed here → AreNamed s.frame here.at.facts → IsWalk before here (after, there) → HasRoom s here.next (nodes_in after) → AreStrings s k (strings_of_stmt after) → stmt_elaborated s.text s.variables s.result k after ≡ f ∷ [] → GoesOn f → IsCode (stmt_elaborated s.text s.variables s.result k after) exits here there
+  step_code before after here there k exits f simple inside scope on named walk room strings becomes goes_on =
       inr (λ next rest goes h.
       let step : IsStep s here f next =
-      record { before = before; after = after; literals = k; behind = there; simple = simple; inside = inside on.claimed; scope = scope; fresh = on.fresh; counting = on.counts; named = named; judged = walk; room = subst (HasRoom s here.next) (statement_nodes s.frame s.head before here (after, there) walk) room; becomes = becomes; goes = goes } in
+      record { before = before; after = after; literals = k; behind = there; simple = simple; inside = inside on.claimed; scope = scope; fresh = on.fresh; counting = on.counts; named = named; judged = walk; room = subst (HasRoom s here.next) (statement_nodes s.frame s.head before here (after, there) walk) room; becomes = becomes; goes = goes; strings = strings } in
       subst (λ fs. Judged s (chained fs rest) exits here) (sym becomes) (goes_on rest exits here (next, step, h)))
 
   chained_both : (fs gs : List (Code → Code)) (rest : Code) → chained (fs ++ gs) rest ≡ chained fs (chained gs rest)

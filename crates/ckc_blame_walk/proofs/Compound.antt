@@ -13,6 +13,7 @@ use Rattle.ckc_syntax.specs.declared.tree.Act.{Act-F, map-Act, out-Act, roll-Act
 use Rattle.ckc_syntax.specs.declared.tree.Act.TheVariants as act
 use Rattle.ckc_syntax.specs.declared.tree.Stmt.{fold-roll-Stmt}
 use Rattle.ckc_typed.specs.declared.typed.Note.{Note}
+use Rattle.ckc_typed.specs.Statics.{strings_of_expr, strings_of_stmt}
 use Rattle.ckc_typed.specs.Trees.{NotedAct, NotedDecl, NotedExpr, NotedStmt}
 use Rattle.ckc_bounds_known.proofs.Reaching.{and_cases}
 use Rattle.ckc_bounds_points.specs.Flow.{joined}
@@ -21,7 +22,7 @@ use Rattle.ckc_source.specs.Code.{Code, If, chained}
 use Rattle.ckc_build_values.specs.Expressions.{expr_elaborated, literals_of}
 use Rattle.ckc_build_elaborate.specs.Steps.{spot}
 use Rattle.ckc_build_elaborate.specs.Statements.{Part, ActPart, one, alone, code_if, act_code, act_parts, stmt_parts, part_of, part_of_act, stmt_elaborated}
-use Rattle.ckc_blame_sound.specs.Settings.{Setting}
+use Rattle.ckc_blame_sound.specs.Settings.{Setting, AreStrings}
 use Rattle.ckc_blame_sound.specs.Points.{GoesTo}
 use Rattle.ckc_blame_sound.specs.Bodies.{IsTestInBody}
 use Rattle.ckc_blame_sound.specs.Few.{nodes_of, nodes_in, HasRoom}
@@ -36,6 +37,7 @@ use Rattle.ckc_blame_walk.proofs.Heads.{stays_joined}
 use Rattle.ckc_blame_walk.proofs.Onward.{Onward, IsOn, onward_none, onward_through, on_there}
 use Rattle.ckc_blame_walk.proofs.Pieces.{Gives, through, nested, given, Moved, value_moves}
 use Rattle.ckc_blame_walk.proofs.Rooms.{Grows, grows_none, grows_through, room_after, room_less, value_nodes, value_grows, nodes_if, if_nodes}
+use Rattle.ckc_blame_walk.proofs.Literals.{part_if, strings_if, if_strings}
 use Rattle.ckc_blame_walk.proofs.Codes.{goes_nowhere, goes_through, IsCode, closed_code}
 use Rattle.ckc_blame_walk.proofs.Exits.{may_first, may_second, may_adding}
 use Rattle.ckc_blame_walk.specs.Scopes.{tests_of, items_of}
@@ -67,11 +69,6 @@ pub same_has : (a b : List ℕ) → b ≡ a → (k : ℕ) → Contains b k → C
 same_has a b e k c = subst (λ x. Contains x k) e c
 
 -- ---- the claims
-
--- the parts that statements mean
-abbrev pub part_if : Option NotedStmt → Option Part
-part_if None = None
-part_if (Some s) = Some (part_of s)
 
 abbrev pub assigned_if : Option Path → List ℕ
 assigned_if = inside_if listed (λ (v : Path). v.assigned)
@@ -109,7 +106,7 @@ module _ (s : Setting) (Claimed : Type 0) where
     pub stays : Stays s.frame ks here.at p.1.at
     pub leads : Leads s own here.seen p.1.seen
     pub grows : Grows here p.1 (nodes_in p.0)
-    pub code : Stands s own here.seen → IsOn s Claimed here → AreTame s.frame here.at.facts → HasRoom s here.next (nodes_in p.0) → (k : ℕ) (exits : Exits) → MayLeave s.frame ks left turned here exits
+    pub code : Stands s own here.seen → IsOn s Claimed here → AreTame s.frame here.at.facts → HasRoom s here.next (nodes_in p.0) → (k : ℕ) (exits : Exits) → AreStrings s k (strings_of_stmt p.0) → MayLeave s.frame ks left turned here exits
         → IsCode s (stmt_elaborated s.text s.variables s.result k p.0) exits here p.1
 
   -- the same of a statement that may be left out
@@ -120,7 +117,7 @@ module _ (s : Setting) (Claimed : Type 0) where
     pub stays : Stays s.frame ks here.at p.1.at
     pub leads : Leads s own here.seen p.1.seen
     pub grows : Grows here p.1 (nodes_if p.0)
-    pub code : Stands s own here.seen → IsOn s Claimed here → AreTame s.frame here.at.facts → HasRoom s here.next (nodes_if p.0) → (k : ℕ) (exits : Exits) → MayLeave s.frame ks left turned here exits
+    pub code : Stands s own here.seen → IsOn s Claimed here → AreTame s.frame here.at.facts → HasRoom s here.next (nodes_if p.0) → (k : ℕ) (exits : Exits) → AreStrings s k (strings_if p.0) → MayLeave s.frame ks left turned here exits
         → IsCode s (code_if (part_if p.0) s.text s.variables s.result k) exits here p.1
 
   pub record Whole (path : Path) (nest : Nesting) (w : Walked) : Type 0 where
@@ -141,7 +138,7 @@ module _ (s : Setting) (Claimed : Type 0) where
       stays = stays_none s.frame [] here.at;
       leads = leads_quiet s (own_if None None) here.seen here.seen refl refl;
       grows = grows_none here.next _;
-      code = λ stands on tame room k exits may. inl (refl, refl);
+      code = λ stands on tame room k exits strings may. inl (refl, refl);
     });
     plain = λ e. (refl, refl);
   }
@@ -240,8 +237,8 @@ module _ (s : Setting) (Claimed : Type 0) where
       unfolding side_of
       adds b = subst (λ a. Adds s.frame a (side_of s.frame b v.0 v.1.at)) moved.at (side_adds s.frame v.0 b v.1.at)
 
-      if_condition : (k : ℕ) → Stands s if_own here.seen → IsOn s Claimed here → AreNamed s.frame here.at.facts → HasRoom s here.next (nodes_of v.0) → IsCondition s note.mode here (expr_elaborated s.text s.variables k v.0) yes no
-      if_condition k st on named room = record {
+      if_condition : (k : ℕ) → Stands s if_own here.seen → IsOn s Claimed here → AreNamed s.frame here.at.facts → HasRoom s here.next (nodes_of v.0) → AreStrings s k (strings_of_expr v.0) → IsCondition s note.mode here (expr_elaborated s.text s.variables k v.0) yes no
+      if_condition k st on named room strings = record {
         inside = inside on.claimed;
         scope = test_stands s (Some e) st.visible st.next here.seen if_own.declared st.scope st.fits.declares (if_fits st.visible st.next st.fits).test;
         fresh = on.fresh;
@@ -256,6 +253,7 @@ module _ (s : Setting) (Claimed : Type 0) where
         becomes = refl;
         true_side = refl;
         false_side = refl;
+        strings = strings;
       }
 
       module _ (q : NotedStmt × Here) (first : Next ks nest one_own path.breaks path.continues yes q) where
@@ -304,10 +302,13 @@ module _ (s : Setting) (Claimed : Type 0) where
           both_grown h = grows_through here.next v.1.next q.1.next (nodes_of v.0) (nodes_in q.0) (nodes_of v.0 + nodes_in q.0) (omega arith) grown h
 
           module _ (st : Stands s if_own here.seen) (on : IsOn s Claimed here) (tame : AreTame s.frame here.at.facts) (room : HasRoom s here.next (nodes_in (stated at note (act.If v.0 q.0 r.0)))) (k : ℕ) (exits : Exits)
-              (may : MayLeave s.frame (ks ++ js) (path.breaks || breaks_if path2) (path.continues || continues_if path2) here exits) (next : Here) (rest : Code)
+              (strings : AreStrings s k (strings_of_stmt (stated at note (act.If v.0 q.0 r.0)))) (may : MayLeave s.frame (ks ++ js) (path.breaks || breaks_if path2) (path.continues || continues_if path2) here exits) (next : Here) (rest : Code)
               (goes : GoesTo s.frame there next) (behind : Judged s rest exits next) where
             abbrev branches : Branches
             branches = record { yes = yes; no = no; other = other; behind = next }
+
+            parts : AreStrings s k (strings_of_expr v.0) × AreStrings s (k + literals_of v.0) (strings_of_stmt q.0) × AreStrings s (k + literals_of v.0 + (part_of q.0).literals) (strings_if r.0)
+            parts = if_strings s at note (act.If v.0 q.0 r.0) v.0 q.0 r.0 k (act.rolls-If v.0 q.0 r.0) strings
 
             one_ends : GoesTo s.frame q.1 next
             one_ends = goes_through q.1 there next (record { known = λ reached. first_known s.frame q.1.at r.1.at reached; seen = λ k c. same_has q.1.seen r.1.seen seen_second k c }) goes
@@ -330,14 +331,14 @@ module _ (s : Setting) (Claimed : Type 0) where
             unfolding Judged
             if_judged_code = (
               branches,
-              if_condition k st on tame.1 (room_less s here.next (nodes_of v.0) (nodes_in (stated at note (act.If v.0 q.0 r.0))) (omega (arith, few)) room),
+              if_condition k st on tame.1 (room_less s here.next (nodes_of v.0) (nodes_in (stated at note (act.If v.0 q.0 r.0))) (omega (arith, few)) room) parts.0,
               closed_code s (stmt_elaborated s.text s.variables s.result (k + literals_of v.0) q.0) (ending exits next) yes q.1 one_ends
                   (first.code (one_stands st) (on_there s here yes moved.onward on) (tame_adding s.frame here.at yes.at (adds true) tame)
-                  (room_after s here.next v.1.next (nodes_of v.0) (nodes_in q.0) (nodes_in (stated at note (act.If v.0 q.0 r.0))) (omega (arith, few)) grown room) (k + literals_of v.0) (ending exits next) one_may),
+                  (room_after s here.next v.1.next (nodes_of v.0) (nodes_in q.0) (nodes_in (stated at note (act.If v.0 q.0 r.0))) (omega (arith, few)) grown room) (k + literals_of v.0) (ending exits next) parts.1 one_may),
               record { known = λ reached. (goes_nowhere no).known reached; seen = λ k c. same_has no.seen q.1.seen (seen_first ∙ sym moved.seen) k c },
               closed_code s (code_if (part_if r.0) s.text s.variables s.result (k + literals_of v.0 + (part_of q.0).literals)) (ending exits next) other r.1 two_ends
                   (second.code (two_stands st) (on_there s here other (onward_through here yes other moved.onward first.onward) on) (tame_adding s.frame here.at other.at (adds false) tame)
-                  (room_after s here.next q.1.next (nodes_of v.0 + nodes_in q.0) (nodes_if r.0) (nodes_in (stated at note (act.If v.0 q.0 r.0))) few (both_grown first.grows) room) (k + literals_of v.0 + (part_of q.0).literals) (ending exits next) two_may),
+                  (room_after s here.next q.1.next (nodes_of v.0 + nodes_in q.0) (nodes_if r.0) (nodes_in (stated at note (act.If v.0 q.0 r.0))) few (both_grown first.grows) room) (k + literals_of v.0 + (part_of q.0).literals) (ending exits next) parts.2 two_may),
               behind,
             )
 
@@ -349,10 +350,10 @@ module _ (s : Setting) (Claimed : Type 0) where
             stays = if_stays;
             leads = if_leads;
             grows = grows_through here.next q.1.next r.1.next (nodes_of v.0 + nodes_in q.0) (nodes_if r.0) (nodes_in (stated at note (act.If v.0 q.0 r.0))) few (both_grown first.grows) second.grows;
-            code = λ st on tame room k exits may. inr (λ next rest goes behind.
+            code = λ st on tame room k exits strings may. inr (λ next rest goes behind.
                 subst (λ fs. Judged s (chained fs rest) exits here)
                 (sym (code_is at note (Act-F.If v.0 q.0 r.0) (act.If v.0 q.0 r.0) k (act.rolls-If v.0 q.0 r.0) ∙ if_code at note.mode v.0 q.0 r.0 k))
-                (if_judged_code st on tame room k exits may next rest goes behind));
+                (if_judged_code st on tame room k exits strings may next rest goes behind));
           }
 
     pub if_gives : Gives (Next (ks ++ js) mine if_own (path.breaks || breaks_if path2) (path.continues || continues_if path2) here) (if_judged s.frame s.head at note e path path2 here)

@@ -15,6 +15,7 @@ use Rattle.ckc_build_elaborate.specs.Objects.{count_declared}
 use Rattle.ckc_blame_sound.specs.Settings.{Setting, IsFunction, setting_of}
 use Rattle.ckc_blame_sound.specs.Calls.{AreWaiting}
 use Rattle.ckc_blame_sound.specs.Sound.{Sound}
+use Rattle.ckc_blame_texts.proofs.Literals.{text_strings}
 use Rattle.ckc_blame_walk.specs.Entries.{MayEnter}
 use Rattle.ckc_blame_walk.specs.Ready.{first_blocks, next_behind, HasObjects, HasFunctions}
 use Rattle.ckc_blame_walk.proofs.Entered.{params_many, entered_stands}
@@ -32,7 +33,7 @@ module _ (q p : Typed) (input : List ℕ) (objects : HasObjects q p) (functions 
   setting = setting_of p main.head main.body
 
   abbrev is_function : IsFunction p setting code
-  is_function = record { head = main.head; body = main.body; literals = main.literals; there = main.there; judged = refl; runs = refl }
+  is_function = record { head = main.head; body = main.body; literals = main.literals; there = main.there; judged = refl; runs = refl; strings = main.strings setting (text_strings q p main.head main.body objects.typed objects.bounded) }
 
   no_params : main.head.params ≡ []
   no_params = sym main.params ∙ functions.bare

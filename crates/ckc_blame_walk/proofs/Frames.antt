@@ -7,6 +7,7 @@ use Rattle.ckc_base.specs.Outcomes.{Outcome}
 use Rattle.ckc_base.proofs.Outcomes.{made_of}
 use Rattle.ckc_typed.specs.declared.typed.Typed.{Typed}
 use Rattle.ckc_typed.specs.Environment.{variable_declared, variables_of}
+use Rattle.ckc_typed.specs.Statics.{strings_of_head, strings_of_stmt}
 use Rattle.ckc_typed.specs.Trees.{NotedDecl, NotedHead, NotedStmt}
 use Rattle.ckc_bounds_points.specs.declared.frame.Local.{Local}
 use Rattle.ckc_bounds_points.specs.declared.frame.HeadBounds.{HeadBounds}
@@ -16,12 +17,14 @@ use Rattle.ckc_bounds.specs.Declarations.{local_made, with_all, with_locals, typ
 use Rattle.ckc_bounds.specs.Frames.{name_seen, all_of, begin_in, begin_of, needed_from, fresh_needed, with_nameless, locals_frame, first_fresh, function_frame}
 use Rattle.ckc_bounds.specs.Texts.{body_judged}
 use Rattle.ckc_source.specs.Code.{Code, Function}
+use Rattle.ckc_build_elaborate.proofs.Counted as counted
 use Rattle.ckc_build_elaborate.specs.Functions.{literals_of_head}
 use Rattle.ckc_build_elaborate.specs.Statements.{alone, stmt_elaborated}
-use Rattle.ckc_blame_sound.specs.Settings.{Setting, frame_of_text, setting_of, IsFunction}
+use Rattle.ckc_blame_sound.specs.Settings.{Setting, AreStrings, frame_of_text, setting_of, IsFunction}
 use Rattle.ckc_blame_sound.specs.Bodies.{IsInBody, IsNextFresh}
 use Rattle.ckc_blame_sound.specs.Few.{nodes_in, AreFew, HasRoom}
 use Rattle.ckc_blame_sound.specs.Judged.{Judged}
+use Rattle.ckc_blame_sound.proofs.Strings.{strings_after}
 use Rattle.ckc_blame_texts.specs.Judged.{IsJudged, IsBodyJudged, globals_in}
 use Rattle.ckc_blame_texts.proofs.Bodies.{bodies_are_typed, declared_known}
 use Rattle.ckc_blame_texts.proofs.Frames.{variables_moved}
@@ -163,7 +166,8 @@ text_goes p s f j fine is =
     let k : ℕ = is.literals + literals_of_head is.head in
     let code : alone (stmt_elaborated s.text s.variables s.result k is.body) ≡ f.body =
     ap (λ (x : Setting). alone (stmt_elaborated x.text x.variables x.result k is.body)) is.judged ∙ sym (ap (λ (x : Function). x.body) is.runs) in
-    let h = function_goes s (frame_of_text p) is.head b.before is.body k (fine is.head b.before b.there) inside fresh room scoped frame_is head_is judged in
+    let strings : AreStrings s k (strings_of_stmt is.body) = strings_after s (strings_of_head is.head) (strings_of_stmt is.body) is.literals (literals_of_head is.head) (counted.head is.head) is.strings in
+    let h = function_goes s (frame_of_text p) is.head b.before is.body k (fine is.head b.before b.there) inside fresh room strings scoped frame_is head_is judged in
     subst (λ (c : Code). Judged s c leaving (begin_in s.frame false is.head (first_fresh is.head is.body))) code
     (subst (λ n. Judged s (alone (stmt_elaborated s.text s.variables s.result k is.body)) leaving (begin_in s.frame false is.head n))
     (sym firsts) h)

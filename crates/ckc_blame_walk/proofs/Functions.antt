@@ -3,6 +3,7 @@ use Rattle.std.proofs.Common.{◌≡◌, refl, ap, ◌∙◌, ℕ, true, false, 
 use Rattle.std.specs.Prelude.{Ok}
 use Rattle.std.specs.List.{Contains, flat_map}
 use Rattle.std.proofs.lemmas.List.Elements.{All-nil}
+use Rattle.ckc_typed.specs.Statics.{strings_of_stmt}
 use Rattle.ckc_typed.specs.Trees.{NotedHead, NotedStmt}
 use Rattle.ckc_bounds_points.specs.declared.frame.Frame.{Frame}
 use Rattle.ckc_bounds_statements.specs.Paths.{Here, path}
@@ -11,7 +12,7 @@ use Rattle.ckc_bounds.specs.Declarations.{head_bounds}
 use Rattle.ckc_bounds.specs.Frames.{name_seen, begin_in, first_fresh, function_frame, begin_of}
 use Rattle.ckc_bounds.specs.Texts.{body_judged}
 use Rattle.ckc_build_elaborate.specs.Statements.{alone, stmt_elaborated}
-use Rattle.ckc_blame_sound.specs.Settings.{Setting}
+use Rattle.ckc_blame_sound.specs.Settings.{Setting, AreStrings}
 use Rattle.ckc_blame_sound.specs.Values.{value}
 use Rattle.ckc_linear.specs.Facts.{Satisfies}
 use Rattle.ckc_blame_sound.specs.Points.{GoesTo}
@@ -48,12 +49,12 @@ empty_exit frame ks here = record {
   seen = λ k c. absurd (none_in k c);
 }
 
-pub body_goes : (s : Setting) (head : NotedHead) (n : ℕ) (body after : NotedStmt) (there : Here) (k : ℕ) → (nesting_of body).fine ≡ true → IsInBody s body → IsNextFresh s n → HasRoom s n (nodes_in body)
+pub body_goes : (s : Setting) (head : NotedHead) (n : ℕ) (body after : NotedStmt) (there : Here) (k : ℕ) → (nesting_of body).fine ≡ true → IsInBody s body → IsNextFresh s n → HasRoom s n (nodes_in body) → AreStrings s k (strings_of_stmt after)
     → IsScoped s body (begin_in s.frame false head n).seen → (path body).judged s.frame s.head (begin_in s.frame false head n) ≡ Ok (after, there)
     → Judged s (alone (stmt_elaborated s.text s.variables s.result k after)) leaving (begin_in s.frame false head n)
 unfolding Judged
-body_goes s head n body after there k fine inside fresh room scoped walk =
-    statement_judged s body after (begin_in s.frame false head n) there k leaving _ fine inside fresh refl (entry_small s.frame) (entry_named s.frame) scoped room walk
+body_goes s head n body after there k fine inside fresh room strings scoped walk =
+    statement_judged s body after (begin_in s.frame false head n) there k leaving _ fine inside fresh refl (entry_small s.frame) (entry_named s.frame) scoped room strings walk
     (record {
       breaks = λ b. empty_exit s.frame (path body).assigned (begin_in s.frame false head n);
       continues = λ c. empty_exit s.frame (path body).assigned (begin_in s.frame false head n);
@@ -61,10 +62,10 @@ body_goes s head n body after there k fine inside fresh room scoped walk =
     (to_empty s.frame there)
 
 -- The code of a judged body is judged in the frame that it was judged in.
-pub function_goes : (s : Setting) (frame : Frame) (head : NotedHead) (body after : NotedStmt) (k : ℕ) → (nesting_of body).fine ≡ true → IsInBody s body → IsNextFresh s (first_fresh head body) → HasRoom s (first_fresh head body) (nodes_in body) → IsScoped s body (flat_map name_seen head.params) → s.frame ≡ function_frame frame head body
+pub function_goes : (s : Setting) (frame : Frame) (head : NotedHead) (body after : NotedStmt) (k : ℕ) → (nesting_of body).fine ≡ true → IsInBody s body → IsNextFresh s (first_fresh head body) → HasRoom s (first_fresh head body) (nodes_in body) → AreStrings s k (strings_of_stmt after) → IsScoped s body (flat_map name_seen head.params) → s.frame ≡ function_frame frame head body
     → s.head ≡ head_bounds frame head → body_judged frame head body ≡ Ok after
     → Judged s (alone (stmt_elaborated s.text s.variables s.result k after)) leaving (begin_in s.frame false head (first_fresh head body))
-function_goes s frame head body after k fine inside fresh room scoped frame_is head_is judged =
+function_goes s frame head body after k fine inside fresh room strings scoped frame_is head_is judged =
     let walk = made_of ((path body).judged (function_frame frame head body) (head_bounds frame head) (begin_of frame head body)) (λ p. Ok p.0) after judged in
     let there : Here = walk.0.1 in
     let same : walk.0.0 ≡ after = cc in
@@ -72,4 +73,4 @@ function_goes s frame head body after k fine inside fresh room scoped frame_is h
     ap (λ f. (path body).judged f s.head (begin_in f false head (first_fresh head body))) frame_is
     ∙ ap (λ h. (path body).judged (function_frame frame head body) h (begin_of frame head body)) head_is
     ∙ walk.1 ∙ ap (λ (x : NotedStmt). Ok (x, there)) same in
-    body_goes s head (first_fresh head body) body after there k fine inside fresh room scoped moved
+    body_goes s head (first_fresh head body) body after there k fine inside fresh room strings scoped moved

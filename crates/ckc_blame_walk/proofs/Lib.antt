@@ -7,6 +7,7 @@ pub mod Inside
 pub mod Fresh
 pub mod Pieces
 pub mod Rooms
+pub mod Literals
 pub mod Codes
 pub mod Exits
 pub mod Compound

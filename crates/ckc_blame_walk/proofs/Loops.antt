@@ -8,6 +8,7 @@ use Rattle.ckc_base.specs.Outcomes.{Outcome, bind}
 use Rattle.ckc_syntax.specs.declared.tree.Act.{Act-F}
 use Rattle.ckc_syntax.specs.declared.tree.Act.TheVariants as act
 use Rattle.ckc_typed.specs.declared.typed.Note.{Note}
+use Rattle.ckc_typed.specs.Statics.{strings_of_expr, strings_of_value, strings_of_stmt}
 use Rattle.ckc_typed.specs.Trees.{NotedDecl, NotedExpr, NotedStmt}
 use Rattle.ckc_bounds_known.proofs.Reaching.{and_cases}
 use Rattle.ckc_bounds_points.specs.declared.frame.Frame.{Frame}
@@ -18,7 +19,7 @@ use Rattle.ckc_build_values.specs.Expressions.{expr_elaborated, literals_of}
 use Rattle.ckc_build_elaborate.specs.Literals.{literals_of_value}
 use Rattle.ckc_build_elaborate.specs.Steps.{spot, condition}
 use Rattle.ckc_build_elaborate.specs.Statements.{one, alone, code_if, literals_if, turns, act_code, part_of, stmt_elaborated}
-use Rattle.ckc_blame_sound.specs.Settings.{Setting}
+use Rattle.ckc_blame_sound.specs.Settings.{Setting, AreStrings}
 use Rattle.ckc_blame_sound.specs.Points.{IsKnown, GoesTo}
 use Rattle.ckc_blame_sound.specs.Bodies.{IsTestInBody}
 use Rattle.ckc_blame_sound.specs.Few.{nodes_of, nodes_of_value, nodes_in, HasRoom}
@@ -32,9 +33,10 @@ use Rattle.ckc_blame_walk.proofs.Flow.{AreTame, tame_there, tame_adding, stays_a
 use Rattle.ckc_blame_walk.proofs.Onward.{Onward, IsOn, onward_none, onward_through, on_there}
 use Rattle.ckc_blame_walk.proofs.Pieces.{Gives, through, nested, given, Moved, value_moves, maybe_moves}
 use Rattle.ckc_blame_walk.proofs.Rooms.{Grows, grows_through, room_after, room_less, value_nodes, value_grows, maybe_nodes, maybe_grows, nodes_if, while_nodes, for_nodes}
+use Rattle.ckc_blame_walk.proofs.Literals.{part_if, strings_if, while_strings, for_strings}
 use Rattle.ckc_blame_walk.proofs.Codes.{goes_nowhere, goes_through, IsCode, both_code, closed_code}
 use Rattle.ckc_blame_walk.proofs.Exits.{known_before, left_back, exit_front, exit_after, exit_end, loop_left, may_not}
-use Rattle.ckc_blame_walk.proofs.Compound.{Extends, extends_none, extends_through, extended_has, extended_front, same_has, part_if, assigned_if, breaks_if, continues_if, fine_if, is_plain_if, declared_if, own_of, own_if, Next, NextIf, Whole, WholeIf, is_false, part_act, code_is}
+use Rattle.ckc_blame_walk.proofs.Compound.{Extends, extends_none, extends_through, extended_has, extended_front, same_has, assigned_if, breaks_if, continues_if, fine_if, is_plain_if, declared_if, own_of, own_if, Next, NextIf, Whole, WholeIf, is_false, part_act, code_is}
 use Rattle.ckc_blame_walk.specs.Scopes.{tests_of, items_of, IsScope, AreNext}
 use Rattle.ckc_blame_walk.proofs.Standing.{Scope, Fits, Stands, Leads, scope_later, leads_quiet, next_front, next_back}
 use Rattle.ckc_blame_walk.proofs.Steps.{test_stands}
@@ -112,8 +114,8 @@ module _ (s : Setting) (Claimed : Type 0) where
       yes_adds : Adds s.frame head.at yes.at
       yes_adds = subst (λ a. Adds s.frame a yes.at) moved.at (maybe_adds s.frame true (Some v.0) v.1.at)
 
-      while_condition : (k : ℕ) → Stands s while_own here.seen → IsOn s Claimed here → AreNamed s.frame head.at.facts → HasRoom s here.next (nodes_of v.0) → IsCondition s note.mode head (expr_elaborated s.text s.variables k v.0) yes no
-      while_condition k st on named room = record {
+      while_condition : (k : ℕ) → Stands s while_own here.seen → IsOn s Claimed here → AreNamed s.frame head.at.facts → HasRoom s here.next (nodes_of v.0) → AreStrings s k (strings_of_expr v.0) → IsCondition s note.mode head (expr_elaborated s.text s.variables k v.0) yes no
+      while_condition k st on named room strings = record {
         inside = inside on.claimed;
         scope = test_stands s (Some e) st.visible st.next here.seen while_own.declared st.scope st.fits.declares (while_test st.visible st.next st.fits);
         fresh = on.fresh;
@@ -128,6 +130,7 @@ module _ (s : Setting) (Claimed : Type 0) where
         becomes = refl;
         true_side = refl;
         false_side = refl;
+        strings = strings;
       }
 
       -- a point at which the loop's head is known
@@ -159,9 +162,12 @@ module _ (s : Setting) (Claimed : Type 0) where
         grown : Grows here v.1 (nodes_of v.0)
         grown = (value_grows s.frame e head).made v is
 
-        module _ (st : Stands s while_own here.seen) (on : IsOn s Claimed here) (tame : AreTame s.frame here.at.facts) (room : HasRoom s here.next (nodes_in (stated at note (act.While v.0 q.0)))) (k : ℕ) (next : Here) (goes : GoesTo s.frame there next) where
+        module _ (st : Stands s while_own here.seen) (on : IsOn s Claimed here) (tame : AreTame s.frame here.at.facts) (room : HasRoom s here.next (nodes_in (stated at note (act.While v.0 q.0)))) (k : ℕ) (strings : AreStrings s k (strings_of_stmt (stated at note (act.While v.0 q.0)))) (next : Here) (goes : GoesTo s.frame there next) where
           abbrev points : Turns
           points = record { head = head; yes = yes; no = no; step = head; behind = next }
+
+          parts : AreStrings s k (strings_of_expr v.0) × AreStrings s (k + literals_of v.0) (strings_of_stmt q.0)
+          parts = while_strings s at note (act.While v.0 q.0) v.0 q.0 k (act.rolls-While v.0 q.0) strings
 
           head_tame : AreTame s.frame head.at.facts
           head_tame = tame_there s.frame ks here.at head.at (stays_less s.frame ks here.at) tame
@@ -185,12 +191,12 @@ module _ (s : Setting) (Claimed : Type 0) where
             points,
             record { known = λ reached. less_known s.frame ks here.at reached; seen = λ k c. c },
             (
-              while_condition k st on head_tame.1 (room_less s here.next (nodes_of v.0) (nodes_in (stated at note (act.While v.0 q.0))) (omega (arith, few)) room),
+              while_condition k st on head_tame.1 (room_less s here.next (nodes_of v.0) (nodes_in (stated at note (act.While v.0 q.0))) (omega (arith, few)) room) parts.0,
               goes_through no there next (record { known = λ reached. side_known s.frame path.breaks (Some v.0) v.1.at reached; seen = λ k c. same_has no.seen q.1.seen seen_body k c }) goes,
               closed_code s (stmt_elaborated s.text s.variables s.result (k + literals_of v.0) q.0) (in_body points) yes q.1
                   (exit_end s.frame ks yes q.1 head yes_tame.0 body.stays (extended_has yes.seen q.1.seen body.extends) to_head)
                   (body.code (body_stands st) (on_there s head yes moved.onward on) yes_tame
-                  (room_after s here.next v.1.next (nodes_of v.0) (nodes_in q.0) (nodes_in (stated at note (act.While v.0 q.0))) few grown room) (k + literals_of v.0) (in_body points) body_may),
+                  (room_after s here.next v.1.next (nodes_of v.0) (nodes_in q.0) (nodes_in (stated at note (act.While v.0 q.0))) few grown room) (k + literals_of v.0) (in_body points) parts.1 body_may),
               λ exits. goes_nowhere head,
             ),
             behind,
@@ -204,9 +210,9 @@ module _ (s : Setting) (Claimed : Type 0) where
           stays = stays_more s.frame ks here.at v.1.at there.at (subst (λ a. Stays s.frame ks here.at a) (sym moved.at) (stays_less s.frame ks here.at)) (other_adds s.frame path.breaks (Some v.0) v.1.at);
           leads = while_leads;
           grows = grows_through here.next v.1.next q.1.next (nodes_of v.0) (nodes_in q.0) (nodes_in (stated at note (act.While v.0 q.0))) few grown body.grows;
-          code = λ st on tame room k exits may. inr (λ next rest goes behind.
+          code = λ st on tame room k exits strings may. inr (λ next rest goes behind.
               subst (λ fs. Judged s (chained fs rest) exits here) (sym (code_is s Claimed at note (Act-F.While v.0 q.0) (act.While v.0 q.0) k (act.rolls-While v.0 q.0)))
-              (while_judged_code st on tame room k next goes exits rest behind));
+              (while_judged_code st on tame room k strings next goes exits rest behind));
         }
 
     pub while_gives : Gives (Next s Claimed ks mine while_own left turned here) (while_judged s.frame s.head at note e path here)
@@ -330,8 +336,8 @@ module _ (s : Setting) (Claimed : Type 0) where
           fits = (for_fits st.visible st.next st.fits).body;
         }
 
-        for_condition : (k : ℕ) → Stands s for_own here.seen → IsOn s Claimed for_head → AreNamed s.frame for_head.at.facts → HasRoom s p.1.next (nodes_of_value v.0) → IsCondition s note.mode for_head (condition s.text s.variables k v.0) for_yes for_no
-        for_condition k st on named room = record { room = subst (HasRoom s p.1.next) ((maybe_nodes s.frame e for_head).made v judged) room; before = e; after = v.0; literals = k; behind = v.1; inside = inside on.claimed; scope = for_scope st; fresh = on.fresh; counting = on.counts; named = named; judged = judged; becomes = refl; true_side = refl; false_side = refl }
+        for_condition : (k : ℕ) → Stands s for_own here.seen → IsOn s Claimed for_head → AreNamed s.frame for_head.at.facts → HasRoom s p.1.next (nodes_of_value v.0) → AreStrings s k (strings_of_value v.0) → IsCondition s note.mode for_head (condition s.text s.variables k v.0) for_yes for_no
+        for_condition k st on named room strings = record { strings = strings; room = subst (HasRoom s p.1.next) ((maybe_nodes s.frame e for_head).made v judged) room; before = e; after = v.0; literals = k; behind = v.1; inside = inside on.claimed; scope = for_scope st; fresh = on.fresh; counting = on.counts; named = named; judged = judged; becomes = refl; true_side = refl; false_side = refl }
 
         for_exit : (x exit : Here) → x.at ≡ for_head.at → ((k : ℕ) → Contains x.seen k → Contains for_yes.seen k) → GoesTo s.frame x exit → IsExit s.frame (us ++ ts) for_yes exit
         for_exit x exit same seen goes = record {
@@ -438,7 +444,9 @@ module _ (s : Setting) (Claimed : Type 0) where
             to_step_grown true = body_grown
             to_step_grown false = body_grown
 
-            module _ (st : Stands s for_own here.seen) (on : IsOn s Claimed here) (tame : AreTame s.frame here.at.facts) (room : HasRoom s here.next for_whole) (k : ℕ) (next : Here) (goes : GoesTo s.frame for_there next) where
+            module _ (st : Stands s for_own here.seen) (on : IsOn s Claimed here) (tame : AreTame s.frame here.at.facts) (room : HasRoom s here.next for_whole) (k : ℕ)
+                (condition_strings : AreStrings s k (strings_of_value v.0)) (step_strings : AreStrings s (k + literals_of_value v.0) (strings_if x.0)) (body_strings : AreStrings s (k + literals_of_value v.0 + literals_if (part_if x.0)) (strings_of_stmt q.0))
+                (next : Here) (goes : GoesTo s.frame for_there next) where
               abbrev for_points : Turns
               for_points = record { head = for_head; yes = for_yes; no = for_no; step = step_at path.continues; behind = next }
 
@@ -472,19 +480,19 @@ module _ (s : Setting) (Claimed : Type 0) where
                 for_points,
                 record { known = λ reached. less_known s.frame (us ++ ts) p.1.at reached; seen = λ k c. c },
                 (
-                  for_condition k st head_on (for_head_tame begun_tame).1 (room_after s here.next p.1.next (nodes_if p.0) (nodes_of_value v.0) for_whole (omega (arith, for_few)) first.grows room),
+                  for_condition k st head_on (for_head_tame begun_tame).1 (room_after s here.next p.1.next (nodes_if p.0) (nodes_of_value v.0) for_whole (omega (arith, for_few)) first.grows room) condition_strings,
                   goes_through for_no for_there next (record { known = λ reached. side_known s.frame path.breaks v.0 v.1.at reached; seen = has_closed }) goes,
                   closed_code s (stmt_elaborated s.text s.variables s.result (k + literals_of_value v.0 + literals_if (part_if x.0)) q.0) (in_body for_points) for_yes q.1
                       (to_the_step begun_tame path.continues)
                       (body.code (inner_stands st) yes_on (for_tame begun_tame)
-                      (room_after s here.next v.1.next (nodes_if p.0 + nodes_of_value v.0) (nodes_in q.0) for_whole (omega (arith, for_few)) for_grown room) (k + literals_of_value v.0 + literals_if (part_if x.0)) (in_body for_points) for_may),
+                      (room_after s here.next v.1.next (nodes_if p.0 + nodes_of_value v.0) (nodes_in q.0) for_whole (omega (arith, for_few)) for_grown room) (k + literals_of_value v.0 + literals_if (part_if x.0)) (in_body for_points) body_strings for_may),
                   λ exits.
                       closed_code s (code_if (part_if x.0) s.text s.variables s.result (k + literals_of_value v.0)) (ending exits for_head) (step_at path.continues) x.1
                       (exit_end s.frame ts (step_at path.continues) x.1 for_head (step_tame begun_tame path.continues).0 last.stays (extended_has (step_at path.continues).seen x.1.seen last.extends)
                       (head_after begun_tame path.continues))
                       (last.code (step_stands path.continues st) (on_there s for_yes (step_at path.continues) (to_step_onward path.continues) yes_on) (step_tame begun_tame path.continues)
                       (room_after s here.next (step_at path.continues).next (nodes_if p.0 + nodes_of_value v.0 + nodes_in q.0) (nodes_if x.0) for_whole for_few (to_step_grown path.continues) room)
-                      (k + literals_of_value v.0) (ending exits for_head) (step_may exits)),
+                      (k + literals_of_value v.0) (ending exits for_head) step_strings (step_may exits)),
                 ),
                 behind,
               )
@@ -505,14 +513,15 @@ module _ (s : Setting) (Claimed : Type 0) where
               stays = for_stays;
               leads = leads_quiet s for_own here.seen for_there.seen refl seen_closed;
               grows = grows_through here.next (step_at path.continues).next x.1.next (nodes_if p.0 + nodes_of_value v.0 + nodes_in q.0) (nodes_if x.0) for_whole for_few (to_step_grown path.continues) last.grows;
-              code = λ st on tame room k exits may.
+              code = λ st on tame room k exits strings may.
                   let n = k + literals_if (part_if p.0) in
+                  let parts = for_strings s at note (act.For p.0 v.0 x.0 q.0) p.0 v.0 x.0 q.0 k (act.rolls-For p.0 v.0 x.0 q.0) strings in
                   let plain = wi.plain (begins_plain init_nest begin).1 in
                   subst (λ fs. IsCode s fs exits here for_there)
                   (sym (code_is s Claimed at note (Act-F.For p.0 v.0 x.0 q.0) (act.For p.0 v.0 x.0 q.0) k (act.rolls-For p.0 v.0 x.0 q.0) ∙ for_code at note.mode p.0 v.0 x.0 q.0 k))
                   (both_code s (code_if (part_if p.0) s.text s.variables s.result k) (one (turns s.text s.variables s.result (spot at note.mode) n v.0 (part_if x.0) (part_of q.0))) exits here p.1 for_there
-                  (first.code (first_stands st) on tame (room_less s here.next (nodes_if p.0) for_whole (omega (arith, for_few)) room) k exits (may_not s.frame is (breaks_if init) (continues_if init) here exits plain.0 plain.1))
-                  (inr (λ next rest goes behind. for_judged_code st on tame room n next goes exits rest behind)));
+                  (first.code (first_stands st) on tame (room_less s here.next (nodes_if p.0) for_whole (omega (arith, for_few)) room) k exits parts.0 (may_not s.frame is (breaks_if init) (continues_if init) here exits plain.0 plain.1))
+                  (inr (λ next rest goes behind. for_judged_code st on tame room n parts.1 parts.2 parts.3 next goes exits rest behind)));
             }
 
     abbrev ForNext : NotedStmt × Here → Type 0

@@ -16,6 +16,7 @@ use Rattle.ckc_syntax.specs.declared.tree.Act.TheVariants as act
 use Rattle.ckc_syntax.specs.declared.tree.Stmt.{Stmt-F, map-Stmt, ind-Stmt, roll-Stmt, fold-roll-Stmt}
 use Rattle.ckc_typed.specs.declared.typed.Note.{Note}
 use Rattle.ckc_typed.specs.Trees.{NotedAct, NotedStmt, NotedExpr, NotedDecl, NotedInit}
+use Rattle.ckc_typed.specs.Statics.{strings_of_stmt}
 use Rattle.ckc_typed.specs.Types.{type_written}
 use Rattle.ckc_bounds_known.specs.Shown.{Known}
 use Rattle.ckc_bounds_known.proofs.Reaching.{and_cases}
@@ -27,11 +28,12 @@ use Rattle.ckc_bounds_stores.specs.Stores.{with_store, stores_of}
 use Rattle.ckc_bounds_stores.specs.Targets.{local_of}
 use Rattle.ckc_bounds_statements.specs.Paths.{Here, value_judged, maybe_judged, init_judged, side_of, target_in, local_in, value_form, start_form, started, starts_within, declared_here, bounds_judged, stated, sides_judged, behind_stores, is_returned, gone, is_good, Path, ActPath, all_judged, parts_judged, bundle_judged, closed, local_judged, assign_judged, call_judged, return_judged, check_judged, block_judged, act_path, stmt_path, path_of_act, path}
 use Rattle.ckc_source.specs.Code.{Code, Return, Check, Bundle, chained}
+use Rattle.ckc_build_elaborate.proofs.Counted as counted
 use Rattle.ckc_build_elaborate.specs.Literals.{literals_of_bounds}
 use Rattle.ckc_build_values.specs.Expressions.{expr_elaborated, literals_of}
 use Rattle.ckc_build_elaborate.specs.Steps.{spot, nowhere, destination_of, destination_for, assigned, declared, returned}
 use Rattle.ckc_build_elaborate.specs.Statements.{all_code, all_assigns, part_of, stmt_elaborated}
-use Rattle.ckc_blame_sound.specs.Settings.{Setting}
+use Rattle.ckc_blame_sound.specs.Settings.{Setting, AreStrings}
 use Rattle.ckc_blame_sound.specs.Bodies.{IsInBody}
 use Rattle.ckc_blame_sound.specs.Few.{nodes_of, nodes_of_value, nodes_in, HasRoom}
 use Rattle.ckc_blame_sound.specs.Steps.{is_simple}
@@ -45,6 +47,7 @@ use Rattle.ckc_blame_walk.proofs.Onward.{Onward, IsOn, onward_none, onward_throu
 use Rattle.ckc_blame_walk.proofs.Inside.{PartsInBody, parts_inside}
 use Rattle.ckc_blame_walk.proofs.Pieces.{Gives, through, nested, given, unless_gives, Moved, moved_not, moved_through, value_moves, maybe_moves, init_moves, value_named, locals_of, as_list, named_list, Stored, stores_stay}
 use Rattle.ckc_blame_walk.proofs.Rooms.{Grows, grows_none, grows_same, grows_more, grows_through, room_after, room_less, value_grows, maybe_grows, init_grows, nodes_each, block_nodes, bundle_nodes, assign_nodes, call_nodes, check_nodes, return_nodes, local_nodes}
+use Rattle.ckc_blame_walk.proofs.Literals.{strings_each, two_strings, block_strings}
 use Rattle.ckc_blame_walk.proofs.Codes.{goes_nowhere, IsWalk, IsCode, GoesOn, step_code, both_code, further_code, started_on, assigned_on}
 use Rattle.ckc_blame_walk.proofs.Exits.{exit_goes, may_first, may_after}
 use Rattle.ckc_blame_walk.proofs.Compound.{Extends, extends_none, extends_through, extended_has, extended_front, same_has, own_of, Next, Whole, whole_none, whole_some, code_is, if_gives}
@@ -100,7 +103,7 @@ module _ (s : Setting) (Claimed : Type 0) where
     pub stays : Stays s.frame ks here.at p.1.at
     pub leads : Leads s own here.seen p.1.seen
     pub grows : Grows here p.1 (nodes_each p.0)
-    pub code : Stands s own here.seen → IsOn s Claimed here → AreTame s.frame here.at.facts → HasRoom s here.next (nodes_each p.0) → (k : ℕ) (exits : Exits) → MayLeave s.frame ks left turned here exits
+    pub code : Stands s own here.seen → IsOn s Claimed here → AreTame s.frame here.at.facts → HasRoom s here.next (nodes_each p.0) → (k : ℕ) (exits : Exits) → AreStrings s k (strings_each p.0) → MayLeave s.frame ks left turned here exits
         → IsCode s (all_code (map part_of p.0) s.text s.variables s.result k) exits here p.1
 
   record ActHolds (path : ActPath) (nest : Nesting) (w : tests.Walked) (a : NotedAct) : Type 0 where
@@ -191,7 +194,7 @@ module _ (s : Setting) (Claimed : Type 0) where
     stays = stays_none s.frame [] here.at;
     leads = leads_quiet s (own_in []) here.seen here.seen refl refl;
     grows = grows_none here.next 0;
-    code = λ stands on tame room k exits may. inl (refl, refl);
+    code = λ stands on tame room k exits strings may. inl (refl, refl);
   })
   all_gives (k ∷ ks) fine inside here =
       let fines = and_cases (nesting_of k.0).fine (fine_in ks) fine in
@@ -207,13 +210,14 @@ module _ (s : Setting) (Claimed : Type 0) where
             let g : ListFits k ks visible next = list_fits k ks visible next f in
             leads_both s (own_of (scope_of (items_of s) k.0) (path k.0)) (own_in ks) here.seen p.1.seen q.1.seen one.leads rest.leads visible next g.first g.rest w;
         grows = grows_through here.next p.1.next q.1.next (nodes_in p.0) (nodes_each q.0) (nodes_in p.0 + nodes_each q.0) (omega arith) one.grows rest.grows;
-        code = λ st on tame room n exits may.
+        code = λ st on tame room n exits strings may.
+            let parts = two_strings s (strings_of_stmt p.0) (strings_each q.0) n (part_of p.0).literals (counted.stmt p.0) strings in
             let g : ListFits k ks st.visible st.next = list_fits k ks st.visible st.next st.fits in
             both_code s (stmt_elaborated s.text s.variables s.result n p.0) (all_code (map part_of q.0) s.text s.variables s.result (n + (part_of p.0).literals)) exits here p.1 q.1
-            (one.code (record { visible = st.visible; next = st.next; scope = st.scope; fits = g.first }) on tame (room_less s here.next (nodes_in p.0) (nodes_in p.0 + nodes_each q.0) (omega arith) room) n exits (may_first s.frame (path k.0).assigned (assigned_in ks) (path k.0).breaks (breaks_in ks) (path k.0).continues (continues_in ks) here exits may))
+            (one.code (record { visible = st.visible; next = st.next; scope = st.scope; fits = g.first }) on tame (room_less s here.next (nodes_in p.0) (nodes_in p.0 + nodes_each q.0) (omega arith) room) n exits parts.0 (may_first s.frame (path k.0).assigned (assigned_in ks) (path k.0).breaks (breaks_in ks) (path k.0).continues (continues_in ks) here exits may))
             (rest.code (record { visible = st.visible ++ (scope_of (items_of s) k.0).leaves; next = st.next + length (path k.0).declared; scope = one.leads st.visible st.next g.first st.scope; fits = g.rest })
             (on_there s here p.1 one.onward on) (tame_there s.frame (path k.0).assigned here.at p.1.at one.stays tame)
-            (room_after s here.next p.1.next (nodes_in p.0) (nodes_each q.0) (nodes_in p.0 + nodes_each q.0) (omega arith) one.grows room) (n + (part_of p.0).literals) exits
+            (room_after s here.next p.1.next (nodes_in p.0) (nodes_each q.0) (nodes_in p.0 + nodes_each q.0) (omega arith) one.grows room) (n + (part_of p.0).literals) exits parts.1
             (may_after s.frame (path k.0).assigned (assigned_in ks) (path k.0).breaks (breaks_in ks) (path k.0).continues (continues_in ks) here p.1 exits tame.0 one.stays
             (extended_has here.seen p.1.seen one.extends) may));
       })))
@@ -249,12 +253,12 @@ module _ (s : Setting) (Claimed : Type 0) where
         stays = all.stays;
         leads = leads_quiet s (own_of_act s (Act-F.Block m (firsts ks))) here.seen there.seen refl front;
         grows = grows_more here.next p.1.next (nodes_each p.0) (nodes_in (stated at note (act.Block m p.0))) (block_nodes at note (act.Block m p.0) m p.0 (act.rolls-Block m p.0)) all.grows;
-        code = λ st on tame room k exits may.
+        code = λ st on tame room k exits strings may.
             subst (λ fs. IsCode s fs exits here there) (sym (code_is s Claimed at note (Act-F.Block m p.0) (act.Block m p.0) k (act.rolls-Block m p.0)))
             (further_code s (all_code (map part_of p.0) s.text s.variables s.result k) exits here p.1 there
             (record { known = (goes_nowhere p.1).known; seen = λ n c. extended_has here.seen p.1.seen all.extends n (same_has here.seen there.seen front n c) })
             (λ e. ap (λ (h : Here). record h { seen = take (length here.seen) h.seen }) e ∙ ap (λ x. record here { seen = x }) (extended_front here.seen here.seen (extends_none here.seen here.seen refl)))
-            (all.code (record { visible = st.visible; next = st.next; scope = st.scope; fits = record { passes = st.fits.passes; declares = st.fits.declares } }) on tame (room_less s here.next (nodes_each p.0) (nodes_in (stated at note (act.Block m p.0))) (block_nodes at note (act.Block m p.0) m p.0 (act.rolls-Block m p.0)) room) k exits may));
+            (all.code (record { visible = st.visible; next = st.next; scope = st.scope; fits = record { passes = st.fits.passes; declares = st.fits.declares } }) on tame (room_less s here.next (nodes_each p.0) (nodes_in (stated at note (act.Block m p.0))) (block_nodes at note (act.Block m p.0) m p.0 (act.rolls-Block m p.0)) room) k exits (block_strings s at note (act.Block m p.0) m p.0 k (act.rolls-Block m p.0) strings) may));
       }))
 
   -- ---- statements that are a step
@@ -276,9 +280,9 @@ module _ (s : Setting) (Claimed : Type 0) where
       stays = stays;
       leads = leads;
       grows = grows;
-      code = λ st on tame room k exits may.
+      code = λ st on tame room k exits strings may.
           let f = becomes k in
-          step_code s before (stated at note b) here there k exits f.0 (ap is_simple same ∙ simple) inside (step_stands s before x same simple assigns here.seen st) on tame.1 walk room f.1 f.2;
+          step_code s before (stated at note b) here there k exits f.0 (ap is_simple same ∙ simple) inside (step_stands s before x same simple assigns here.seen st) on tame.1 walk room strings f.1 f.2;
     }
 
     -- a step in the same scope
@@ -464,7 +468,7 @@ module _ (s : Setting) (Claimed : Type 0) where
       stays = stays_none s.frame [] here.at;
       leads = leads_quiet s (own_of_act s Act-F.Empty) here.seen here.seen refl refl;
       grows = grows_none here.next _;
-      code = λ st on tame room k exits may. inl (code_is s Claimed at note Act-F.Empty act.Empty k act.rolls-Empty, refl);
+      code = λ st on tame room k exits strings may. inl (code_is s Claimed at note Act-F.Empty act.Empty k act.rolls-Empty, refl);
     });
     part = λ bundle at note here. no_part _ _ here bundle;
     plain = λ e. absurd (cc);
@@ -532,7 +536,7 @@ module _ (s : Setting) (Claimed : Type 0) where
       stays = stays_gone s.frame [] here.at;
       leads = leads_quiet s (own_of_act s Act-F.Break) here.seen here.seen refl refl;
       grows = grows_none here.next _;
-      code = λ st on tame room k exits may. inr (λ next rest goes j.
+      code = λ st on tame room k exits strings may. inr (λ next rest goes j.
           subst (λ fs. Judged s (chained fs rest) exits here) (sym (code_is s Claimed at note Act-F.Break act.Break k act.rolls-Break)) (exit_goes s.frame [] here exits.breaks (may.breaks refl)));
     });
     part = λ bundle at note here. no_part _ _ here bundle;
@@ -546,7 +550,7 @@ module _ (s : Setting) (Claimed : Type 0) where
       stays = stays_gone s.frame [] here.at;
       leads = leads_quiet s (own_of_act s Act-F.Continue) here.seen here.seen refl refl;
       grows = grows_none here.next _;
-      code = λ st on tame room k exits may. inr (λ next rest goes j.
+      code = λ st on tame room k exits strings may. inr (λ next rest goes j.
           subst (λ fs. Judged s (chained fs rest) exits here) (sym (code_is s Claimed at note Act-F.Continue act.Continue k act.rolls-Continue)) (exit_goes s.frame [] here exits.continues (may.continues refl)));
     });
     part = λ bundle at note here. no_part _ _ here bundle;

@@ -4,6 +4,7 @@ ghost use Rattle.std.specs.Prelude.{◌≡◌, ℕ, true, false, List, Ok};
 ghost use Rattle.std.specs.List.{Contains};
 ghost use Rattle.ckc_syntax.specs.declared.tree.Item.TheVariants as item;
 ghost use Rattle.ckc_typed.specs.declared.typed.Typed.{Typed};
+ghost use Rattle.ckc_typed.specs.Statics.{strings_of_stmt};
 ghost use Rattle.ckc_typed.specs.Trees.{NotedHead, NotedStmt};
 ghost use Rattle.ckc_bounds_points.specs.declared.frame.Frame.{Frame};
 ghost use Rattle.ckc_bounds_points.specs.Flow.{State, less};
@@ -13,7 +14,7 @@ ghost use Rattle.ckc_bounds.specs.Texts.{body_judged};
 ghost use Rattle.ckc_bounds.specs.Phase.{bounding};
 ghost use Rattle.ckc_source.specs.Code.{Code, Function, chained};
 ghost use Rattle.ckc_build_elaborate.specs.Statements.{stmt_elaborated};
-ghost use Rattle.ckc_blame_sound.specs.Settings.{Setting, IsFunction, frame_of_text};
+ghost use Rattle.ckc_blame_sound.specs.Settings.{Setting, AreStrings, IsFunction, frame_of_text};
 ghost use Rattle.ckc_blame_sound.specs.Bodies.{IsInBody, IsNextFresh};
 ghost use Rattle.ckc_blame_sound.specs.Few.{nodes_in, HasRoom};
 ghost use Rattle.ckc_blame_sound.specs.Judged.{Exits, Judged};
@@ -33,14 +34,15 @@ pub fn loops_keep_their_heads()
 {}
 
 /// The code of a statement of a function that the walk has judged is judged from the point where the walk came to it, if
-/// its names are visible there, there is room for its fresh variables, the code after it is judged from the point where
-/// the walk left it, and each `break` and `continue` that leaves it may leave it there.
+/// its names are visible there, there is room for its fresh variables, its string literals have static objects, the code
+/// after it is judged from the point where the walk left it, and each `break` and `continue` that leaves it may leave it
+/// there.
 pub fn walks_are_judged()
     ensures { (s : Setting) (st after : NotedStmt) (here there : Here) (literals : ℕ)
         (exits : Exits) (rest : Code) → (nesting_of st).fine ≡ true → IsInBody s st
         → IsNextFresh s here.next → here.counting ≡ false → AreSmall here.at.facts
         → AreNamed s.frame here.at.facts → IsScoped s st here.seen
-        → HasRoom s here.next (nodes_in st)
+        → HasRoom s here.next (nodes_in st) → AreStrings s literals (strings_of_stmt after)
         → (path st).judged s.frame s.head here ≡ Ok (after, there)
         → MayLeave s.frame (path st).assigned (path st).breaks (path st).continues here exits
         → Judged s rest exits there

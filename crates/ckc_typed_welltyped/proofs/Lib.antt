@@ -9,8 +9,8 @@ mod Acts
 mod TypedActs
 mod ActsBack
 mod Texts
-mod Insides
-mod Folds
+pub mod Insides
+pub mod Folds
 pub mod MarksKept
 mod DepthKept
 mod SmallKept
