@@ -29,9 +29,11 @@ use Rattle.ckc_build_elaborate.specs.Lists.{numbered}
 use Rattle.ckc_build_elaborate.specs.Names.{number_of}
 use Rattle.ckc_build_elaborate.specs.Objects.{count_declared}
 use Rattle.ckc_blame_sound.specs.Settings.{Setting, IsFunction, frame_of_text, setting_of}
+use Rattle.ckc_blame_sound.proofs.Strings.{NumbersStrings, numbers_first, numbers_later}
 use Rattle.ckc_blame_texts.specs.Judged.{IsJudged}
 use Rattle.ckc_blame_texts.proofs.Functions.{tree_named}
 use Rattle.ckc_blame_texts.proofs.Lists.{more_at}
+use Rattle.ckc_blame_texts.proofs.Literals.{text_strings}
 use Rattle.ckc_blame_walk.proofs.Main.{find_function}
 use Rattle.ckc_blame_facts.proofs.SameHeads.{heads_same, same_bounds}
 
@@ -300,22 +302,23 @@ record HasBody (k : ℕ) (items : List NotedItem) (g : NotedHead) : Type 0 where
 -- ---- functions of the program
 
 -- a function that the program has at the number of a name
-record IsCalled (p : Typed) (k : ℕ) (items : List NotedItem) (f : Function) : Type 0 where
+record IsCalled (p : Typed) (k c : ℕ) (items : List NotedItem) (f : Function) : Type 0 where
   pub head : NotedHead
   pub body : NotedStmt
   pub literals : ℕ
   pub there : Contains items (item.Function head body)
   pub named : head.name ≡ name.Function k
   pub runs : f ≡ function_elaborated p literals head body
+  pub strings : NumbersStrings c items literals (item.Function head body)
 
-more_called : (p : Typed) (k : ℕ) (i : NotedItem) (items : List NotedItem) (f : Function) → IsCalled p k items f → IsCalled p k (i ∷ items) f
-more_called p k i items f c = record { head = c.head; body = c.body; literals = c.literals; there = later_in i items (item.Function c.head c.body) c.there; named = c.named; runs = c.runs }
+more_called : (p : Typed) (k c : ℕ) (i : NotedItem) (items : List NotedItem) (f : Function) → IsCalled p k (c + literals_of_item i) items f → IsCalled p k c (i ∷ items) f
+more_called p k c i items f r = record { head = r.head; body = r.body; literals = r.literals; there = later_in i items (item.Function r.head r.body) r.there; named = r.named; runs = r.runs; strings = numbers_later i items c r.literals (item.Function r.head r.body) r.strings }
 
 name_is : (n : Name) (m : ℕ) → same_name n (name.Function m) ≡ true → n ≡ name.Function m
 name_is (name.Function k) m e = ap name.Function (eqb-true k m e)
 name_is n m e = absurd cc
 
-found : (p : Typed) (k c : ℕ) (items : List NotedItem) (f : Function) → slice_get (numbered (functions_in p) literals_of_item c items) (number_of (name.Function k) items) ≡ Some f → IsCalled p k items f
+found : (p : Typed) (k c : ℕ) (items : List NotedItem) (f : Function) → slice_get (numbered (functions_in p) literals_of_item c items) (number_of (name.Function k) items) ≡ Some f → IsCalled p k c items f
 found p k c [] f e = absurd cc
 found p k c (item.Function h body ∷ rest) f e = by (same_name h.name (name.Function k)) refl e (λ d. found p k (c + literals_of_item (item.Function h body)) rest f d)
   where
@@ -323,19 +326,19 @@ found p k c (item.Function h body ∷ rest) f e = by (same_name h.name (name.Fun
     more = numbered (functions_in p) literals_of_item (c + literals_of_item (item.Function h body)) rest
 
     by : (b : Bool) → same_name h.name (name.Function k) ≡ b → slice_get (function_elaborated p c h body ∷ more) (if b then 0 else number_of (name.Function k) rest + 1) ≡ Some f
-        → (slice_get more (number_of (name.Function k) rest) ≡ Some f → IsCalled p k rest f) → IsCalled p k (item.Function h body ∷ rest) f
-    by true t u later = record { head = h; body = body; literals = c; there = first_in (item.Function h body) rest; named = name_is h.name k t; runs = first_is (function_elaborated p c h body) u }
+        → (slice_get more (number_of (name.Function k) rest) ≡ Some f → IsCalled p k (c + literals_of_item (item.Function h body)) rest f) → IsCalled p k c (item.Function h body ∷ rest) f
+    by true t u later = record { head = h; body = body; literals = c; there = first_in (item.Function h body) rest; named = name_is h.name k t; runs = first_is (function_elaborated p c h body) u; strings = numbers_first (item.Function h body) rest c }
       where
         first_is : (g : Function) → slice_get (g ∷ more) 0 ≡ Some f → f ≡ g
         first_is g v = cc
     by false t u later =
         let next : suc (number_of (name.Function k) rest) ≡ number_of (name.Function k) rest + 1 = omega arith in
-        more_called p k (item.Function h body) rest f (later (ap (slice_get (function_elaborated p c h body ∷ more)) next ∙ u))
-found p k c (item.Directive d ∷ rest) f e = more_called p k (item.Directive d) rest f (found p k (c + literals_of_item (item.Directive d)) rest f e)
-found p k c (item.Tag t at ∷ rest) f e = more_called p k (item.Tag t at) rest f (found p k (c + literals_of_item (item.Tag t at)) rest f e)
-found p k c (item.Struct t ms at ∷ rest) f e = more_called p k (item.Struct t ms at) rest f (found p k (c + literals_of_item (item.Struct t ms at)) rest f e)
-found p k c (item.Static d ∷ rest) f e = more_called p k (item.Static d) rest f (found p k (c + literals_of_item (item.Static d)) rest f e)
-found p k c (item.Proto g ∷ rest) f e = more_called p k (item.Proto g) rest f (found p k (c + literals_of_item (item.Proto g)) rest f e)
+        more_called p k c (item.Function h body) rest f (later (ap (slice_get (function_elaborated p c h body ∷ more)) next ∙ u))
+found p k c (item.Directive d ∷ rest) f e = more_called p k c (item.Directive d) rest f (found p k (c + literals_of_item (item.Directive d)) rest f e)
+found p k c (item.Tag t at ∷ rest) f e = more_called p k c (item.Tag t at) rest f (found p k (c + literals_of_item (item.Tag t at)) rest f e)
+found p k c (item.Struct t ms at ∷ rest) f e = more_called p k c (item.Struct t ms at) rest f (found p k (c + literals_of_item (item.Struct t ms at)) rest f e)
+found p k c (item.Static d ∷ rest) f e = more_called p k c (item.Static d) rest f (found p k (c + literals_of_item (item.Static d)) rest f e)
+found p k c (item.Proto g ∷ rest) f e = more_called p k c (item.Proto g) rest f (found p k (c + literals_of_item (item.Proto g)) rest f e)
 
 is_defined : (k : ℕ) (items : List NotedItem) (h : NotedHead) (body : NotedStmt) → Contains items (item.Function h body) → h.name ≡ name.Function k → elaborated.IsDefined (name.Function k) items
 is_defined k [] h body c n = absurd (none_in (item.Function h body) c)
@@ -410,7 +413,7 @@ module _ (p : Typed) (j : IsJudged p) where
       let c = found p k (count_declared p.tree.items) p.tree.items callee e in
       let S = setting_of p c.head c.body in (
         S,
-        record { head = c.head; body = c.body; literals = c.literals; there = c.there; judged = refl; runs = c.runs },
+        record { head = c.head; body = c.body; literals = c.literals; there = c.there; judged = refl; runs = c.runs; strings = c.strings S (text_strings j.typed p c.head c.body j.has_types.typed j.has_bounds) },
         head_is s f k c.head c.body is c.there c.named,
       )
 

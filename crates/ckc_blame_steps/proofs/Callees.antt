@@ -18,7 +18,9 @@ use Rattle.ckc_build_elaborate.specs.Lists.{numbered}
 use Rattle.ckc_build_elaborate.specs.Names.{number_of, params_of}
 use Rattle.ckc_build_elaborate.specs.Objects.{count_declared}
 use Rattle.ckc_blame_sound.specs.Settings.{setting_of}
+use Rattle.ckc_blame_sound.proofs.Strings.{NumbersStrings, numbers_first, numbers_later}
 use Rattle.ckc_blame_texts.specs.Judged.{IsJudged}
+use Rattle.ckc_blame_texts.proofs.Literals.{text_strings}
 use Rattle.ckc_blame_facts.proofs.Callees.{first_in, later_in, head_is}
 use Rattle.ckc_blame_steps.specs.Callees.{HaveCallees}
 
@@ -32,6 +34,7 @@ record IsFound (p : Typed) (k c : ℕ) (items : List NotedItem) (t : Signature) 
   pub at : slice_get (numbered (functions_in p) literals_of_item c items) (number_of (name.Function k) items) ≡ Some (function_elaborated p literals head body)
   pub params : params_of (name.Function k) items ≡ head.params
   pub signature : t ≡ signature_declared (bare_head head)
+  pub strings : NumbersStrings c items literals (item.Function head body)
 
 abbrev is_called : ℕ → Signature → Bool
 is_called k s = same_name s.name (name.Function k)
@@ -58,6 +61,7 @@ module _ (p : Typed) (k : ℕ) (t : Signature) where
         ∙ ap (slice_get (numbered (functions_in p) literals_of_item (c + literals_of_item i) rest)) number ∙ f.at;
     params = params ∙ f.params;
     signature = f.signature;
+    strings = numbers_later i rest c f.literals (item.Function f.head f.body) f.strings;
   }
 
   found : (c : ℕ) (items : List NotedItem) → find (is_called k) (signatures items) ≡ Some t → IsFound p k c items t
@@ -78,6 +82,7 @@ module _ (p : Typed) (k : ℕ) (t : Signature) where
         at = ap (λ x. slice_get (function_elaborated p c h body ∷ more) (if x then 0 else number_of (name.Function k) rest + 1)) u;
         params = ap (λ x. if x then h.params else params_of (name.Function k) rest) u;
         signature = let same : ◌≡◌ {A = Option Signature} (Some (signature_declared (bare_head h))) (Some t) = e in cc;
+        strings = numbers_first (item.Function h body) rest c;
       }
       by false u e later =
           let f = later e in
@@ -92,6 +97,7 @@ module _ (p : Typed) (k : ℕ) (t : Signature) where
                 ∙ ap (slice_get (function_elaborated p c h body ∷ more)) next ∙ f.at;
             params = ap (λ x. if x then h.params else params_of (name.Function k) rest) u ∙ f.params;
             signature = f.signature;
+            strings = numbers_later (item.Function h body) rest c f.literals (item.Function f.head f.body) f.strings;
           }
   found c (item.Directive d ∷ rest) e = passed c (item.Directive d) rest refl refl refl (found (c + literals_of_item (item.Directive d)) rest e)
   found c (item.Tag n at ∷ rest) e = passed c (item.Tag n at) rest refl refl refl (found (c + literals_of_item (item.Tag n at)) rest e)
@@ -113,7 +119,7 @@ callees_known p j s f k t is named =
     record {
       callee = function_elaborated p at.literals at.head at.body;
       called = setting_of p at.head at.body;
-      function = record { head = at.head; body = at.body; literals = at.literals; there = at.there; judged = refl; runs = refl };
+      function = record { head = at.head; body = at.body; literals = at.literals; there = at.there; judged = refl; runs = refl; strings = at.strings (setting_of p at.head at.body) (text_strings j.typed p at.head at.body j.has_types.typed j.has_bounds) };
       there = at.at;
       head = head_is p j s f k at.head at.body is at.there at.named;
       params = at.params;
