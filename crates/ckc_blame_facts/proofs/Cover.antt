@@ -233,7 +233,7 @@ module _ (globals : Globals) (s : Setting) (store : Store) (seen : List ℕ) (to
   node_covered mode t (Node-F.Cast w e) row raw safe scope spoken parts = tt
   node_covered mode t (Node-F.Size w) row raw safe scope spoken parts = tt
   node_covered mode t (Node-F.Trusted w e l) row raw safe scope spoken parts = absurd (cc)
-  node_covered mode t (Node-F.Tested w e l) row raw safe scope spoken parts = absurd spoken
+  node_covered mode t (Node-F.Tested w e l) row raw safe scope spoken parts = λ one. told.ones
   node_covered mode t (Node-F.Call n es) row raw safe scope spoken parts = absurd spoken
   node_covered mode t (Node-F.Calloc w e u) row raw safe scope spoken parts = absurd spoken
 

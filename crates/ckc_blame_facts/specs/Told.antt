@@ -54,10 +54,9 @@ pub record IsOtherElement (e : NotedExpr) : Type 0 where
 abbrev pub IsReadElement : NotedExpr → Type 0
 IsReadElement e = (is_integer (element_of e.note.ctype) ≡ true) ⊎ IsOtherElement e
 
--- Of which nodes it is said what they come to: no cast that is checked, no call, no allocation, and no address but
--- those that may be taken; `.` gives a member of what has a place.
+-- Of which nodes it is said what they come to: no call, no allocation, and no address but those that may be taken; `.`
+-- gives a member of what has a place.
 abbrev pub IsSpokenNode : Setting → NotedLayer → Type 0
-IsSpokenNode s (Node-F.Text bytes) = Unit {0}
 IsSpokenNode s (Node-F.Name (name.Local k)) = Unit {0}
 IsSpokenNode s (Node-F.Name (name.Static k)) = Unit {0}
 IsSpokenNode s (Node-F.Name n) = ⊥
@@ -66,7 +65,6 @@ IsSpokenNode s (Node-F.Un op.Address e) = IsAddressed s e.note.ctype (out-Node N
 IsSpokenNode s (Node-F.Index e f) = IsReadElement e
 IsSpokenNode s (Node-F.Dot e n spot) = IsStructureNode (out-Node Name Note e.node)
 IsSpokenNode s (Node-F.Arrow e n spot) = is_terminated_kind (kind_of e.note.ctype) ≡ false
-IsSpokenNode s (Node-F.Tested w e limits) = ⊥
 IsSpokenNode s (Node-F.Call n es) = ⊥
 IsSpokenNode s (Node-F.Calloc w e u) = ⊥
 IsSpokenNode s n = Unit {0}

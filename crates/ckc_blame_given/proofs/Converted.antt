@@ -1,13 +1,13 @@
 -- Which conversion of a value to a type it is.
-use Rattle.std.proofs.Common.{◌≡◌, ◌⊎◌, ⊎_elim, refl, sym, ap, subst, ◌∙◌, ℕ, List, rules}
+use Rattle.std.proofs.Common.{◌≡◌, ⊎_elim, refl, sym, ap, subst, ◌∙◌, ℕ, List, rules}
 use Rattle.std.specs.Prelude.{Bool, true, false, ◌&&◌, ◌||◌, if◌then◌else◌, Option, None, Some}
 use Rattle.std.proofs.lemmas.Bool.{and_parts}
 use Rattle.ckc_base.specs.declared.arithmetic.Mode.{Mode}
-use Rattle.ckc_base.specs.declared.arithmetic.Mode.TheVariants.{Checked, Unchecked}
+use Rattle.ckc_base.specs.declared.arithmetic.Mode.TheVariants.{Checked}
 use Rattle.ckc_linear.specs.declared.forms.Form.{Form}
 use Rattle.ckc_types.specs.declared.types.Kind.{Kind}
 use Rattle.ckc_types.specs.declared.types.Kind.TheVariants as kind
-use Rattle.ckc_types.specs.declared.types.CType.{CType, CType-F, out-CType, roll-CType, the_lemmas as ctype_lemmas}
+use Rattle.ckc_types.specs.declared.types.CType.{CType, CType-F, out-CType, the_lemmas as ctype_lemmas}
 use Rattle.ckc_types.specs.declared.types.CType.TheVariants as ctype
 use Rattle.ckc_types.specs.declared.types.Structs.{Structs}
 use Rattle.ckc_syntax.specs.declared.tree.Name.{Name}
@@ -15,11 +15,11 @@ use Rattle.ckc_syntax.specs.declared.tree.Node.{Node-F, out-Node}
 use Rattle.ckc_typed.specs.declared.environment.Globals.{Globals}
 use Rattle.ckc_typed.specs.declared.environment.Variable.{Variable}
 use Rattle.ckc_typed.specs.declared.typed.Note.{Note}
-use Rattle.ckc_typed.specs.Conversions.{is_null, is_null_form, is_string, is_string_form, is_allocation, kind_converts, kinds_allow, is_terminated_kind, takes_string, takes_allocation, takes_pointer, converts}
+use Rattle.ckc_typed.specs.Conversions.{is_null, is_null_form, is_string, is_allocation, kind_converts, kinds_allow, is_terminated_kind, takes_string, takes_allocation, takes_pointer, converts}
 use Rattle.ckc_typed.specs.Expressions.{number_type, string_type}
 use Rattle.ckc_typed.specs.Operands.{same_element, is_raw_kind}
 use Rattle.ckc_typed.specs.Trees.{NotedExpr, NotedLayer}
-use Rattle.ckc_typed.specs.Types.{is_integer, is_pointer, is_char, is_char_form, element_of, kind_of, kind_in, same_type}
+use Rattle.ckc_typed.specs.Types.{is_integer, is_pointer, is_char, element_of, kind_of, kind_in, same_type}
 use Rattle.ckc_typed_welltyped.specs.Expressions.{HasType}
 use Rattle.ckc_bounds_points.specs.declared.frame.Frame.{Frame}
 use Rattle.ckc_bounds_points.specs.Shown.{Known}
@@ -29,6 +29,7 @@ use Rattle.ckc_bounds_views.specs.Views.{node_view, view}
 use Rattle.ckc_build_values.specs.Kinds.{pointee_of, size_behind}
 use Rattle.ckc_blame_sound.proofs.Facts.{one_of}
 use Rattle.ckc_blame_slots.proofs.Same.{same_equal}
+use Rattle.ckc_blame_pointers.proofs.Strings.{char_type, string_out, string_row}
 use Rattle.ckc_blame_given.proofs.Looser.{IsLooser}
 use Rattle.ckc_blame_given.proofs.Views.{viewed_layer, view_is}
 
@@ -53,51 +54,9 @@ allowed_keep (Some j) (Some k) a b = kinds_keep j k a b
 allowed_keep None k a b = absurd cc
 allowed_keep (Some j) None a b = absurd cc
 
-char_type : (t : CType) → is_char t ≡ true → t ≡ ctype.Char
-char_type t e = by (out-CType t) refl e
-  where
-    back : roll-CType (out-CType t) ≡ t
-    back = search (rules, ctype_lemmas)
-
-    char_is : roll-CType CType-F.Char ≡ ctype.Char
-    char_is = search (rules, ctype_lemmas)
-
-    by : (f : CType-F CType) → out-CType t ≡ f → is_char_form f ≡ true → t ≡ ctype.Char
-    by CType-F.Char is e = sym back ∙ ap roll-CType is ∙ char_is
-    by (CType-F.Pointer k u) is e = absurd cc
-    by CType-F.Int is e = absurd cc
-    by CType-F.Unsigned is e = absurd cc
-    by CType-F.Void is e = absurd cc
-    by (CType-F.Struct tag) is e = absurd cc
-
-string_out : (mode : Mode) → is_raw_kind (kind_of (string_type mode)) ≡ false → out-CType (string_type mode) ≡ CType-F.Pointer kind.Nt ctype.Char
-string_out Checked e = search (rules, ctype_lemmas)
-string_out Unchecked e = let raw : is_raw_kind (kind_of (string_type Unchecked)) ≡ true = ap (λ f. is_raw_kind (kind_in f)) unchecked_out in absurd cc
-  where
-    unchecked_out : out-CType (string_type Unchecked) ≡ CType-F.Pointer kind.Raw ctype.Char
-    unchecked_out = search (rules, ctype_lemmas)
-
 module _ (globals : Globals) (variables : List Variable) (t : CType) (e : NotedExpr) (mode : Mode) (row : HasType globals variables mode (out-Node Name Note e.node) e.note.ctype) where
   string_is : is_string e ≡ true → e.note.ctype ≡ string_type mode
-  string_is s = by (out-Node Name Note e.node) s row
-    where
-      by : (n : NotedLayer) → is_string_form n ≡ true → HasType globals variables mode n e.note.ctype → e.note.ctype ≡ string_type mode
-      by (Node-F.Text bytes) s r = r
-      by Node-F.Null s r = absurd cc
-      by (Node-F.Number n u) s r = absurd cc
-      by (Node-F.Name n) s r = absurd cc
-      by (Node-F.Un o a) s r = absurd cc
-      by (Node-F.Bin o a b) s r = absurd cc
-      by (Node-F.Pick a b d) s r = absurd cc
-      by (Node-F.Index a b) s r = absurd cc
-      by (Node-F.Dot a m at) s r = absurd cc
-      by (Node-F.Arrow a m at) s r = absurd cc
-      by (Node-F.Cast w a) s r = absurd cc
-      by (Node-F.Size w) s r = absurd cc
-      by (Node-F.Trusted w a l) s r = absurd cc
-      by (Node-F.Tested w a l) s r = absurd cc
-      by (Node-F.Call n es) s r = absurd cc
-      by (Node-F.Calloc w n u) s r = absurd cc
+  string_is s = string_row globals variables mode (out-Node Name Note e.node) e.note.ctype s row
 
   integer_bare : (unsigned : Bool) → is_pointer (number_type unsigned) ≡ false
   integer_bare true = search (rules, ctype_lemmas)

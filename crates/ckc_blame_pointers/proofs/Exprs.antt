@@ -511,7 +511,7 @@ module _ (globals : Globals) (s : Setting) (agrees : Agrees globals s) (declares
         subst (λ t. IsNotStuck (NodeClaims s store entry here h note.ctype (node_view s.frame (Node-F.Tested x (view s.frame e.0) None))) (evaluated store (Tested (size_behind s.text.layout t) Int place ((part_of e.0).value s.text s.variables k) (Number 1)))) row.row.2
         (one_claims s store entry here h x e.0 note.ctype (tested_pointer note.ctype e.0 tested) place ((part_of e.0).value s.text s.variables k)
         (e.1.claims typed here covered (operand_scalar globals s store here note.ctype e.0 typed covered tested) h fresh first are left k (first_strings s e.0 [] k strings))
-        (operand_testable globals s store here note.ctype e.0 typed covered tested entry next ready h node place fresh first are (viewed_type e.0) fault left))
+        (operand_testable globals s store here note.ctype e.0 typed covered tested agrees entry next ready h node place fresh first are viewed_type fault))
     node_step (Node-F.Tested x e (Some l)) note place row typed covered node checked scalar fresh little are fault judged noted k strings =
         subst (λ v. Goal v (part_of_limits l.0)) (sym view_is) (subst (λ q. Goal (limits_view (viewed_limits layer)) q) (sym part_is)
         (by layer (limits_layer l.0 layer refl) l.1 (limits_every (HasRow globals s) l.0 typed.1) (limits_every (IsCoveredExpr s store here.seen) l.0 covered.1)
@@ -557,7 +557,7 @@ module _ (globals : Globals) (s : Setting) (agrees : Agrees globals s) (declares
             (subst (λ u. Of note.ctype l (integer_of u) (w note.ctype u)) (sym (parted_type f))
             (amount_claims s store entry here h x e.0 note.ctype (tested_pointer note.ctype e.0 tested) place ((part_of e.0).value s.text s.variables k)
             (e.1.claims typed.0 here covered.0 (operand_scalar globals s store here note.ctype e.0 typed.0 covered.0 tested) h fresh first are left k operand_strings)
-            (operand_testable globals s store here note.ctype e.0 typed.0 covered.0 tested entry next ready h node place fresh first are (viewed_type e.0) fault left)
+            (operand_testable globals s store here note.ctype e.0 typed.0 covered.0 tested agrees entry next ready h node place fresh first are viewed_type fault)
             f l same counted ((part_of f).value s.text s.variables m) integer
             (held.claims rows here covers (integer_scalar f.note.ctype integer) h (fresh_behind (view s.frame e.0) fresh here.at) second (are_on e.0 fresh first are) right m within)
             (λ c there. index_of here h f rows m c there) (no_limits (type_written x) note.ctype row.row.2 row.row.0) (w note.ctype f.note.ctype) (amount integer)))

@@ -246,11 +246,6 @@ module _ (frame : Frame) where
   pub node_view_is : (n : NotedNode) → view_of_node frame n ≡ node_view frame (viewed_node (out-Node Name Note n))
   node_view_is n = fold_out-Node Name Note LimitsView NodeView View limits_view (node_view frame) expr_view n
 
-  -- the range that is noted is that of the point
-  pub judged_range : (e : NotedExpr) (fresh : ℕ) (at : State) → (view frame e).judged fresh at ≡ Ok e → is_pointer e.note.ctype ≡ true → e.note.range ≡ (view frame e).range 0 fresh at
-  judged_range e fresh at is p =
-      (judged_is (view_of_node frame e.node) e.pos e.note e.node fresh at (subst (λ (v : View). v.judged fresh at ≡ Ok e) (view_is e) is)).range p ∙ ap (λ (v : View). v.range 0 fresh at) (sym (view_is e))
-
   -- null may be used for any range
   pub null_range : (e : NotedExpr) (first fresh : ℕ) (at : State) → is_null e ≡ true → (view frame e).range first fresh at ≡ range.Any
   null_range e first fresh at null =

@@ -41,6 +41,7 @@ pub mod Shorter
 pub mod Casts
 pub mod Quotients
 pub mod Bytes
+pub mod OneRanges
 pub mod Operands
 pub mod Literals
 pub mod Strings

@@ -1,8 +1,10 @@
 -- The operand of a bounds cast that is tested.
 use Rattle.std.proofs.Common.{◌≡◌, ◌⊎◌, ⊎_elim, inl, inr, refl, sym, ap, ◌∙◌, ℕ, true, false, List}
-use Rattle.std.specs.Prelude.{◌+◌, ◌<◌, ◌^◌, ◌&&◌, ◌||◌, length, None, Ok}
+use Rattle.std.specs.Prelude.{◌+◌, ◌<◌, ◌^◌, ◌&&◌, ◌||◌, length, Option, None, Some}
 use Rattle.std.proofs.lemmas.Bool.{and_parts}
 use Rattle.ckc_base.specs.declared.places.Pos.{Pos}
+use Rattle.ckc_types.specs.declared.types.Kind.{Kind}
+use Rattle.ckc_types.specs.declared.types.Kind.TheVariants as kind
 use Rattle.ckc_types.specs.declared.types.CType.{CType}
 use Rattle.ckc_syntax.specs.declared.tree.Name.{Name}
 use Rattle.ckc_syntax.specs.declared.tree.Node.{Node-F, out-Node}
@@ -23,13 +25,14 @@ use Rattle.ckc_source.specs.Eval.{Store}
 use Rattle.ckc_blame_sound.specs.Settings.{Setting}
 use Rattle.ckc_blame_sound.specs.Bodies.{AreFresh}
 use Rattle.ckc_blame_sound.specs.Points.{HoldsAt}
-use Rattle.ckc_blame_numbers.specs.Typed.{IsRow, HasRow, IsTyped}
-use Rattle.ckc_blame_pointers.specs.Covered.{IsTestedOperand, IsSoundStore, IsCoveredNode, IsCoveredExpr, AreCovered}
+use Rattle.ckc_blame_numbers.specs.Typed.{IsRow, HasRow, IsTyped, Agrees}
+use Rattle.ckc_blame_pointers.specs.Covered.{DeclareOnes, IsSoundStore, IsCoveredNode, IsCoveredExpr, AreCovered}
 use Rattle.ckc_blame_pointers.proofs.Binary.{ExprClaims}
 use Rattle.ckc_blame_pointers.proofs.Casts.{IsTestable, tested_looser, null_testable, known_testable}
 use Rattle.ckc_blame_pointers.proofs.Elements.{no_fault}
-use Rattle.ckc_blame_pointers.proofs.Inside.{judged_range, null_range}
-use Rattle.ckc_blame_pointers.proofs.Scalars.{null_scalar, same_scalar, same_pointer}
+use Rattle.ckc_blame_pointers.proofs.Inside.{null_range}
+use Rattle.ckc_blame_pointers.proofs.OneRanges.{one_known}
+use Rattle.ckc_blame_pointers.proofs.Scalars.{null_scalar, same_scalar}
 use Rattle.ckc_blame_pointers.proofs.Strings.{string_row, string_taken, string_typed}
 use Rattle.ckc_blame_pointers.proofs.Truths.{either}
 
@@ -68,14 +71,34 @@ module _ (globals : Globals) (s : Setting) (store : Store) (here : Here) (t : CT
   pub operand_scalar : is_scalar e.note.ctype ≡ true
   operand_scalar = ⊎_elim (λ null. null_scalar globals s e typed null) (λ p. (same_scalar t e.note.ctype (takes_both p).0).1) operand_takes
 
-  pub operand_testable : (entry : List ℕ) (next : ℕ) (ready : IsSoundStore s store next) (h : HoldsAt s store entry here) → IsTestedOperand e → (place : Pos) (fresh : ℕ) (little : fresh + length ((view s.frame e).fresh here.at) < 2 ^ 32) (are : AreFresh s.frame fresh)
-      → (view s.frame e).ctype ≡ e.note.ctype → access_fault (view s.frame e) place fresh here.at ≡ None → (view s.frame e).judged fresh here.at ≡ Ok e → (x : Value) → ExprClaims s store entry here e x → IsTestable s store t x
-  operand_testable entry next ready h operand place fresh little are viewed fault judged x c =
+  -- It is null, or its range is known.
+  operand_known : (agrees : Agrees globals s) → (kind_of e.note.ctype ≡ Some kind.One → DeclareOnes s) → (place : Pos) (fresh : ℕ) → ((e : NotedExpr) → (view s.frame e).ctype ≡ e.note.ctype)
+      → access_fault (view s.frame e) place fresh here.at ≡ None → takes_pointer kind_is_tested t e ≡ true → (is_null e ≡ true) ⊎ (is_missing ((view s.frame e).range 0 fresh here.at) ≡ false)
+  operand_known agrees ones place fresh viewed fault p = by (kind_of e.note.ctype) (kind_of t) refl (takes_both p).1
+    where
+      Known : Type 0
+      Known = (is_null e ≡ true) ⊎ (is_missing ((view s.frame e).range 0 fresh here.at) ≡ false)
+
+      several : is_counted_kind (kind_of e.note.ctype) ≡ true → Known
+      several counted =
+          inr (no_fault (is_missing ((view s.frame e).range 0 fresh here.at)) place (sym (ap (λ b. fault_if (b && is_missing ((view s.frame e).range 0 fresh here.at)) unknown_bounds place) (ap is_counted_kind (ap kind_of (viewed e)) ∙ counted)) ∙ fault))
+
+      by : (j k : Option Kind) → kind_of e.note.ctype ≡ j → kinds_allow kind_is_tested j k ≡ true → Known
+      by (Some kind.One) k is allowed = one_known globals s agrees (ones is) store here 0 fresh viewed e typed covered is
+      by (Some kind.Arr) k is allowed = several (ap is_counted_kind is)
+      by (Some kind.Nt) k is allowed = several (ap is_counted_kind is)
+      by (Some kind.Raw) (Some k) is allowed = absurd (cc)
+      by (Some kind.Raw) None is allowed = absurd (cc)
+      by None k is allowed = absurd (cc)
+
+  pub operand_testable : (agrees : Agrees globals s) (entry : List ℕ) (next : ℕ) (ready : IsSoundStore s store next) (h : HoldsAt s store entry here) → (kind_of e.note.ctype ≡ Some kind.One → DeclareOnes s) → (place : Pos) (fresh : ℕ)
+      (little : fresh + length ((view s.frame e).fresh here.at) < 2 ^ 32) (are : AreFresh s.frame fresh) → ((e : NotedExpr) → (view s.frame e).ctype ≡ e.note.ctype) → access_fault (view s.frame e) place fresh here.at ≡ None
+      → (x : Value) → ExprClaims s store entry here e x → IsTestable s store t x
+  operand_testable agrees entry next ready h ones place fresh little are viewed fault x c =
       ⊎_elim (λ null. is_null_there null)
       (λ p. ⊎_elim (λ null. is_null_there null)
-      (λ known. known_testable s store entry next ready here h e fresh covered_here.few little are t x c (tested_looser e.note.ctype t (takes_both p).0 (takes_both p).1)
-      (⊎_elim (λ counted. no_fault (is_missing ((view s.frame e).range 0 fresh here.at)) place (sym (ap (λ b. fault_if (b && is_missing ((view s.frame e).range 0 fresh here.at)) unknown_bounds place) (ap is_counted_kind (ap kind_of viewed) ∙ counted)) ∙ fault))
-      (λ noted. sym (ap is_missing (judged_range s.frame e fresh here.at judged (same_pointer t e.note.ctype (takes_both p).0))) ∙ noted) known)) operand) operand_takes
+      (λ known. known_testable s store entry next ready here h e fresh covered_here.few little are t x c (tested_looser e.note.ctype t (takes_both p).0 (takes_both p).1) known)
+      (operand_known agrees ones place fresh viewed fault p)) operand_takes
     where
       is_null_there : is_null e ≡ true → IsTestable s store t x
       is_null_there null = null_testable s store entry next ready here h e fresh covered_here.few little are t x c (null_range s.frame e 0 fresh here.at null)

@@ -22,7 +22,7 @@ use Rattle.ckc_typed.specs.declared.typed.StaticObject.{StaticObject}
 use Rattle.ckc_typed.specs.declared.environment.Variable.{Variable}
 use Rattle.ckc_typed.specs.declared.typed.Typed.{Typed}
 use Rattle.ckc_source.specs.declared.program.Object.{Object}
-use Rattle.ckc_typed.specs.Conversions.{is_terminated_kind, is_null}
+use Rattle.ckc_typed.specs.Conversions.{is_terminated_kind}
 use Rattle.ckc_typed.specs.Environment.{variable_named}
 use Rattle.ckc_typed.specs.Operands.{is_raw_kind, dot_type}
 use Rattle.ckc_typed.specs.Trees.{NotedLimits, NotedNode, NotedExpr, NotedLayer}
@@ -36,7 +36,7 @@ use Rattle.ckc_bounds_declared.specs.Written.{bounds_of_kind}
 use Rattle.ckc_bounds_views.specs.Fresh.{member_bounds, named_type}
 use Rattle.ckc_bounds_points.specs.Forms.{constant_form}
 use Rattle.ckc_bounds_ranges.specs.Rows.{range_from}
-use Rattle.ckc_bounds_views.specs.Judged.{is_counted_kind, is_declared_object, is_missing}
+use Rattle.ckc_bounds_views.specs.Judged.{is_counted_kind, is_declared_object}
 use Rattle.ckc_bounds_views.specs.Ranges.{range_of_object}
 use Rattle.ckc_bounds_views.specs.Views.{view}
 use Rattle.ckc_source.specs.declared.expr.Count.TheVariants as count
@@ -332,11 +332,6 @@ IsCoveredUnary s store op.Deref e = IsElement e ⊎ (IsSingle s e ⊎ (IsStructu
 IsCoveredUnary s store op.Address e = IsAddressed s e.note.ctype (out-Node Name Note e.node)
 IsCoveredUnary s store o e = IsArithmetic o
 
--- what `_Dynamic_bounds_cast` tests: null, or a pointer of which the range is known
-abbrev pub IsTestedOperand : NotedExpr → Type 0
-IsTestedOperand e =
-    (is_null e ≡ true) ⊎ ((is_counted_kind (kind_of e.note.ctype) ≡ true) ⊎ (is_missing e.note.range ≡ false))
-
 -- The nodes of a type of which it is said what they come to: numbers, string literals, `sizeof`, `NULL`, locals in
 -- scope, static integers, arrays and pointers, operators, `?:`, casts, bounds casts that are tested, what is read
 -- through pointers, what `->` and `.` read, and the addresses of static objects, elements and members; and the structures
@@ -358,7 +353,7 @@ IsCoveredNode s store seen t (Node-F.Index e f) =
     IsElement e ⊎ (IsStructureElement e ⊎ (IsPointerTarget s store e × (kind_of e.note.ctype ≡ Some kind.Arr)))
 IsCoveredNode s store seen t (Node-F.Arrow e n spot) = IsArrow s e n t ⊎ IsPointerArrow s store e n t
 IsCoveredNode s store seen t (Node-F.Dot e n spot) = IsDot s store e n t
-IsCoveredNode s store seen t (Node-F.Tested w e l) = IsTestedOperand e
+IsCoveredNode s store seen t (Node-F.Tested w e l) = kind_of e.note.ctype ≡ Some kind.One → DeclareOnes s
 IsCoveredNode s store seen t _ = ⊥
 
 -- Such an expression is no unchecked pointer, the size of what it points to is a word, and so is the number of its
