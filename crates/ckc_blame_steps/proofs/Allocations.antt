@@ -20,10 +20,10 @@ use Rattle.ckc_typed.specs.declared.typed.Typed.{Typed}
 use Rattle.ckc_typed.specs.Constants.{size_of}
 use Rattle.ckc_typed.specs.Conversions.{converts, is_null, is_null_form, is_string_form, is_allocation, is_terminated_kind, kinds_allow, kind_converts}
 use Rattle.ckc_typed.specs.Operands.{same_element}
+use Rattle.ckc_typed.specs.Statics.{strings_of_expr}
 use Rattle.ckc_typed.specs.Trees.{NotedExpr}
 use Rattle.ckc_typed.specs.Types.{element_in, element_of, is_char, is_char_form, is_integer, is_integer_form, is_pointer, is_pointer_form, kind_of, same_type, type_written}
 use Rattle.ckc_bounds_points.specs.Forms.{base_form, in_type}
-use Rattle.ckc_bounds_points.specs.Shown.{Known}
 use Rattle.ckc_bounds_ranges.specs.Rows.{range_from}
 use Rattle.ckc_bounds_views.specs.Parts.{View, capped, next_behind, fresh_behind}
 use Rattle.ckc_bounds_views.specs.Ranges.{form_or_fresh}
@@ -48,7 +48,7 @@ use Rattle.ckc_build_values.specs.Kinds.{integer_in, pointee_of, size_behind}
 use Rattle.ckc_build_elaborate.specs.Shapes.{shapes_elaborated}
 use Rattle.ckc_build_elaborate.specs.Steps.{is_terminated, right_form, right_of}
 use Rattle.ckc_blame_sound.specs.Bodies.{AreFresh}
-use Rattle.ckc_blame_sound.specs.Settings.{Setting, IsFunction, setting_of}
+use Rattle.ckc_blame_sound.specs.Settings.{Setting, AreStrings, IsFunction, setting_of}
 use Rattle.ckc_blame_sound.specs.Values.{NamesIntegers, IsNumberOf, number_of}
 use Rattle.ckc_blame_sound.specs.Valuations.{Valuation, AreFacts, IsValuationOf, form_address}
 use Rattle.ckc_blame_sound.proofs.Flow.{word_lies}
@@ -139,7 +139,8 @@ same_narrowed range.Missing = tt
 module _ (globals : Globals) (s : Setting) (agrees : Agrees globals s) (declares : DeclareLocals s) (parts : AreSlotParts s.text) (shapes : List Shape) (entry : List ℕ) (here : Here)
     (named : All (NamesIntegers s.frame) here.at.facts.list) (b : State) (is_at : IsAt s shapes entry here b) (t : CType) (f g n : NotedExpr) (fresh literals : ℕ)
     (counted : counted_in (out-Node Name Note g.node) ≡ Some n) (typed : IsTyped globals s f) (goes : converts t f ≡ true) (has : HasPlaces s t) (judged : (view s.frame f).judged fresh here.at ≡ Ok g)
-    (little : fresh + length ((view s.frame g).fresh here.at) < 2 ^ 32) (are : AreFresh s.frame fresh) (covered : IsCovered s (store_of shapes b) here.seen n) where
+    (little : fresh + length ((view s.frame g).fresh here.at) < 2 ^ 32) (are : AreFresh s.frame fresh) (covered : IsCovered s (store_of shapes b) here.seen n)
+    (strings : AreStrings s literals (strings_of_expr n)) where
   j : IsJudgedCalloc s globals f g n fresh here.at
   j = judged_calloc s globals f g n fresh here.at typed judged counted
 
@@ -321,7 +322,7 @@ module _ (globals : Globals) (s : Setting) (agrees : Agrees globals s) (declares
       subst (λ (r : Right). ComesTo (IsDrawn s shapes entry here b t g) (drawn shapes b r)) (sym right_is)
       (by (evaluated (store_of shapes b) (expr_elaborated s.text s.variables literals n))
       (judged_gives globals s agrees declares (store_of shapes b) entry b.next is_at.ready here j.count n fresh literals
-      (parts_room fresh (c.fresh here.at) (count_type c here.at.facts) (subst (λ (ts : List CType). fresh + length ts < 2 ^ 32) (calloc.fresh here.at) little)) are j.typed j.judged covered is_at.holds))
+      (parts_room fresh (c.fresh here.at) (count_type c here.at.facts) (subst (λ (ts : List CType). fresh + length ts < 2 ^ 32) (calloc.fresh here.at) little)) are j.typed j.judged covered strings is_at.holds))
     where
       by : (r : Result Given Halt) → IsNotStuck (λ p. GivesAt s (store_of shapes b) here.at j.count p.number) r
           → ComesTo (IsDrawn s shapes entry here b t g) (given r (λ v. Ok (allocated b to v.number)))
@@ -333,6 +334,6 @@ module _ (globals : Globals) (s : Setting) (agrees : Agrees globals s) (declares
 
 pub allocate_soundly : (p : Typed) → IsJudged p → AreSlotParts p → ((s : Setting) (f : Function) → IsFunction p s f → DeclareLocals s) → AllocateSoundly p
 unfolding setting_of
-allocate_soundly p judged parts declares s fn here there step entry i is b is_at t f g n fresh literals counted typed goes has made little are covered =
+allocate_soundly p judged parts declares s fn here there step entry i is b is_at t f g n fresh literals counted typed goes has made little are covered strings =
     calloc_drawn (globals_in p) s (frames_agree p s fn judged i) (declares s fn i) (subst AreSlotParts (sym (ap (λ (x : Setting). x.text) i.judged)) parts) (shapes_elaborated p.layout) entry here is.named b is_at t f g n
-    fresh literals counted typed goes has made little are covered
+    fresh literals counted typed goes has made little are covered strings

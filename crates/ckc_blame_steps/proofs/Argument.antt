@@ -2,6 +2,7 @@
 use Rattle.std.proofs.Common.{◌≡◌, refl, sym, ap, subst, ◌∙◌, ℕ, ◌+◌, List, [], ◌∷◌, map, rules}
 use Rattle.std.specs.Prelude.{◌<◌, ◌^◌, length, Result, Ok, Err}
 use Rattle.ckc_base.specs.Outcomes.{Outcome, bind}
+use Rattle.ckc_syntax.specs.Inside.{listed, inside_each}
 use Rattle.ckc_syntax.specs.declared.tree.Name.{Name}
 use Rattle.ckc_syntax.specs.declared.tree.Name.TheVariants as name
 use Rattle.ckc_syntax.specs.declared.tree.Expr.{Expr-F}
@@ -10,6 +11,7 @@ use Rattle.ckc_syntax.specs.declared.tree.Node.{Node-F, map-Node, out-Node, ever
 use Rattle.ckc_syntax.specs.declared.tree.Node.TheVariants as node
 use Rattle.ckc_typed.specs.declared.environment.Globals.{Globals}
 use Rattle.ckc_typed.specs.declared.typed.Note.{Note}
+use Rattle.ckc_typed.specs.Statics.{strings_of_expr}
 use Rattle.ckc_typed.specs.Trees.{NotedLimits, NotedNode, NotedExpr, NotedLayer}
 use Rattle.ckc_typed_welltyped.specs.Expressions.{AnyLimits, AnyNode}
 use Rattle.ckc_bounds_views.specs.Judged.{all_judged}
@@ -27,7 +29,8 @@ use Rattle.ckc_build_values.specs.Expressions.{expr_elaborated}
 use Rattle.ckc_build_elaborate.specs.Steps.{Destination, called, first_of, assigned, assigned_form}
 use Rattle.ckc_blame_sound.specs.Bodies.{AreFresh}
 use Rattle.ckc_blame_sound.specs.Points.{HoldsAt}
-use Rattle.ckc_blame_sound.specs.Settings.{Setting}
+use Rattle.ckc_blame_sound.proofs.Strings.{strings_in_front}
+use Rattle.ckc_blame_sound.specs.Settings.{Setting, AreStrings}
 use Rattle.ckc_blame_numbers.specs.Typed.{HasRow, IsTyped, Agrees}
 use Rattle.ckc_blame_numbers.proofs.Judging.{judged_typed}
 use Rattle.ckc_blame_numbers.proofs.Statements.{made_of}
@@ -38,6 +41,8 @@ use Rattle.ckc_blame_pointers.proofs.Inside.{Every, EveryNode, node_every}
 use Rattle.ckc_blame_pointers.proofs.Later.{left_room}
 use Rattle.ckc_blame_pointers.proofs.Whole.{judged_meant}
 use Rattle.ckc_blame_given.specs.Targets.{ComesTo}
+use Rattle.ckc_blame_pointers.proofs.Strings.{strings_in_node}
+use Rattle.ckc_blame_given.proofs.Layers.{strings_are}
 use Rattle.ckc_blame_given.proofs.Pointers.{node_judged_at, node_room}
 use Rattle.ckc_blame_steps.specs.Granted.{IsCoveredFirst}
 
@@ -109,10 +114,10 @@ module _ (globals : Globals) (s : Setting) (agrees : Agrees globals s) (declares
         let r = made_of (all_judged (map (view s.frame) ys) (fresh_behind (view s.frame y) fresh here.at) here.at) (λ rest. Ok (q.0 ∷ rest)) (y ∷ ys) q.2 in
         q.1 ∙ ap Ok (first_same q.0 y r.0 ys (ok_same (q.0 ∷ r.0) (y ∷ ys) r.2))
 
-    pub argument_evaluates : (literals : ℕ) → IsCovered s store here.seen y → ComesTo (λ v. Unit {0}) (evaluated store (expr_elaborated s.text s.variables literals y))
-    argument_evaluates literals covered =
+    pub argument_evaluates : (literals : ℕ) → IsCovered s store here.seen y → AreStrings s literals (strings_of_expr y) → ComesTo (λ v. Unit {0}) (evaluated store (expr_elaborated s.text s.variables literals y))
+    argument_evaluates literals covered strings =
         by (evaluated store (expr_elaborated s.text s.variables literals y))
-        (judged_meant globals s agrees declares store entry next ready here y y fresh literals room_there are typed_there judged_there covered h)
+        (judged_meant globals s agrees declares store entry next ready here y y fresh literals room_there are typed_there judged_there covered strings h)
       where
         by : (r : Result Given Halt) → IsNotStuck (IsMeant s store entry here (view s.frame y)) r → ComesTo (λ v. Unit {0}) r
         by (Ok v) c = tt
@@ -122,13 +127,16 @@ module _ (globals : Globals) (s : Setting) (agrees : Agrees globals s) (declares
   -- ---- what a step puts
 
   module _ (sp : Spot) (to : Destination) (k : ℕ) (e : Expr) (before x : NotedExpr) (typed : IsTyped globals s before) (judged : (view s.frame before).judged fresh here.at ≡ Ok x) (room : HasPlace x)
-      (covered : (es : List NotedExpr) → out-Node Name Note x.node ≡ Node-F.Call name.Putchar es → IsCoveredFirst s store here.seen es) where
+      (covered : (es : List NotedExpr) → out-Node Name Note x.node ≡ Node-F.Call name.Putchar es → IsCoveredFirst s store here.seen es)
+      (strings : AreStrings s k (strings_of_expr x)) where
     by_args : (es : List NotedExpr) → out-Node Name Note x.node ≡ Node-F.Call name.Putchar es → e ≡ first_of s.text s.variables k es → ComesTo (λ v. Unit {0}) (evaluated store e)
     by_args [] out is = absurd (covered [] out)
     by_args (y ∷ ys) out is =
         subst (λ z. ComesTo (λ v. Unit {0}) (evaluated store z)) (sym is)
         (argument_evaluates x name.Putchar y ys out (judged_typed globals s before x fresh here.at typed judged).0 room
-        (subst (λ (v : View). v.judged fresh here.at ≡ Ok x) (sym (same_view s.frame before x fresh here.at judged s.frame)) judged) k (covered (y ∷ ys) out))
+        (subst (λ (v : View). v.judged fresh here.at ≡ Ok x) (sym (same_view s.frame before x fresh here.at judged s.frame)) judged) k (covered (y ∷ ys) out)
+        (strings_in_front s (strings_of_expr y) (inside_each listed (λ z. z) (map strings_of_expr ys)) k
+        (subst (λ z. AreStrings s k (strings_in_node z)) out (subst (AreStrings s k) (strings_are x) strings))))
 
     by_name : (n : Name) (es : List NotedExpr) → out-Node Name Note x.node ≡ Node-F.Call n es → IsPut (called s.text s.variables sp to k n es x.pos End) e → ComesTo (λ v. Unit {0}) (evaluated store e)
     by_name (name.Function j) es out put = absurd put

@@ -7,6 +7,7 @@ use Rattle.ckc_syntax.specs.declared.tree.Node.{Node-F, out-Node}
 use Rattle.ckc_syntax.specs.declared.tree.Act.{Act-F, out-Act}
 use Rattle.ckc_types.specs.declared.types.CType.{CType}
 use Rattle.ckc_typed.specs.declared.typed.Note.{Note}
+use Rattle.ckc_typed.specs.Statics.{strings_of_stmt}
 use Rattle.ckc_typed.specs.Trees.{NotedExpr, NotedLayer, NotedStmt}
 use Rattle.ckc_source.specs.declared.stmt.Spot.{Spot}
 use Rattle.ckc_source.specs.Code.{Target, Right, End, Assign}
@@ -14,10 +15,11 @@ use Rattle.ckc_source.specs.Eval.{Store}
 use Rattle.ckc_build_values.specs.Expressions.{literals_of}
 use Rattle.ckc_build_elaborate.specs.Steps.{Destination, spot, destination_of, right_of, called, assigned, assigned_form}
 use Rattle.ckc_build_elaborate.specs.Statements.{act_code, stmt_elaborated}
-use Rattle.ckc_blame_sound.specs.Settings.{Setting}
+use Rattle.ckc_blame_sound.specs.Settings.{Setting, AreStrings}
 use Rattle.ckc_blame_numbers.proofs.Stepping.{parted, code_is, first_step}
 use Rattle.ckc_blame_steps.specs.Granted.{IsCoveredCall, IsCoveredValue, IsCoveredRight}
 use Rattle.ckc_blame_steps.specs.Plans.{BecomesSides}
+use Rattle.ckc_blame_steps.proofs.Strings.{sides_strings}
 
 module _ (s : Setting) where
   -- an assignment whose right side is no call of what may be called
@@ -55,13 +57,20 @@ module _ (s : Setting) where
     pub covered : (store : Store) (seen : List ℕ) (t : CType) → IsCoveredRight s store seen t f (out-Node Name Note f.node) → IsCoveredValue s store seen t f (out-Node Name Note f.node)
 
   pub assign_plain : (literals : ℕ) (after : NotedStmt) (sp : Spot) (target : Target) (right : Right) → stmt_elaborated s.text s.variables s.result literals after ≡ Assign sp target right ∷ []
-      → (e f : NotedExpr) → out-Act Name Note after.body ≡ Act-F.Assign e f → (store : Store) (seen : List ℕ) (kept : CType) → IsCoveredRight s store seen kept f (out-Node Name Note f.node) → IsPlainStep sp after target right e f
-  assign_plain literals after sp target right becomes e f is store seen kept c =
+      → AreStrings s literals (strings_of_stmt after) → (e f : NotedExpr) → out-Act Name Note after.body ≡ Act-F.Assign e f → (store : Store) (seen : List ℕ) (kept : CType) → IsCoveredRight s store seen kept f (out-Node Name Note f.node) → IsPlainStep sp after target right e f
+  assign_plain literals after sp target right becomes strings e f is store seen kept c =
       let code : act_code (parted (Act-F.Assign e f)) after.pos after.note.mode s.text s.variables s.result literals ≡ Assign sp target right ∷ [] =
       ap (λ x. act_code (parted x) after.pos after.note.mode s.text s.variables s.result literals) (sym is) ∙ sym (code_is s literals after) ∙ becomes in
       let p = plain sp (spot after.pos after.note.mode) (destination_of s.text s.variables literals e) (literals + literals_of e) f target right store seen kept
       (first_step (assigned s.text s.variables (spot after.pos after.note.mode) (destination_of s.text s.variables literals e) (literals + literals_of e) f) (Assign sp target right) code) c in
       record {
-        sides = record { first = literals; second = literals + literals_of e; target = p.target_is; right = p.right_is };
+        sides = record {
+          first = literals;
+          second = literals + literals_of e;
+          target = p.target_is;
+          right = p.right_is;
+          target_strings = (sides_strings s literals after strings e f is).0;
+          right_strings = (sides_strings s literals after strings e f is).1;
+        };
         covered = p.covered;
       }

@@ -5,6 +5,7 @@ use Rattle.std.specs.List.{All, AllByRecursion}
 use Rattle.std.proofs.lemmas.List.Elements.{All-nil, All-cons, All-contains}
 use Rattle.ckc_base.specs.declared.arithmetic.Mode.TheVariants.{Checked}
 use Rattle.ckc_base.specs.declared.places.Pos.{Pos}
+use Rattle.ckc_syntax.specs.Inside.{listed, inside_each}
 use Rattle.ckc_syntax.specs.declared.tree.Name.{Name}
 use Rattle.ckc_syntax.specs.declared.tree.Name.TheVariants as name
 use Rattle.ckc_syntax.specs.declared.tree.Init.TheVariants as init
@@ -13,6 +14,7 @@ use Rattle.ckc_syntax.specs.declared.tree.Act.{Act-F, out-Act, fold-roll-Act}
 use Rattle.ckc_syntax.specs.declared.tree.Stmt.{fold-roll-Stmt}
 use Rattle.ckc_typed.specs.declared.typed.Note.{Note}
 use Rattle.ckc_typed.specs.declared.typed.Typed.{Typed}
+use Rattle.ckc_typed.specs.Statics.{strings_of_expr, strings_of_stmt}
 use Rattle.ckc_typed.specs.Trees.{NotedDecl, NotedExpr, NotedInit, NotedLayer, NotedStmt}
 use Rattle.ckc_typed.specs.Types.{type_written}
 use Rattle.ckc_typed_welltyped.specs.Statements.{act_rows, WellTypedStmt}
@@ -31,11 +33,13 @@ use Rattle.ckc_build_elaborate.specs.Literals.{literals_of_bounds}
 use Rattle.ckc_build_elaborate.specs.Shapes.{shapes_elaborated}
 use Rattle.ckc_build_elaborate.specs.Statements.{Part, ActPart, all_assigns, assign, act_assigns, act_code, act_parts, stmt_parts, part_of_act, part_of}
 use Rattle.ckc_build_elaborate.specs.Steps.{Destination, spot, nowhere, destination_of, destination_for, called, assigned, assigned_form, started, declared}
+use Rattle.ckc_build_elaborate.proofs.Counted.{stmt}
 use Rattle.ckc_blame_sound.specs.Bodies.{globals_of_text}
 use Rattle.ckc_blame_sound.specs.Calls.{store_in}
-use Rattle.ckc_blame_sound.specs.Settings.{Setting}
+use Rattle.ckc_blame_sound.specs.Settings.{Setting, AreStrings}
 use Rattle.ckc_blame_sound.specs.Sound.{Sound}
 use Rattle.ckc_blame_sound.specs.Steps.{IsStep}
+use Rattle.ckc_blame_sound.proofs.Strings.{strings_in_front, strings_after}
 use Rattle.ckc_blame_runs.specs.Moves.{IsSoundMove}
 use Rattle.ckc_blame_numbers.specs.Typed.{IsTyped, AreTypedSides, IsTypedAct}
 use Rattle.ckc_blame_numbers.proofs.Stepping.{ActLayer, act_back, parted, code_is, first_step}
@@ -54,6 +58,7 @@ use Rattle.ckc_blame_steps.specs.Granted.{IsGranted, IsCoveredAct, HaveRoom, Has
 use Rattle.ckc_blame_steps.specs.Plans.{BecomesPart, BecomeParts, AllocateSoundly}
 use Rattle.ckc_blame_steps.proofs.Declarations.{local_made}
 use Rattle.ckc_blame_steps.proofs.Origins.{Kind, kind}
+use Rattle.ckc_blame_steps.proofs.Strings.{strings_there, sides_strings}
 use Rattle.ckc_blame_steps.proofs.Plans.{AllFit, StayCovered}
 use Rattle.ckc_blame_steps.proofs.Stores.{planning}
 use Rattle.ckc_blame_steps.proofs.Steps.{covered_there, parts_sound, row_of, side_fits, typed_act}
@@ -123,19 +128,29 @@ assigns_as s k st =
     (ap part_of_act (sym (act_back st.body)) ∙ fold-roll-Act Name Note ActPart Part act_parts stmt_parts (out-Act Name Note st.body))
 
 parts_become : (s : Setting) (at : flow.State) (fresh : ℕ) (befores afters : List NotedStmt) → AreAssignsJudged s at fresh befores afters → (k : ℕ)
-    → BecomeParts s afters (all_assigns (map part_of afters) s.text s.variables k)
+    → AreStrings s k (inside_each listed (λ z. z) (map strings_of_stmt afters)) → BecomeParts s afters (all_assigns (map part_of afters) s.text s.variables k)
 unfolding AreAssignsJudged BecomeParts
-parts_become s at fresh [] [] h k = tt
-parts_become s at fresh [] (y ∷ ys) h k = absurd h
-parts_become s at fresh (x ∷ xs) [] h k = absurd h
-parts_become s at fresh (x ∷ xs) (y ∷ ys) h k =
+parts_become s at fresh [] [] h k strings = tt
+parts_become s at fresh [] (y ∷ ys) h k strings = absurd h
+parts_become s at fresh (x ∷ xs) [] h k strings = absurd h
+parts_become s at fresh (x ∷ xs) (y ∷ ys) h k strings =
     let j : IsAssignJudged s at fresh x y = h.0 in
     let is : (part_of y).assigns s.text s.variables k ≡ assign s.text s.variables k j.place j.value ∷ [] =
     assigns_as s k y ∙ ap (λ (z : ActLayer). act_assigns (parted z) s.text s.variables k) j.becomes in
+    let sides : AreStrings s k (strings_of_expr j.place) × AreStrings s (k + literals_of j.place) (strings_of_expr j.value) =
+    sides_strings s k y (strings_in_front s (strings_of_stmt y) (inside_each listed (λ z. z) (map strings_of_stmt ys)) k strings) j.place j.value j.becomes in
     subst (λ all. BecomeParts s (y ∷ ys) (all ++ all_assigns (map part_of ys) s.text s.variables (k + (part_of y).literals))) (sym is) (
       subst (λ (z : ActLayer). BecomesPart s z (assign s.text s.variables k j.place j.value)) (sym j.becomes)
-          (record { first = k; second = k + literals_of j.place; target = refl; right = refl }),
-      parts_become s at (next_fresh s at fresh x y j) xs ys h.1 (k + (part_of y).literals),
+          (record {
+            first = k;
+            second = k + literals_of j.place;
+            target = refl;
+            right = refl;
+            target_strings = sides.0;
+            right_strings = sides.1;
+          }),
+      parts_become s at (next_fresh s at fresh x y j) xs ys h.1 (k + (part_of y).literals)
+          (strings_after s (strings_of_stmt y) (inside_each listed (λ z. z) (map strings_of_stmt ys)) k (part_of y).literals (stmt y) strings),
     )
 
 -- ---- a bundle
@@ -176,7 +191,8 @@ module _ (p : Typed) (g : IsGranted p) (allocations : AllocateSoundly p) (st : S
       cc
 
   become : BecomeParts t ts assigns
-  become = subst (BecomeParts t ts) (sym assigns_are) (parts_become t f.here.at f.here.next ss ts judged f.judged.literals)
+  become = subst (BecomeParts t ts) (sym assigns_are) (parts_become t f.here.at f.here.next ss ts judged f.judged.literals
+      (strings_there t f.judged.literals f.judged.after f.judged.strings (Act-F.Bundle ts) layer))
 
   covered : StayCovered t list st.frame.entry f.here ts
   covered c at_c = subst (IsCoveredAct t (store_of list c) f.here.seen) layer (covered_there p g st h step next f sp mode c at_c)

@@ -52,6 +52,7 @@ use Rattle.ckc_blame_steps.specs.Granted.{IsGranted, IsCoveredRight, IsCoveredAc
 use Rattle.ckc_blame_steps.specs.Plans.{IsAt, IsSoundPlan}
 use Rattle.ckc_blame_steps.proofs.Bytes.{IsByteStep, IsByteCall, byte_call, own_bare, zeros, zeros_are, zeros_numbers}
 use Rattle.ckc_blame_steps.proofs.Comes.{allowed_comes, same_state}
+use Rattle.ckc_blame_steps.proofs.Strings.{sides_strings}
 use Rattle.ckc_blame_steps.proofs.Plans.{AreFit}
 use Rattle.ckc_blame_steps.proofs.Landings.{Lands}
 use Rattle.ckc_blame_steps.proofs.Steps.{covered_there, known, free, row_of, side_fits, typed_act, typed_sides}
@@ -206,7 +207,8 @@ module _ (p : Typed) (g : IsGranted p) (st : State) (h : Sound p st) (step : Cod
         judged_aims (globals_in p) s (frames_agree p s st.frame.function g.judged function) (g.declares s st.frame.function function) (store_of shapes b) st.frame.entry b.next at_b.ready f.here
         (free p g st h step next f) one.target placed f.here.next f.judged.literals
         (subst (λ (v : View). f.here.next + length (v.fresh f.here.at) < 2 ^ 32) (same_view s.frame one.target place f.here.next f.here.at one.target_judged s.frame) room.left.variables)
-        (known p g st h step next f).fresh fit.0 one.target_judged (ap is_scalar (same_type s.frame one.target place f.here.next f.here.at one.target_judged) ∙ fit.3) covered.0 at_b.holds
+        (known p g st h step next f).fresh fit.0 one.target_judged (ap is_scalar (same_type s.frame one.target place f.here.next f.here.at one.target_judged) ∙ fit.3) covered.0
+        (sides_strings s f.judged.literals f.judged.after f.judged.strings place value one.becomes).0 at_b.holds
 
     pub assign_lands : Lands p b (aimed (store_of shapes b) target)
     assign_lands =

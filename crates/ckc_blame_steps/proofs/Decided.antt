@@ -3,6 +3,7 @@ use Rattle.std.proofs.Common.{◌≡◌, ◌∙◌, ℕ, List, refl, sym, ap, su
 use Rattle.std.specs.Prelude.{◌+◌, ◌<◌, ◌^◌, length, IfSome, Option, None, Some, Result, Ok, Err}
 use Rattle.ckc_base.specs.declared.arithmetic.Mode.TheVariants.{Checked}
 use Rattle.ckc_typed.specs.declared.typed.Typed.{Typed}
+use Rattle.ckc_typed.specs.Statics.{strings_of_expr, strings_of_value}
 use Rattle.ckc_typed.specs.Trees.{NotedExpr}
 use Rattle.ckc_bounds_views.specs.Views.{view}
 use Rattle.ckc_bounds_statements.specs.Paths.{Here}
@@ -15,7 +16,7 @@ use Rattle.ckc_source.specs.States.{State}
 use Rattle.ckc_build_values.specs.Expressions.{expr_elaborated}
 use Rattle.ckc_build_elaborate.specs.Shapes.{shapes_elaborated}
 use Rattle.ckc_build_elaborate.specs.Steps.{condition}
-use Rattle.ckc_blame_sound.specs.Settings.{Setting, setting_of}
+use Rattle.ckc_blame_sound.specs.Settings.{Setting, AreStrings, setting_of}
 use Rattle.ckc_blame_sound.specs.Points.{HoldsAt}
 use Rattle.ckc_blame_sound.specs.Calls.{store_in}
 use Rattle.ckc_blame_sound.specs.Sound.{Sound}
@@ -79,11 +80,12 @@ module _ (p : Typed) (s : State) (h : Sound p s) (j : IsJudged p) (words : HaveW
         let room : here.next + length ((view set.frame f).fresh here.at) < 2 ^ 32 =
         subst (λ o. IfSome o (λ g. here.next + length ((view set.frame g).fresh here.at) < 2 ^ 32)) is (tests.room here one other e c) in
         let covered : IsCovered set store here.seen k.expr = subst (λ o. IfSome o (IsCovered set store here.seen)) k.after (tests.covered here one other e store s.next c ready filled) in
+        let strings : AreStrings set c.literals (strings_of_expr k.expr) = subst (λ o. AreStrings set c.literals (strings_of_value o)) k.after c.strings in
         let value : e ≡ expr_elaborated set.text set.variables c.literals k.expr = c.becomes ∙ ap (condition set.text set.variables c.literals) k.after in
         some_leads set store entry Checked here one other e c f is
         (sides here f (evaluated store e)
         (subst (λ x. IsNotStuck (IsMeant set store entry here (view set.frame f)) (evaluated store x)) (sym value)
-        (judged_meant (globals_in p) set known.agrees declares store entry s.next ready here f k.expr here.next c.literals room known.fresh whole k.judged covered holds)))
+        (judged_meant (globals_in p) set known.agrees declares store entry s.next ready here f k.expr here.next c.literals room known.fresh whole k.judged covered strings holds)))
 
     by : (o : Option NotedExpr) → c.before ≡ o → LeadsTo set store entry one other (evaluated store e)
     by (Some f) is = some f is

@@ -12,9 +12,11 @@ use Rattle.ckc_syntax.specs.declared.tree.Act.TheVariants as act
 use Rattle.ckc_typed.specs.declared.typed.Note.{Note}
 use Rattle.ckc_typed.specs.declared.typed.Typed.{Typed}
 use Rattle.ckc_typed.specs.Conversions.{converts}
+use Rattle.ckc_typed.specs.Declarations.{is_plain}
+use Rattle.ckc_typed.specs.Statics.{strings_of_expr}
 use Rattle.ckc_typed.specs.Trees.{NotedDecl, NotedExpr, NotedInit, NotedStmt}
 use Rattle.ckc_typed.specs.Types.{type_written}
-use Rattle.ckc_typed_welltyped.specs.Declarations.{StartsLocal}
+use Rattle.ckc_typed_welltyped.specs.Declarations.{StartsLocal, WellTypedLocal}
 use Rattle.ckc_typed_welltyped.specs.Statements.{act_rows, WellTypedStmt}
 use Rattle.ckc_bounds_points.specs.declared.frame.Local.{Local}
 use Rattle.ckc_bounds_points.specs.Codes.{not_contained}
@@ -42,7 +44,7 @@ use Rattle.ckc_build_elaborate.specs.Steps.{Destination, spot, destination_for, 
 use Rattle.ckc_blame_sound.specs.Bodies.{globals_of_text}
 use Rattle.ckc_blame_sound.specs.Calls.{store_in}
 use Rattle.ckc_blame_sound.specs.Points.{HoldsAt}
-use Rattle.ckc_blame_sound.specs.Settings.{Setting, IsFunction}
+use Rattle.ckc_blame_sound.specs.Settings.{Setting, AreStrings, IsFunction}
 use Rattle.ckc_blame_sound.specs.Slots.{Slot, AreFilled}
 use Rattle.ckc_blame_sound.specs.Sound.{Sound}
 use Rattle.ckc_blame_sound.specs.Valuations.{Valuation, IsValuationOf, AreFacts}
@@ -73,6 +75,7 @@ use Rattle.ckc_blame_steps.proofs.Becomes.{IsPlain, plain}
 use Rattle.ckc_blame_steps.proofs.Comes.{same_state}
 use Rattle.ckc_blame_steps.proofs.Own.{own_valuation, own_values}
 use Rattle.ckc_blame_steps.proofs.Plans.{right_drawn}
+use Rattle.ckc_blame_steps.proofs.Strings.{init_strings}
 use Rattle.ckc_blame_steps.proofs.Stores.{text_is, planning, is_at}
 use Rattle.ckc_blame_steps.proofs.Steps.{covered_there, typed_act, row_of, known, free}
 
@@ -121,6 +124,7 @@ module _ (s : Setting) (here : Here) (counting : here.counting ≡ false) where
   pub record IsDeclMade (d e : NotedDecl) : Type 0 where
     pub name_is : e.name ≡ d.name
     pub type_is : e.ctype ≡ d.ctype
+    pub length_is : e.length ≡ d.length
     pub begins : InitJudged d.init e.init
 
   decl_made : (d e : NotedDecl) (there : Here) → decl_judged s.frame d here ≡ Ok (e, there) → IsDeclMade d e
@@ -134,6 +138,7 @@ module _ (s : Setting) (here : Here) (counting : here.counting ≡ false) where
       record {
         name_is = ap (λ (x : NotedDecl). x.name) (sym made.0);
         type_is = ap (λ (x : NotedDecl). x.ctype) (sym made.0);
+        length_is = ap (λ (x : NotedDecl). x.length) (sym made.0);
         begins = subst (InitJudged d.init) (ap (λ (x : NotedDecl). x.init) made.0) (init_made d.init i.0.0 i.0.1 i.1);
       }
 
@@ -222,6 +227,14 @@ module _ (p : Typed) (g : IsGranted p) (st : State) (h : Sound p st) (step : Cod
     pub valuation : Valuation
     pub values : IsValuationOf s w.state.frame.locals valuation
     pub start : IsStart s (store_of shapes w.state) valuation f.here.at l.ctype e.init f.here.next w.number
+
+  -- the string literals of the initialiser
+  pub strings_from : (y : NotedExpr) → e.init ≡ init.One y → AreStrings s literals (strings_of_expr y)
+  strings_from y one =
+      let row : WellTypedLocal (globals_of_text s.text) s.variables f.judged.inside.mode d =
+      subst (λ (x : Layer). act_rows (globals_of_text s.text) s.variables s.result (WellTypedStmt (globals_of_text s.text) s.variables s.result) x f.judged.inside.mode f.judged.inside.looped) is
+      (row_of p g st h step next f f.judged.before f.judged.inside.mode f.judged.inside.looped f.judged.inside.typed) in
+      init_strings s f.judged.literals f.judged.after f.judged.strings e y is_made.becomes (ap is_plain is_made.parts.length_is ∙ row.plain) one
 
   pub room : HasRoomInit s.frame f.here.at f.here.next e.init
   room = subst (HasRoomAct s.frame f.here.at f.here.next) is_made.becomes (g.room s st.frame.function f.here f.exits.ends step function f.judged)
@@ -323,7 +336,8 @@ module _ (p : Typed) (g : IsGranted p) (st : State) (h : Sound p st) (step : Cod
             (right_drawn (globals_in p) s (frames_agree p s st.frame.function g.judged function) (g.declares s st.frame.function function) (free p g st h step next f) shapes st.frame.entry f.here
             (allocations s st.frame.function f.here f.exits.ends step st.frame.entry function f.judged) b (is_at p g st h step next f) l.ctype x y f.here.next literals typed goes judged room_there.variables
             (known p g st h step next f).fresh
-            (plain_there.covered (store_of shapes b) f.here.seen l.ctype (subst (IsCoveredInit s (store_of shapes b) f.here.seen l.ctype) one (is_covered b (is_at p g st h step next f)))))),
+            (plain_there.covered (store_of shapes b) f.here.seen l.ctype (subst (IsCoveredInit s (store_of shapes b) f.here.seen l.ctype) one (is_covered b (is_at p g st h step next f))))
+            (strings_from y one))),
       )
         where
           weaker : (r : Result Drawn Halt) → ComesTo (IsDrawn s shapes st.frame.entry f.here b l.ctype y) r → ComesTo Starts r

@@ -6,6 +6,7 @@ use Rattle.ckc_syntax.specs.declared.tree.Expr.{every_here-Expr}
 use Rattle.ckc_typed.specs.declared.environment.Globals.{Globals}
 use Rattle.ckc_typed.specs.Conversions.{converts, is_allocation}
 use Rattle.ckc_typed.specs.Operands.{is_raw_kind}
+use Rattle.ckc_typed.specs.Statics.{strings_of_expr}
 use Rattle.ckc_typed.specs.Trees.{NotedExpr}
 use Rattle.ckc_typed.specs.Types.{is_char, is_pointer, kind_of}
 use Rattle.ckc_typed_welltyped.specs.Expressions.{AnyLimits, AnyNode}
@@ -26,7 +27,7 @@ use Rattle.ckc_source.specs.States.{State}
 use Rattle.ckc_source.specs.Steps.{store_of, drawn}
 use Rattle.ckc_build_values.specs.Expressions.{expr_elaborated}
 use Rattle.ckc_blame_sound.specs.Bodies.{AreFresh}
-use Rattle.ckc_blame_sound.specs.Settings.{Setting}
+use Rattle.ckc_blame_sound.specs.Settings.{Setting, AreStrings}
 use Rattle.ckc_blame_sound.specs.Values.{IsWordOf}
 use Rattle.ckc_blame_numbers.specs.Typed.{IsTyped, Agrees}
 use Rattle.ckc_blame_texts.proofs.SameViews.{same_view}
@@ -85,7 +86,7 @@ module _ (s : Setting) where
   module _ (globals : Globals) (agrees : Agrees globals s) (declares : DeclareLocals s) (shapes : List Shape) (entry : List ℕ) (here : Here) (b : State) (is_at : IsAt s shapes entry here b)
       (t : CType) (f g : NotedExpr) (fresh literals : ℕ) (typed : IsTyped globals s f) (goes : converts t f ≡ true) (plain : is_allocation f ≡ false)
       (judged : (view s.frame f).judged fresh here.at ≡ Ok g) (little : fresh + length ((view s.frame g).fresh here.at) < 2 ^ 32) (are : AreFresh s.frame fresh)
-      (covered : IsCovered s (store_of shapes b) here.seen g) where
+      (covered : IsCovered s (store_of shapes b) here.seen g) (strings : AreStrings s literals (strings_of_expr g)) where
     is_same : view s.frame g ≡ view s.frame f
     is_same = same_view s.frame f g fresh here.at judged s.frame
 
@@ -116,7 +117,7 @@ module _ (s : Setting) where
     value_drawn =
         by (evaluated (store_of shapes b) (expr_elaborated s.text s.variables literals g))
         (judged_gives globals s agrees declares (store_of shapes b) entry b.next is_at.ready here f g fresh literals
-        (subst (λ (w : View). fresh + length (w.fresh here.at) < 2 ^ 32) is_same little) are typed judged covered is_at.holds)
+        (subst (λ (w : View). fresh + length (w.fresh here.at) < 2 ^ 32) is_same little) are typed judged covered strings is_at.holds)
       where
         by : (r : Result Given Halt) → IsNotStuck (λ p. GivesAt s (store_of shapes b) here.at f p.number) r
             → ComesTo (IsDrawn s shapes entry here b t g) (given r (λ v. Ok (record { number = v.number; state = b })))

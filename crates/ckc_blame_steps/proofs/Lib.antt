@@ -2,6 +2,7 @@ pub mod Comes
 pub mod Drawn
 pub mod Plans
 pub mod Writes
+pub mod Strings
 pub mod Becomes
 pub mod Bytes
 pub mod Landings

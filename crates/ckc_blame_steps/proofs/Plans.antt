@@ -10,6 +10,7 @@ use Rattle.ckc_syntax.specs.declared.tree.Node.{Node-F, out-Node}
 use Rattle.ckc_typed.specs.declared.environment.Globals.{Globals}
 use Rattle.ckc_typed.specs.declared.typed.Note.{Note}
 use Rattle.ckc_typed.specs.Conversions.{converts, is_allocation_form, is_allocation}
+use Rattle.ckc_typed.specs.Statics.{strings_of_expr}
 use Rattle.ckc_typed.specs.Trees.{NotedAct, NotedExpr, NotedLayer, NotedStmt}
 use Rattle.ckc_typed.specs.Types.{is_scalar}
 use Rattle.ckc_bounds_views.specs.Parts.{View, capped, fresh_behind}
@@ -30,7 +31,7 @@ use Rattle.ckc_source.specs.States.{State}
 use Rattle.ckc_source.specs.Steps.{store_of, aimed, Drawn, drawn, allowed, Planned, planned, and_then_written}
 use Rattle.ckc_build_elaborate.specs.Steps.{right_form, right_of, is_terminated}
 use Rattle.ckc_blame_sound.specs.Bodies.{AreFresh}
-use Rattle.ckc_blame_sound.specs.Settings.{Setting}
+use Rattle.ckc_blame_sound.specs.Settings.{Setting, AreStrings}
 use Rattle.ckc_blame_slots.specs.Cells.{IsCell}
 use Rattle.ckc_blame_slots.specs.Writes.{IsCellWrite}
 use Rattle.ckc_blame_slots.proofs.Fresh.{get_before, cell_before, true_before}
@@ -41,6 +42,8 @@ use Rattle.ckc_blame_contained.specs.Given.{StayTrue}
 use Rattle.ckc_blame_pointers.specs.Covered.{DeclareLocals}
 use Rattle.ckc_blame_given.specs.Gives.{Continues}
 use Rattle.ckc_blame_given.specs.Planned.{IsTarget, IsPlanned, ArePlanned}
+use Rattle.ckc_blame_pointers.proofs.Strings.{strings_in_node}
+use Rattle.ckc_blame_given.proofs.Layers.{strings_are}
 use Rattle.ckc_blame_given.proofs.Views.{allocates_is}
 use Rattle.ckc_blame_given.specs.Written.{IsReceived}
 use Rattle.ckc_blame_given.specs.Stored.{IsAssignJudged, next_fresh, AreAssignsJudged}
@@ -118,16 +121,16 @@ module _ (globals : Globals) (s : Setting) (agrees : Agrees globals s) (declares
         sym (allocates_is s.frame f) ∙ ap (λ (w : View). w.allocates) (sym (same_view s.frame f g fresh here.at judged s.frame)) ∙ allocates_is s.frame g ∙ ap is_allocation_form is ∙ none
 
     -- a right side
-    pub right_drawn : IsCoveredValue s (store_of shapes b) here.seen t g (out-Node Name Note g.node)
+    pub right_drawn : IsCoveredValue s (store_of shapes b) here.seen t g (out-Node Name Note g.node) → AreStrings s literals (strings_of_expr g)
         → ComesTo (IsDrawn s shapes entry here b t g) (drawn shapes b (right_of s.text s.variables literals (is_terminated t) g))
-    right_drawn covered = by (out-Node Name Note g.node) refl covered
+    right_drawn covered strings = by (out-Node Name Note g.node) refl covered (subst (AreStrings s literals) (strings_are g) strings)
       where
-        by : (x : NotedLayer) → out-Node Name Note g.node ≡ x → IsCoveredValue s (store_of shapes b) here.seen t g x
+        by : (x : NotedLayer) → out-Node Name Note g.node ≡ x → IsCoveredValue s (store_of shapes b) here.seen t g x → AreStrings s literals (strings_in_node x)
             → ComesTo (IsDrawn s shapes entry here b t g) (drawn shapes b (right_form s.text s.variables literals (is_terminated t) g x))
-        by (Node-F.Calloc w n x) is c =
+        by (Node-F.Calloc w n x) is c numbered_there =
             subst (λ (y : NotedLayer). ComesTo (IsDrawn s shapes entry here b t g) (drawn shapes b (right_form s.text s.variables literals (is_terminated t) g y))) is
-            (allocations b is_at t f g n fresh literals (ap counted_in is) typed goes c.0 judged little are c.1)
-        by x is c = value_drawn s globals agrees declares shapes entry here b is_at t f g fresh literals typed goes (plain x is refl) judged little are c
+            (allocations b is_at t f g n fresh literals (ap counted_in is) typed goes c.0 judged little are c.1 numbered_there)
+        by x is c numbered_there = value_drawn s globals agrees declares shapes entry here b is_at t f g fresh literals typed goes (plain x is refl) judged little are c strings
 
   abbrev IsPlan : State → List Placed → ℕ → ℕ → Valuation → Planned → Type 0
   IsPlan b ps value fresh before = IsSoundPlan s shapes entry here b ps value fresh before
@@ -268,12 +271,12 @@ module _ (globals : Globals) (s : Setting) (agrees : Agrees globals s) (declares
         comes_on (λ to. (n : ℕ) (w : Place) → n < 2 ^ 32 → allowed to n ≡ Ok w → GoesThere s (store_of shapes b) first_of n w) Q (aimed (store_of shapes b) a.0) then_drawn
         (subst (λ y. ComesTo (λ to. (n : ℕ) (w : Place) → n < 2 ^ 32 → allowed to n ≡ Ok w → GoesThere s (store_of shapes b) first_of n w) (aimed (store_of shapes b) y)) (sym becomes.target)
         (judged_aims globals s agrees declares (store_of shapes b) entry b.next is_at.ready here free e first_of fresh becomes.first (subst (λ (w : View). fresh + length (w.fresh here.at) < 2 ^ 32) place_view room.0.left.variables) are fit.0 left_judged
-        (ap is_scalar place_type ∙ fit.3) covered.0 is_at.holds))
+        (ap is_scalar place_type ∙ fit.3) covered.0 becomes.target_strings is_at.holds))
         (λ to goes.
         comes_on (IsDrawn s shapes entry here b place.note.ctype right) Q (drawn shapes b a.1) (then_allowed to)
         (subst (λ y. ComesTo (IsDrawn s shapes entry here b place.note.ctype right) (drawn shapes b y)) (sym becomes.right)
         (right_drawn b is_at place.note.ctype f right next becomes.second fit.1 (subst (λ t. converts t f ≡ true) (sym place_type) fit.2)
-        (subst (λ n. (view s.frame f).judged n here.at ≡ Ok right) next_is right_judged) room.0.right.variables next_free covered.1))
+        (subst (λ n. (view s.frame f).judged n here.at ≡ Ok right) next_is right_judged) room.0.right.variables next_free covered.1 becomes.right_strings))
         (λ d dr.
         let on : IsDrawnOn s shapes here place.note.ctype right first_of.from before d =
         dr.gives first_of.from before room.0.right next_free (subst (λ locals. IsValuationOf s locals before) (sym (same_locals b d.state dr.grown)) values) in

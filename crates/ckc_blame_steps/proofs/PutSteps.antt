@@ -11,6 +11,7 @@ use Rattle.ckc_types.specs.declared.types.CType.{CType}
 use Rattle.ckc_typed.specs.Types.{type_written}
 use Rattle.ckc_typed.specs.declared.typed.Note.{Note}
 use Rattle.ckc_typed.specs.declared.typed.Typed.{Typed}
+use Rattle.ckc_typed.specs.Statics.{strings_of_expr}
 use Rattle.ckc_typed.specs.Trees.{NotedDecl, NotedExpr, NotedInit}
 use Rattle.ckc_bounds_views.specs.Parts.{fresh_behind, capped}
 use Rattle.ckc_bounds_views.specs.Views.{view}
@@ -29,7 +30,7 @@ use Rattle.ckc_build_elaborate.specs.Shapes.{shapes_elaborated}
 use Rattle.ckc_build_elaborate.specs.Steps.{Destination, spot, nowhere, destination_of, assigned, started}
 use Rattle.ckc_blame_sound.specs.Bodies.{AreFresh}
 use Rattle.ckc_blame_sound.specs.Calls.{store_in}
-use Rattle.ckc_blame_sound.specs.Settings.{Setting, IsFunction}
+use Rattle.ckc_blame_sound.specs.Settings.{Setting, AreStrings, IsFunction}
 use Rattle.ckc_blame_sound.specs.Sound.{Sound}
 use Rattle.ckc_blame_runs.specs.Moves.{IsSoundMove}
 use Rattle.ckc_blame_numbers.specs.Typed.{IsTyped, IsTypedInit, IsTypedAct}
@@ -46,6 +47,7 @@ use Rattle.ckc_blame_steps.proofs.ByteSteps.{byte_lands}
 use Rattle.ckc_blame_steps.proofs.Declarations as declaration
 use Rattle.ckc_blame_steps.proofs.Landings.{Lands, landed}
 use Rattle.ckc_blame_steps.proofs.Origins.{Kind, IsCallAlone, is_bundled, is_ending, kind}
+use Rattle.ckc_blame_steps.proofs.Strings.{strings_there, sides_strings}
 use Rattle.ckc_blame_steps.proofs.Steps.{covered_there, known, typed_act}
 use Rattle.ckc_blame_steps.proofs.Stores.{planning, is_at}
 
@@ -83,10 +85,10 @@ module _ (p : Typed) (g : IsGranted p) (st : State) (h : Sound p st) (step : Cod
 
   any_value : (fresh : ℕ) → AreFresh s.frame fresh → (sp : Spot) (to : Destination) (k : ℕ) (before x : NotedExpr) → IsTyped (globals_in p) s before → (view s.frame before).judged fresh f.here.at ≡ Ok x
       → fresh + length ((view s.frame x).fresh f.here.at) < 2 ^ 32 → ((es : List NotedExpr) → out-Node Name Note x.node ≡ Node-F.Call name.Putchar es → IsCoveredFirst s store f.here.seen es)
-      → assigned s.text s.variables sp to k x End ≡ step End → Evaluates
-  any_value fresh are sp to k before x typed judged room covered code =
+      → AreStrings s k (strings_of_expr x) → assigned s.text s.variables sp to k x End ≡ step End → Evaluates
+  any_value fresh are sp to k before x typed judged room covered strings code =
       put_evaluates (globals_in p) s (frames_agree p s st.frame.function g.judged function) (g.declares s st.frame.function function) store st.frame.entry (planning p g st h step next f).next
-      (is_at p g st h step next f).ready f.here f.holds fresh are sp to k e before x typed judged room covered (subst (λ (c : Code). IsPut c e) (sym code) put)
+      (is_at p g st h step next f).ready f.here f.holds fresh are sp to k e before x typed judged room covered strings (subst (λ (c : Code). IsPut c e) (sym code) put)
 
   covered : IsCoveredAct s store f.here.seen (out-Act Name Note f.judged.after.body)
   covered = covered_there p g st h step next f end mode (planning p g st h step next f) (is_at p g st h step next f)
@@ -103,7 +105,8 @@ module _ (p : Typed) (g : IsGranted p) (st : State) (h : Sound p st) (step : Cod
       any_value f.here.next (known p g st h step next f).fresh (spot c.made.pos f.judged.after.note.mode) nowhere f.judged.literals c.call c.made
       (subst (IsTypedAct (globals_in p) s) c.is (typed_act p g st h step next f)) (declaration.value_made s f.here f.judged.counting c.call c.made f.judged.behind c.judged)
       (subst (HasRoomAct s.frame f.here.at f.here.next) c.becomes room).variables
-      (λ es out. subst (IsCoveredAlone s store f.here.seen) out (subst (IsCoveredAct s store f.here.seen) c.becomes covered)) c.goes
+      (λ es out. subst (IsCoveredAlone s store f.here.seen) out (subst (IsCoveredAct s store f.here.seen) c.becomes covered))
+      (strings_there s f.judged.literals f.judged.after f.judged.strings (Act-F.Call c.made) c.becomes) c.goes
 
   assign_evaluates : (a x : NotedExpr) → out-Act Name Note f.judged.before.body ≡ Act-F.Assign a x → Evaluates
   assign_evaluates a x is =
@@ -114,7 +117,8 @@ module _ (p : Typed) (g : IsGranted p) (st : State) (h : Sound p st) (step : Cod
       (assignment.fit p g st h step next f end mode a x is).1 one.right_judged
       (subst (λ n. n + length ((view s.frame one.value).fresh f.here.at) < 2 ^ 32) (assignment.fresh_is p g st h step next f end mode a x is)
       (assignment.room p g st h step next f end mode a x is).right.variables)
-      (of_right one.place.note.ctype one.value (assignment.covered p g st h step next f end mode a x is).1) (assignment.code_there p g st h step next f end mode a x is)
+      (of_right one.place.note.ctype one.value (assignment.covered p g st h step next f end mode a x is).1)
+      (sides_strings s f.judged.literals f.judged.after f.judged.strings one.place one.value one.becomes).1 (assignment.code_there p g st h step next f end mode a x is)
     where
       further : (m n k : ℕ) → m < 2 ^ 32 → capped m n ≤ k → m ≤ k
       further m n k a b = omega arith
@@ -139,7 +143,7 @@ module _ (p : Typed) (g : IsGranted p) (st : State) (h : Sound p st) (step : Cod
             any_value f.here.next (known p g st h step next f).fresh (declaration.spot_there p g st h step next f d is) (declaration.to p g st h step next f d is) (declaration.literals p g st h step next f d is) x
             j.0 typed j.2 (subst (HasRoomInit s.frame f.here.at f.here.next) j.1 (declaration.room p g st h step next f d is)).variables
             (of_right (type_written made.ctype) j.0 (subst (IsCoveredInit s store f.here.seen (type_written made.ctype)) j.1 (subst (IsCoveredAct s store f.here.seen) (declaration.is_made p g st h step next f d is).becomes covered)))
-            (code_for (init.One j.0) j.1)
+            (declaration.strings_from p g st h step next f d is j.0 j.1) (code_for (init.One j.0) j.1)
         by (init.Many xs) j typed = absurd typed
 
   pub evaluates : Kind s f.here f.exits.ends step f.judged → Evaluates

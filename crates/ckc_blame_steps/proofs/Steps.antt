@@ -145,7 +145,7 @@ module _ (p : Typed) (g : IsGranted p) (allocations : AllocateSoundly p) (st : S
   start_at = is_at p g st h step next f
 
   plain : IsPlainStep t sp f.judged.after target right one.place one.value
-  plain = assign_plain t f.judged.literals f.judged.after sp target right f.judged.becomes one.place one.value one.becomes (store_of list start) f.here.seen one.place.note.ctype (covered start start_at).1
+  plain = assign_plain t f.judged.literals f.judged.after sp target right f.judged.becomes f.judged.strings one.place one.value one.becomes (store_of list start) f.here.seen one.place.note.ctype (covered start start_at).1
 
   all_covered : StayCovered t list st.frame.entry f.here afters
   all_covered c at_c =

@@ -8,6 +8,7 @@ use Rattle.ckc_typed.specs.declared.typed.Note.{Note}
 use Rattle.ckc_typed.specs.declared.environment.Globals.{Globals}
 use Rattle.ckc_typed.specs.declared.typed.Typed.{Typed}
 use Rattle.ckc_typed.specs.Conversions.{converts}
+use Rattle.ckc_typed.specs.Statics.{strings_of_expr}
 use Rattle.ckc_typed.specs.Trees.{NotedAct, NotedExpr, NotedLayer, NotedStmt}
 use Rattle.ckc_bounds_views.specs.Parts.{capped, fresh_behind}
 use Rattle.ckc_bounds_views.specs.Views.{view}
@@ -23,7 +24,7 @@ use Rattle.ckc_build_elaborate.specs.Shapes.{shapes_elaborated}
 use Rattle.ckc_build_elaborate.specs.Steps.{target_of, right_of, is_terminated}
 use Rattle.ckc_blame_sound.specs.Bodies.{AreFresh}
 use Rattle.ckc_blame_sound.specs.Points.{HoldsAt}
-use Rattle.ckc_blame_sound.specs.Settings.{Setting, IsFunction}
+use Rattle.ckc_blame_sound.specs.Settings.{Setting, AreStrings, IsFunction}
 use Rattle.ckc_blame_sound.specs.Steps.{IsStep}
 use Rattle.ckc_blame_sound.specs.Slots.{AreFilled}
 use Rattle.ckc_blame_sound.specs.Valuations.{Valuation, IsValuationOf}
@@ -39,12 +40,14 @@ use Rattle.ckc_blame_steps.specs.Granted.{HasRoom, HasPlaces}
 
 -- ---- what assignments become
 
--- An assignment becomes a target and a right side, wherever its string literals are numbered from.
+-- An assignment becomes a target and a right side, whose string literals are the static objects from two numbers on.
 pub record BecomesSides (s : Setting) (e f : NotedExpr) (a : Target × Right) : Type 0 where
   pub first : ℕ
   pub second : ℕ
   pub target : a.0 ≡ target_of s.text s.variables first e
   pub right : a.1 ≡ right_of s.text s.variables second (is_terminated e.note.ctype) f
+  pub target_strings : AreStrings s first (strings_of_expr e)
+  pub right_strings : AreStrings s second (strings_of_expr f)
 
 abbrev pub BecomesPart : Setting → Act-F Name Note NotedAct NotedStmt → (Target × Right) → Type 0
 BecomesPart s (Act-F.Assign e f) a = BecomesSides s e f a
@@ -119,6 +122,7 @@ AllocationsDraw globals s shapes entry here =
     (fresh literals : ℕ) → counted_in (out-Node Name Note g.node) ≡ Some n → IsTyped globals s f → converts t f ≡ true
     → HasPlaces s t → (view s.frame f).judged fresh here.at ≡ Ok g → fresh + length ((view s.frame g).fresh here.at) < 2 ^ 32
     → AreFresh s.frame fresh → IsCovered s (store_of shapes b) here.seen n
+    → AreStrings s literals (strings_of_expr n)
     → ComesTo (IsDrawn s shapes entry here b t g)
     (drawn shapes b (right_of s.text s.variables literals (is_terminated t) g))
 

@@ -1,15 +1,17 @@
 //! What follows from the definitions alone, each the contract of a function that does nothing.
 
 ghost use Rattle.std.specs.Prelude.{ℕ, List};
+ghost use Rattle.std.specs.List.{flat_map};
 ghost use Rattle.ckc_typed.specs.declared.environment.Globals.{Globals};
 ghost use Rattle.ckc_typed.specs.declared.typed.Typed.{Typed};
+ghost use Rattle.ckc_typed.specs.Statics.{strings_of_expr};
 ghost use Rattle.ckc_typed.specs.Trees.{NotedExpr};
 ghost use Rattle.ckc_bounds_statements.specs.Paths.{Here};
 ghost use Rattle.ckc_bounds_stores.specs.declared.values.Numbered.{Numbered};
 ghost use Rattle.ckc_source.specs.Eval.{Store};
 ghost use Rattle.ckc_build_values.specs.Expressions.{expr_elaborated};
 ghost use Rattle.ckc_blame_sound.specs.Points.{HoldsAt};
-ghost use Rattle.ckc_blame_sound.specs.Settings.{Setting};
+ghost use Rattle.ckc_blame_sound.specs.Settings.{Setting, AreStrings};
 ghost use Rattle.ckc_blame_numbers.specs.Typed.{Agrees};
 ghost use Rattle.ckc_blame_texts.specs.Judged.{IsJudged};
 ghost use Rattle.ckc_blame_pointers.specs.Covered.{DeclareLocals, IsSoundStore};
@@ -37,16 +39,18 @@ pub fn objects_keep_results()
     ensures { (p : Typed) → IsJudged p → HaveFewVariables p → ObjectsKeepResults p }
 {}
 
-/// An expression that is covered gives a word to what it is returned or passed as, and the
-/// arguments of a call do if each is, with their numbers one after another.
+/// An expression that is covered, whose string literals are static objects from a number on, gives
+/// a word to what it is returned or passed as, and the arguments of a call do if each is, with their
+/// numbers one after another.
 pub fn covered_give_words()
     ensures one { (globals : Globals) (s : Setting) (entry : List ℕ) (here : Here) (next : ℕ)
         (store : Store) → Agrees globals s → DeclareLocals s → IsSoundStore s store next
         → HoldsAt s store entry here → (e f : NotedExpr) (k : ℕ) (from : Numbered)
-        → IsGivable globals s store here e f from
+        → IsGivable globals s store here e f from → AreStrings s k (strings_of_expr f)
         → GivesWord s store here.at e (expr_elaborated s.text s.variables k f) from }
     ensures each { (globals : Globals) (s : Setting) (entry : List ℕ) (here : Here) (next : ℕ)
         (store : Store) → Agrees globals s → DeclareLocals s → IsSoundStore s store next
         → HoldsAt s store entry here → (es fs : List NotedExpr) (k : ℕ) (from : Numbered)
-        → AreGivable globals s store here es fs from → GiveWords s store here.at k es fs from }
+        → AreGivable globals s store here es fs from
+        → AreStrings s k (flat_map strings_of_expr fs) → GiveWords s store here.at k es fs from }
 {}
