@@ -215,7 +215,7 @@ module _ (globals : Globals) (s : Setting) (store : Store) (seen : List ℕ) (to
   node_covered : (mode : Mode) (t : CType) (x : NotedLayer) → HasType globals s.variables mode x t → is_raw_kind (kind_of t) ≡ false → is_assumed x ≡ false → NamesAmong seen x
       → IsSpokenNode s x → Down IsKnown (EachLimits IsKnownPart) x → IsCoveredNode s store seen t x
   node_covered mode t (Node-F.Number n u) row raw safe scope spoken parts = tt
-  node_covered mode t (Node-F.Text bytes) row raw safe scope spoken parts = absurd spoken
+  node_covered mode t (Node-F.Text bytes) row raw safe scope spoken parts = tt
   node_covered mode t Node-F.Null row raw safe scope spoken parts = tt
   node_covered mode t (Node-F.Name (name.Local k)) row raw safe scope spoken parts = told.locals k scope
   node_covered mode t (Node-F.Name (name.Static k)) row raw safe scope spoken parts = told.statics k t row raw

@@ -54,10 +54,10 @@ pub record IsOtherElement (e : NotedExpr) : Type 0 where
 abbrev pub IsReadElement : NotedExpr → Type 0
 IsReadElement e = (is_integer (element_of e.note.ctype) ≡ true) ⊎ IsOtherElement e
 
--- Of which nodes it is said what they come to: no string literal, no call, no allocation, and no address but those that
--- may be taken; `.` gives a member of what has a place.
+-- Of which nodes it is said what they come to: no call, no allocation, and no address but those that may be taken; `.`
+-- gives a member of what has a place.
 abbrev pub IsSpokenNode : Setting → NotedLayer → Type 0
-IsSpokenNode s (Node-F.Text bytes) = ⊥
+IsSpokenNode s (Node-F.Text bytes) = Unit {0}
 IsSpokenNode s (Node-F.Name (name.Local k)) = Unit {0}
 IsSpokenNode s (Node-F.Name (name.Static k)) = Unit {0}
 IsSpokenNode s (Node-F.Name n) = ⊥

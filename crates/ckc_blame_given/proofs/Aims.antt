@@ -15,6 +15,7 @@ use Rattle.ckc_typed.specs.declared.typed.Range.{Range}
 use Rattle.ckc_typed.specs.declared.typed.Range.TheVariants as range
 use Rattle.ckc_typed.specs.Layouts.{member_number}
 use Rattle.ckc_typed.specs.Operands.{dot_type}
+use Rattle.ckc_typed.specs.Statics.{strings_of_expr}
 use Rattle.ckc_typed.specs.Trees.{NotedExpr, NotedLayer}
 use Rattle.ckc_typed.specs.Types.{is_scalar, element_of}
 use Rattle.ckc_bounds_declared.specs.Written.{bounds_by_type}
@@ -43,7 +44,7 @@ use Rattle.ckc_build_values.specs.Expressions.{Part, part_of, local_in as local_
 use Rattle.ckc_build_elaborate.specs.Steps.{memory, target_form, target_of}
 use Rattle.ckc_blame_sound.specs.Bodies.{AreFresh}
 use Rattle.ckc_blame_sound.specs.Points.{HoldsAt}
-use Rattle.ckc_blame_sound.specs.Settings.{Setting}
+use Rattle.ckc_blame_sound.specs.Settings.{Setting, AreStrings}
 use Rattle.ckc_blame_slots.specs.Cells.{IsPart}
 use Rattle.ckc_blame_numbers.specs.Typed.{HasRow, IsTyped, Agrees}
 use Rattle.ckc_blame_numbers.proofs.Judging.{judged_typed}
@@ -56,7 +57,7 @@ use Rattle.ckc_blame_texts.proofs.Accesses.{scalar_part}
 use Rattle.ckc_blame_given.specs.Planned.{IsTarget, IsLocalTarget}
 use Rattle.ckc_blame_given.specs.Targets.{KeepRunsFree, IsStaticTarget, IsThrough, IsMemberNamed, IsCoveredPlace, IsCoveredTarget, pointed_by, placed_by, begin_in, begin_of, LiesIn, GoesThere, ComesTo, IsAimed}
 use Rattle.ckc_blame_given.proofs.Hits.{IsHit}
-use Rattle.ckc_blame_given.proofs.Layers.{viewed, view_is, part_is, part_by, dot_every, DotEvery}
+use Rattle.ckc_blame_given.proofs.Layers.{viewed, view_is, part_is, part_by, strings_by, strings_are, dot_every, DotEvery}
 use Rattle.ckc_blame_given.proofs.Places.{Goes, IsIn, Lies, allowed_is, member_struct, scalar_target, struct_target, hit_goes, hit_scalar, hit_struct}
 use Rattle.ckc_blame_given.proofs.Pointers.{viewed_type, parted_type, node_is, node_room, node_judged_at, row_at, parts_at, behind_aims, deref_aims, index_aims}
 use Rattle.ckc_blame_pointers.proofs.Reached.{IsElementReached, IsRunReached}
@@ -205,13 +206,13 @@ module _ (globals : Globals) (s : Setting) (agrees : Agrees globals s) (declares
           by_null (word == 0) (reads_within store.shapes store.blocks (pointee_of s.text.layout f.note.ctype) word _ _) (λ v is. by_within _ _ v is) refl is
   pointed_there f y out v is b e = absurd (cc)
 
-  arrow_goes : (f : NotedExpr) (n : Name) (at : Pos) → out-Node Name Note e.node ≡ Node-F.Arrow f n at → IsCovered s store here.seen f → IsThrough s f → IsMemberNamed s (element_of f.note.ctype) t n → Sent (Node-F.Arrow f n at)
-  arrow_goes f n at out covered through m =
+  arrow_goes : (f : NotedExpr) (n : Name) (at : Pos) → out-Node Name Note e.node ≡ Node-F.Arrow f n at → IsCovered s store here.seen f → AreStrings s k (strings_of_expr f) → IsThrough s f → IsMemberNamed s (element_of f.note.ctype) t n → Sent (Node-F.Arrow f n at)
+  arrow_goes f n at out covered strings through m =
       let x = Node-F.Arrow f n at in
       let j = node_judged_at globals s agrees declares store entry next ready here h fresh are e judged x out in
       subst Of (sym (parted_type f))
       (behind_aims globals s agrees declares store entry next ready here h fresh are Gone (width_of t) (offset (element_of f.note.ctype) n m) k f
-      (parts_at globals s agrees declares store entry next ready here h fresh are e typed x out) covered through (node_room globals s agrees declares store entry next ready here h fresh are e room x out)
+      (parts_at globals s agrees declares store entry next ready here h fresh are e typed x out) covered strings through (node_room globals s agrees declares store entry next ready here h fresh are e room x out)
       (one_part (λ a. Node-F.Arrow a n at) (λ a b e. cc) _ f (j.node ∙ ap Ok (node_is e x out))) e.pos j.fault
       (λ v is a first access lies hit.
       struct_goes (element_of f.note.ctype) n m (local_is x out) (member_is x out ∙ found (element_of f.note.ctype) n m (element_of (view s.frame f).ctype) (ap element_of (viewed_type s f))) f.note.ctype refl access lies v a hit
@@ -220,9 +221,11 @@ module _ (globals : Globals) (s : Setting) (agrees : Agrees globals s) (declares
       Of : CType → Type 0
       Of u = ComesTo Gone (aimed store (memory t (member_place s.text.layout (tag_of (element_of u)) n (target_place s.text.layout u e.pos ((part_of f).value s.text s.variables k)))))
 
-  dot_goes : (f : NotedExpr) (n : Name) (at : Pos) → out-Node Name Note e.node ≡ Node-F.Dot f n at → IsCoveredPlace s store here.seen f.note.ctype (out-Node Name Note f.node) → IsMemberNamed s f.note.ctype t n → Sent (Node-F.Dot f n at)
-  dot_goes f n at out covered m =
-      subst (λ (q : Part). ComesTo Gone (aimed store (memory t (member_place s.text.layout (tag_of q.ctype) n (q.place s.text s.variables k))))) (sym (part_is f)) (by (out-Node Name Note f.node) refl covered)
+  dot_goes : (f : NotedExpr) (n : Name) (at : Pos) → out-Node Name Note e.node ≡ Node-F.Dot f n at → IsCoveredPlace s store here.seen f.note.ctype (out-Node Name Note f.node)
+      → AreStrings s k (strings_of_expr f) → IsMemberNamed s f.note.ctype t n → Sent (Node-F.Dot f n at)
+  dot_goes f n at out covered strings m =
+      subst (λ (q : Part). ComesTo Gone (aimed store (memory t (member_place s.text.layout (tag_of q.ctype) n (q.place s.text s.variables k))))) (sym (part_is f))
+      (by (out-Node Name Note f.node) refl covered (subst (AreStrings s k) (strings_are f) strings))
     where
       x : NotedLayer
       x = Node-F.Dot f n at
@@ -247,42 +250,43 @@ module _ (globals : Globals) (s : Setting) (agrees : Agrees globals s) (declares
           struct_goes f.note.ctype n m (local_is (Node-F.Dot f n at) out) found_there r is access lies v a hit
           (λ b begins. let no : None ≡ Some b = sym none ∙ sym (begin_is (Node-F.Dot f n at) out) ∙ begins in absurd (cc))
 
-      by : (y : NotedLayer) → out-Node Name Note f.node ≡ y → IsCoveredPlace s store here.seen f.note.ctype y
+      by : (y : NotedLayer) → out-Node Name Note f.node ≡ y → IsCoveredPlace s store here.seen f.note.ctype y → AreStrings s k (strings_by y)
           → ComesTo Gone (aimed store (memory t (member_place s.text.layout (tag_of f.note.ctype) n ((part_by f y).place s.text s.variables k))))
-      by (Node-F.Name (name.Static j)) out_f c =
+      by (Node-F.Name (name.Static j)) out_f c strings =
           static_member_aims s store next ready p (local_is (Node-F.Dot f n at) out) e.pos j f.note.ctype c (member f.note.ctype n m) found_there (form f.note.ctype n m).1 (named_there f.note.ctype n m)
           (offset f.note.ctype n m) (offset_is f.note.ctype n m) (part f.note.ctype n m) (record (object_place s.text f.note.ctype f.pos j).access { offset = offset f.note.ctype n m }) refl
           (lies_there f.note.ctype n m found_there (address_of s.text j)
           (λ b begins. let same : Some (address_of s.text j) ≡ Some b = sym (ap (placed_by s.text) out_f) ∙ sym (begin_is (Node-F.Dot f n at) out) ∙ begins in cc))
-      by (Node-F.Un op.Deref g) out_f c =
-          deref_aims globals s agrees declares store entry next ready here h fresh are Gone (width_of t) (offset f.note.ctype n m) k f typed_there room_there judged_there (goes (ap (placed_by s.text) out_f)) g out_f c.0 c.1
-      by (Node-F.Index g i) out_f c =
-          index_aims globals s agrees declares store entry next ready here h fresh are Gone (width_of t) (offset f.note.ctype n m) k f typed_there room_there judged_there (goes (ap (placed_by s.text) out_f)) g i out_f c.0 c.1 c.2
-      by y out_f c = absurd (c)
+      by (Node-F.Un op.Deref g) out_f c strings =
+          deref_aims globals s agrees declares store entry next ready here h fresh are Gone (width_of t) (offset f.note.ctype n m) k f typed_there room_there judged_there (goes (ap (placed_by s.text) out_f)) g out_f c.0 strings c.1
+      by (Node-F.Index g i) out_f c strings =
+          index_aims globals s agrees declares store entry next ready here h fresh are Gone (width_of t) (offset f.note.ctype n m) k f typed_there room_there judged_there (goes (ap (placed_by s.text) out_f)) g i out_f c.0 c.1 strings c.2
+      by y out_f c strings = absurd (c)
 
   -- ---- all of them
 
-  each : (x : NotedLayer) → out-Node Name Note e.node ≡ x → IsCoveredTarget s store here.seen e x → Sent x
-  each (Node-F.Name (name.Local j)) out c = local_goes j out c
-  each (Node-F.Name (name.Static j)) out c = static_goes j out c
-  each (Node-F.Un op.Deref f) out c =
-      deref_aims globals s agrees declares store entry next ready here h fresh are Gone (width_of t) 0 k e typed room judged (scalar_goes (Node-F.Un op.Deref f) out refl refl refl refl) f out c.0 c.1
-  each (Node-F.Index f g) out c =
-      index_aims globals s agrees declares store entry next ready here h fresh are Gone (width_of t) 0 k e typed room judged (scalar_goes (Node-F.Index f g) out refl refl refl refl) f g out c.0 c.1 c.2
-  each (Node-F.Arrow f n at) out c = arrow_goes f n at out c.0 c.1 c.2
-  each (Node-F.Dot f n at) out c = dot_goes f n at out c.0 c.1
-  each x out c = absurd c
+  each : (x : NotedLayer) → out-Node Name Note e.node ≡ x → IsCoveredTarget s store here.seen e x → AreStrings s k (strings_by x) → Sent x
+  each (Node-F.Name (name.Local j)) out c strings = local_goes j out c
+  each (Node-F.Name (name.Static j)) out c strings = static_goes j out c
+  each (Node-F.Un op.Deref f) out c strings =
+      deref_aims globals s agrees declares store entry next ready here h fresh are Gone (width_of t) 0 k e typed room judged (scalar_goes (Node-F.Un op.Deref f) out refl refl refl refl) f out c.0 strings c.1
+  each (Node-F.Index f g) out c strings =
+      index_aims globals s agrees declares store entry next ready here h fresh are Gone (width_of t) 0 k e typed room judged (scalar_goes (Node-F.Index f g) out refl refl refl refl) f g out c.0 c.1 strings c.2
+  each (Node-F.Arrow f n at) out c strings = arrow_goes f n at out c.0 strings c.1 c.2
+  each (Node-F.Dot f n at) out c strings = dot_goes f n at out c.0 strings c.1
+  each x out c strings = absurd c
 
-  pub target_aims : IsCoveredTarget s store here.seen e (out-Node Name Note e.node) → IsAimed s store p (aimed store (target_of s.text s.variables k e))
-  target_aims c =
-      subst (λ (q : Part). ComesTo Gone (aimed store (target_form t (q.place s.text s.variables k) (out-Node Name Note e.node)))) (sym (part_is e)) (each (out-Node Name Note e.node) refl c)
+  pub target_aims : IsCoveredTarget s store here.seen e (out-Node Name Note e.node) → AreStrings s k (strings_of_expr e) → IsAimed s store p (aimed store (target_of s.text s.variables k e))
+  target_aims c strings =
+      subst (λ (q : Part). ComesTo Gone (aimed store (target_form t (q.place s.text s.variables k) (out-Node Name Note e.node)))) (sym (part_is e))
+      (each (out-Node Name Note e.node) refl c (subst (AreStrings s k) (strings_are e) strings))
 
 module _ (globals : Globals) (s : Setting) (agrees : Agrees globals s) (declares : DeclareLocals s) (store : Store) (entry : List ℕ) (next : ℕ) (ready : IsSoundStore s store next) (here : Here) (free : KeepRunsFree s.text) where
   -- the target that has been judged is judged as it was
   pub judged_aims : (before : NotedExpr) (p : Placed) (fresh literals : ℕ) → fresh + length ((view s.frame before).fresh here.at) < 2 ^ 32 → AreFresh s.frame fresh → IsTyped globals s before → (view s.frame before).judged fresh here.at ≡ Ok p.target
-      → is_scalar p.target.note.ctype ≡ true → IsCoveredTarget s store here.seen p.target (out-Node Name Note p.target.node) → HoldsAt s store entry here
+      → is_scalar p.target.note.ctype ≡ true → IsCoveredTarget s store here.seen p.target (out-Node Name Note p.target.node) → AreStrings s literals (strings_of_expr p.target) → HoldsAt s store entry here
       → IsAimed s store p (aimed store (target_of s.text s.variables literals p.target))
-  judged_aims before p fresh literals little are typed is scalar covered h =
+  judged_aims before p fresh literals little are typed is scalar covered strings h =
       let same : view s.frame p.target ≡ view s.frame before = same_view s.frame before p.target fresh here.at is s.frame in
       let good : IsTyped globals s p.target = (judged_typed globals s before p.target fresh here.at typed is).0 in
-      target_aims globals s agrees declares store entry next ready here h fresh are free p scalar good (subst (λ (v : View). fresh + length (v.fresh here.at) < 2 ^ 32) (sym same) little) (subst (λ (v : View). v.judged fresh here.at ≡ Ok p.target) (sym same) is) literals covered
+      target_aims globals s agrees declares store entry next ready here h fresh are free p scalar good (subst (λ (v : View). fresh + length (v.fresh here.at) < 2 ^ 32) (sym same) little) (subst (λ (v : View). v.judged fresh here.at ≡ Ok p.target) (sym same) is) literals covered strings

@@ -12,6 +12,7 @@ use Rattle.ckc_typed.specs.declared.environment.Globals.{Globals}
 use Rattle.ckc_typed.specs.declared.typed.Note.{Note}
 use Rattle.ckc_typed.specs.declared.typed.Range.{Range}
 use Rattle.ckc_typed.specs.declared.typed.Range.TheVariants as range
+use Rattle.ckc_typed.specs.Statics.{strings_of_expr}
 use Rattle.ckc_typed.specs.Trees.{NotedLimits, NotedNode, NotedExpr}
 use Rattle.ckc_typed.specs.Types.{is_pointer}
 use Rattle.ckc_bounds_points.specs.declared.frame.Frame.{Frame}
@@ -29,7 +30,7 @@ use Rattle.ckc_source.specs.Runs.{is_true}
 use Rattle.ckc_source.specs.Words.{exact}
 use Rattle.ckc_build_values.specs.Expressions.{expr_elaborated}
 use Rattle.ckc_build_values.specs.Kinds.{integer_of, pointee_of, size_behind}
-use Rattle.ckc_blame_sound.specs.Settings.{Setting}
+use Rattle.ckc_blame_sound.specs.Settings.{Setting, AreStrings}
 use Rattle.ckc_blame_sound.specs.Values.{value, number_of, IsWordOf}
 use Rattle.ckc_blame_sound.specs.Points.{AreBounded, HoldsAt}
 use Rattle.ckc_blame_sound.specs.Bodies.{AreFresh}
@@ -218,9 +219,10 @@ module _ (globals : Globals) (s : Setting) (agrees : Agrees globals s) (declares
 
 pub judged_gives : (globals : Globals) (s : Setting) (agrees : Agrees globals s) (declares : DeclareLocals s) (store : Store) (entry : List ℕ) (next : ℕ) (ready : IsSoundStore s store next) (here : Here) (before after : NotedExpr)
     (fresh literals : ℕ) → fresh + length ((view s.frame before).fresh here.at) < 2 ^ 32 → AreFresh s.frame fresh → IsTyped globals s before → (view s.frame before).judged fresh here.at ≡ Ok after → IsCovered s store here.seen after
-    → HoldsAt s store entry here → IsNotStuck (λ p. GivesAt s store here.at before p.number) (evaluated store (expr_elaborated s.text s.variables literals after))
-judged_gives globals s agrees declares store entry next ready here before after fresh literals little are typed is covered h =
-    weaker (evaluated store (expr_elaborated s.text s.variables literals after)) (judged_meant globals s agrees declares store entry next ready here before after fresh literals little are typed is covered h)
+    → AreStrings s literals (strings_of_expr after) → HoldsAt s store entry here
+    → IsNotStuck (λ p. GivesAt s store here.at before p.number) (evaluated store (expr_elaborated s.text s.variables literals after))
+judged_gives globals s agrees declares store entry next ready here before after fresh literals little are typed is covered strings h =
+    weaker (evaluated store (expr_elaborated s.text s.variables literals after)) (judged_meant globals s agrees declares store entry next ready here before after fresh literals little are typed is covered strings h)
     (λ p there m. gives_at globals s agrees declares store entry next ready here h before p m (type_of before)
     (λ w values facts f told formed.
     sym (subst (λ t. exact (integer_of t) p.number ≡ number_of w.number f) types_are

@@ -1,10 +1,12 @@
 -- What is said of an expression by what is said of the parts of its node.
 use Rattle.std.proofs.Common.{◌≡◌, sym, ap, subst, ◌∙◌, rules}
 use Rattle.ckc_syntax.specs.declared.tree.Name.{Name}
-use Rattle.ckc_syntax.specs.declared.tree.Node.{Node-F, map-Node, out-Node, roll-Node, fold-roll-Node, every_held-Node, the_lemmas}
+use Rattle.ckc_syntax.specs.Inside.{listed, inside_limits}
+use Rattle.ckc_syntax.specs.declared.tree.Node.{Node-F, map-Node, out-Node, roll-Node, fold-Node, fold-roll-Node, every_held-Node, the_lemmas}
 use Rattle.ckc_syntax.specs.declared.tree.Limits.{every-Limits}
 use Rattle.ckc_syntax.specs.declared.tree.Expr.{Expr-F, fold-roll-Expr}
 use Rattle.ckc_typed.specs.declared.typed.Note.{Note}
+use Rattle.ckc_typed.specs.Statics.{Strings, node_strings, expr_strings, strings_of_limits, strings_of_expr}
 use Rattle.ckc_typed.specs.Trees.{NotedLimits, NotedNode, NotedExpr, NotedLayer}
 use Rattle.ckc_typed_welltyped.specs.Expressions.{AnyLimits, AnyNode}
 use Rattle.ckc_bounds_points.specs.declared.frame.Frame.{Frame}
@@ -51,6 +53,19 @@ part_is e =
     node_is : part_of_node e.node ≡ node_parts (parted (out-Node Name Note e.node))
     node_is =
         ap part_of_node (sym (node_whole e.node)) ∙ fold-roll-Node Name Note LimitsPart NodePart Part limits_parts node_parts expr_parts (out-Node Name Note e.node)
+
+-- ---- the string literals in it
+
+abbrev strings_of_node : NotedNode → Strings
+strings_of_node = fold-Node Name Note Strings Strings Strings (inside_limits listed (λ e. e)) node_strings expr_strings
+
+abbrev pub strings_by : NotedLayer → Strings
+strings_by x = node_strings (map-Node Name Note NotedLimits NotedNode NotedExpr Strings Strings Strings strings_of_limits strings_of_node strings_of_expr x)
+
+pub strings_are : (e : NotedExpr) → strings_of_expr e ≡ strings_by (out-Node Name Note e.node)
+strings_are e =
+    fold-roll-Expr Name Note Strings Strings Strings (inside_limits listed (λ e. e)) node_strings expr_strings (record { node = e.node; pos = e.pos; note = e.note })
+    ∙ ap strings_of_node (sym (node_whole e.node)) ∙ fold-roll-Node Name Note Strings Strings Strings (inside_limits listed (λ e. e)) node_strings expr_strings (out-Node Name Note e.node)
 
 -- ---- which targets it names
 

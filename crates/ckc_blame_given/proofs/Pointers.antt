@@ -1,6 +1,6 @@
 -- What `*`, `[` and `->` reach.
 use Rattle.std.proofs.Common.{◌≡◌, refl, sym, ap, subst, ◌∙◌, ℕ, Bool, true, false, List}
-use Rattle.std.specs.Prelude.{◌+◌, ◌<◌, ◌^◌, ◌&&◌, not, if◌then◌else◌, length, Option, None, Some, Ok}
+use Rattle.std.specs.Prelude.{◌++◌, ◌+◌, ◌<◌, ◌^◌, ◌&&◌, not, if◌then◌else◌, length, Option, None, Some, Ok}
 use Rattle.ckc_base.specs.declared.arithmetic.Width.{Width}
 use Rattle.ckc_base.specs.declared.places.Pos.{Pos}
 use Rattle.ckc_types.specs.declared.types.CType.{CType}
@@ -11,6 +11,7 @@ use Rattle.ckc_syntax.specs.declared.tree.Expr.{every_here-Expr}
 use Rattle.ckc_typed.specs.declared.environment.Globals.{Globals}
 use Rattle.ckc_typed.specs.declared.typed.Note.{Note}
 use Rattle.ckc_typed.specs.Operands.{is_moved}
+use Rattle.ckc_typed.specs.Statics.{strings_of_expr}
 use Rattle.ckc_typed.specs.Trees.{NotedExpr, NotedLayer}
 use Rattle.ckc_typed.specs.Types.{is_integer, is_pointer, is_void, kind_of, element_of}
 use Rattle.ckc_typed_welltyped.specs.Expressions.{AnyLimits, AnyNode}
@@ -32,17 +33,18 @@ use Rattle.ckc_build_values.specs.Places.{target_place, element_place}
 use Rattle.ckc_build_values.specs.Expressions.{Part, part_of}
 use Rattle.ckc_blame_sound.specs.Bodies.{AreFresh}
 use Rattle.ckc_blame_sound.specs.Points.{HoldsAt}
-use Rattle.ckc_blame_sound.specs.Settings.{Setting}
+use Rattle.ckc_blame_sound.specs.Settings.{Setting, AreStrings}
 use Rattle.ckc_blame_numbers.specs.Typed.{IsRow, HasRow, IsTyped, Agrees}
 use Rattle.ckc_blame_pointers.specs.Covered.{DeclareLocals, IsSoundStore, IsCoveredExpr, IsCovered}
 use Rattle.ckc_blame_pointers.specs.Meant.{IsNotStuck}
 use Rattle.ckc_blame_pointers.proofs.Binary.{ExprClaims}
 use Rattle.ckc_blame_pointers.proofs.Elements.{IsRanged, ranged_pointer}
-use Rattle.ckc_blame_pointers.proofs.Exprs.{expr_claims}
+use Rattle.ckc_blame_pointers.proofs.Induction.{expr_claims}
 use Rattle.ckc_blame_pointers.proofs.Inside.{IsJudged, judged_is, one_part, two_parts, parts_every, node_every, PartsEvery}
 use Rattle.ckc_blame_pointers.proofs.Numbers.{nothing_behind, same_number}
 use Rattle.ckc_blame_numbers.proofs.Claims.{plain_is}
 use Rattle.ckc_source.specs.Words.{exact, elements_behind}
+use Rattle.ckc_blame_pointers.proofs.Strings.{first_strings, later_strings}
 use Rattle.ckc_blame_pointers.proofs.Sums.{fresh_on}
 use Rattle.ckc_blame_pointers.proofs.Later.{next_more, left_room, right_room, parts_room}
 use Rattle.ckc_blame_given.specs.Targets.{IsThrough, ComesTo}
@@ -91,8 +93,8 @@ module _ (globals : Globals) (s : Setting) (agrees : Agrees globals s) (declares
   few f c = (every_here-Expr Name Note AnyLimits AnyNode (IsCoveredExpr s store here.seen) f c.0).few
 
   pub claims : (f : NotedExpr) → IsTyped globals s f → IsCovered s store here.seen f → HasRoom f → (view s.frame f).judged fresh here.at ≡ Ok f → (k : ℕ)
-      → IsNotStuck (ExprClaims s store entry here f) (evaluated store ((part_of f).value s.text s.variables k))
-  claims f typed covered room judged k = expr_claims globals s agrees declares store entry next ready f typed here covered h fresh room are judged k
+      → AreStrings s k (strings_of_expr f) → IsNotStuck (ExprClaims s store entry here f) (evaluated store ((part_of f).value s.text s.variables k))
+  claims f typed covered room judged k strings = expr_claims globals s agrees declares store entry next ready f typed here covered h fresh room are judged k strings
 
   ranged_at : (f : NotedExpr) (covered : IsCovered s store here.seen f) (room : HasRoom f) (place : Pos) → access_fault (view s.frame f) place fresh here.at ≡ None → is_counted_kind (kind_of f.note.ctype) ≡ true
       → (x : Value) → ExprClaims s store entry here f x → IsRanged s store entry next ready here h f fresh (few f covered) room are x
@@ -102,12 +104,12 @@ module _ (globals : Globals) (s : Setting) (agrees : Agrees globals s) (declares
   module _ (Q : Place → Type 0) (width : Width) (offset k : ℕ) where
     -- ---- the pointer before `*` and `->`
 
-    pub behind_aims : (f : NotedExpr) → IsTyped globals s f → (covered : IsCovered s store here.seen f) → IsThrough s f → HasRoom f → (view s.frame f).judged fresh here.at ≡ Ok f → (place : Pos) → access_fault (view s.frame f) place fresh here.at ≡ None
+    pub behind_aims : (f : NotedExpr) → IsTyped globals s f → (covered : IsCovered s store here.seen f) → AreStrings s k (strings_of_expr f) → IsThrough s f → HasRoom f → (view s.frame f).judged fresh here.at ≡ Ok f → (place : Pos) → access_fault (view s.frame f) place fresh here.at ≡ None
         → ((x : Value) → evaluated store ((part_of f).value s.text s.variables k) ≡ Ok x → (a : ℕ) → a ≡ x.number
         → (access : Access) → access.offset ≡ offset → IsHit s store f.note.ctype access x a → ComesTo Q (aims_at store width access x.range a))
         → ComesTo Q (aimed store (Memory width (record (target_place s.text.layout f.note.ctype place ((part_of f).value s.text s.variables k)).access { offset = offset }) ((part_of f).value s.text s.variables k) (Number 0)))
-    behind_aims f typed covered through room judged place fault goes =
-        through_aims s store entry next ready here h f place ((part_of f).value s.text s.variables k) (claims f typed covered room judged k) offset Q width through fresh (few f covered) room are
+    behind_aims f typed covered strings through room judged place fault goes =
+        through_aims s store entry next ready here h f place ((part_of f).value s.text s.variables k) (claims f typed covered room judged k strings) offset Q width through fresh (few f covered) room are
         (ranged_at f covered room place fault)
         (λ x j is there a exactly hit.
         let none : j.number ≡ 0 = plain_is 0 j there in
@@ -121,29 +123,30 @@ module _ (globals : Globals) (s : Setting) (agrees : Agrees globals s) (declares
       Aims x =
           ComesTo Q (aimed store (Memory width (record ((part_by e x).place s.text s.variables k).access { offset = offset }) ((part_by e x).place s.text s.variables k).pointer ((part_by e x).place s.text s.variables k).index))
 
-      pub deref_aims : (f : NotedExpr) → out-Node Name Note e.node ≡ Node-F.Un op.Deref f → IsCovered s store here.seen f → IsThrough s f → Aims (Node-F.Un op.Deref f)
-      deref_aims f out covered through =
+      pub deref_aims : (f : NotedExpr) → out-Node Name Note e.node ≡ Node-F.Un op.Deref f → IsCovered s store here.seen f → AreStrings s k (strings_of_expr f) → IsThrough s f → Aims (Node-F.Un op.Deref f)
+      deref_aims f out covered strings through =
           let j = node_judged_at e judged (Node-F.Un op.Deref f) out in
           let row = row_at e typed (Node-F.Un op.Deref f) out in
           subst (λ u. ComesTo Q (aimed store (Memory width (record (target_place s.text.layout u e.pos v).access { offset = offset }) v (Number 0)))) (sym (parted_type f))
-          (behind_aims f (parts_at e typed (Node-F.Un op.Deref f) out) covered through (node_room e room (Node-F.Un op.Deref f) out)
+          (behind_aims f (parts_at e typed (Node-F.Un op.Deref f) out) covered strings through (node_room e room (Node-F.Un op.Deref f) out)
           (one_part (λ a. Node-F.Un op.Deref a) (λ a b e. cc) _ f (j.node ∙ ap Ok (node_is e (Node-F.Un op.Deref f) out))) e.pos j.fault
           (λ x is a exactly access at hit. goes f.note.ctype (some_if (is_pointer f.note.ctype && not (is_void (element_of f.note.ctype))) (element_of f.note.ctype) e.note.ctype row.row) access at x a hit))
         where
           v : Expr
           v = (part_of f).value s.text s.variables k
 
-      pub index_aims : (f g : NotedExpr) → out-Node Name Note e.node ≡ Node-F.Index f g → IsCovered s store here.seen f → IsCovered s store here.seen g → is_counted_kind (kind_of f.note.ctype) ≡ true → Aims (Node-F.Index f g)
-      index_aims f g out covered too counted =
+      pub index_aims : (f g : NotedExpr) → out-Node Name Note e.node ≡ Node-F.Index f g → IsCovered s store here.seen f → IsCovered s store here.seen g → AreStrings s k (strings_of_expr f ++ strings_of_expr g)
+          → is_counted_kind (kind_of f.note.ctype) ≡ true → Aims (Node-F.Index f g)
+      index_aims f g out covered too strings counted =
           let j = node_judged_at e judged (Node-F.Index f g) out in
           let row = row_at e typed (Node-F.Index f g) out in
           let typed_parts : IsTyped globals s f × IsTyped globals s g = parts_at e typed (Node-F.Index f g) out in
           let left : HasRoom f = left_room fresh ((view s.frame f).fresh here.at) ((view s.frame g).fresh here.at) (node_room e room (Node-F.Index f g) out) in
           let parts = two_parts (λ a b. Node-F.Index a b) (λ a b c d e. (cc, cc)) _ _ f g (j.node ∙ ap Ok (node_is e (Node-F.Index f g) out)) in
           subst (λ u. Of u (part_of g).ctype) (sym (parted_type f)) (subst (λ u. Of f.note.ctype u) (sym (parted_type g))
-          (counted_aims s store entry next ready here h f e.pos v (claims f typed_parts.0 covered left parts.0 k) offset Q width fresh (few f covered) left are (integer_of g.note.ctype) w (ExprClaims s store entry here g)
+          (counted_aims s store entry next ready here h f e.pos v (claims f typed_parts.0 covered left parts.0 k (first_strings s f (strings_of_expr g) k strings)) offset Q width fresh (few f covered) left are (integer_of g.note.ctype) w (ExprClaims s store entry here g)
           (expr_claims globals s agrees declares store entry next ready g typed_parts.1 here too h (fresh_behind (view s.frame f) fresh here.at) (right_room fresh ((view s.frame f).fresh here.at) ((view s.frame g).fresh here.at) (node_room e room (Node-F.Index f g) out))
-          (fresh_on s store entry here h fresh (fresh_behind (view s.frame f) fresh here.at) (next_more fresh ((view s.frame f).fresh here.at) left) are) parts.1 (k + (part_of f).literals))
+          (fresh_on s store entry here h fresh (fresh_behind (view s.frame f) fresh here.at) (next_more fresh ((view s.frame f).fresh here.at) left) are) parts.1 (k + (part_of f).literals) (later_strings s f (strings_of_expr g) k strings))
           counted (ranged_at f covered left e.pos j.fault counted)
           (λ x i is there a exactly hit. goes f.note.ctype (some_if (is_moved f.note.ctype && is_integer g.note.ctype) (element_of f.note.ctype) e.note.ctype row.row) _ refl x a hit)))
         where

@@ -6,6 +6,7 @@ ghost use Rattle.ckc_linear.specs.declared.forms.Form.{Form};
 ghost use Rattle.ckc_typed.specs.declared.environment.Globals.{Globals};
 ghost use Rattle.ckc_typed.specs.Conversions.{converts, is_allocation};
 ghost use Rattle.ckc_typed.specs.Operands.{is_raw_kind};
+ghost use Rattle.ckc_typed.specs.Statics.{strings_of_expr};
 ghost use Rattle.ckc_typed.specs.Trees.{NotedExpr};
 ghost use Rattle.ckc_typed.specs.Types.{kind_of};
 ghost use Rattle.ckc_bounds_points.specs.declared.frame.Frame.{Frame};
@@ -18,7 +19,7 @@ ghost use Rattle.ckc_bounds_views.specs.Views.{view};
 ghost use Rattle.ckc_bounds_statements.specs.Paths.{Here};
 ghost use Rattle.ckc_source.specs.Eval.{Store, evaluated};
 ghost use Rattle.ckc_build_values.specs.Expressions.{expr_elaborated};
-ghost use Rattle.ckc_blame_sound.specs.Settings.{Setting};
+ghost use Rattle.ckc_blame_sound.specs.Settings.{Setting, AreStrings};
 ghost use Rattle.ckc_blame_sound.specs.Values.{number_of};
 ghost use Rattle.ckc_blame_sound.specs.Points.{HoldsAt};
 ghost use Rattle.ckc_blame_sound.specs.Bodies.{AreFresh};
@@ -43,7 +44,7 @@ pub fn expressions_give()
         → fresh + length ((view s.frame before).fresh here.at) < 2 ^ 32 → AreFresh s.frame fresh
         → IsTyped globals s before
         → (view s.frame before).judged fresh here.at ≡ Ok after → IsCovered s store here.seen after
-        → HoldsAt s store entry here
+        → AreStrings s literals (strings_of_expr after) → HoldsAt s store entry here
         → IsNotStuck (λ p. GivesAt s store here.at before p.number)
         (evaluated store (expr_elaborated s.text s.variables literals after)) }
 {}

@@ -8,6 +8,7 @@ ghost use Rattle.ckc_syntax.specs.declared.tree.Name.{Name};
 ghost use Rattle.ckc_syntax.specs.declared.tree.Node.{out-Node};
 ghost use Rattle.ckc_typed.specs.declared.environment.Globals.{Globals};
 ghost use Rattle.ckc_typed.specs.declared.typed.Note.{Note};
+ghost use Rattle.ckc_typed.specs.Statics.{strings_of_expr};
 ghost use Rattle.ckc_typed.specs.Trees.{NotedExpr, NotedStmt};
 ghost use Rattle.ckc_typed.specs.Types.{is_scalar};
 ghost use Rattle.ckc_bounds_ranges.specs.Bundles.{is_bundle};
@@ -23,7 +24,7 @@ ghost use Rattle.ckc_source.specs.Steps.{Write, aimed, all_written};
 ghost use Rattle.ckc_build_elaborate.specs.Steps.{target_of};
 ghost use Rattle.ckc_blame_sound.specs.Bodies.{AreFresh};
 ghost use Rattle.ckc_blame_sound.specs.Points.{HoldsAt};
-ghost use Rattle.ckc_blame_sound.specs.Settings.{Setting};
+ghost use Rattle.ckc_blame_sound.specs.Settings.{Setting, AreStrings};
 ghost use Rattle.ckc_blame_sound.specs.Slots.{AreFilled};
 ghost use Rattle.ckc_blame_slots.specs.Cells.{AreSound, HaveOwnNames};
 ghost use Rattle.ckc_blame_slots.specs.Limited.{AreSlotParts, store_with};
@@ -48,7 +49,7 @@ pub fn targets_aim()
         → (view s.frame before).judged fresh here.at ≡ Ok p.target
         → is_scalar p.target.note.ctype ≡ true
         → IsCoveredTarget s store here.seen p.target (out-Node Name Note p.target.node)
-        → HoldsAt s store entry here
+        → AreStrings s literals (strings_of_expr p.target) → HoldsAt s store entry here
         → IsAimed s store p (aimed store (target_of s.text s.variables literals p.target)) }
     ensures stays { (s : Setting) (store after : Store) (more : List Block) (p : Placed) (n : ℕ)
         (w : Place) → after.blocks ≡ store.blocks ++ more → after.locals ≡ store.locals

@@ -13,6 +13,7 @@ pub mod Leaves
 pub mod Loads
 pub mod Elements
 pub mod Exprs
+pub mod Induction
 pub mod Whole
 pub mod Widening
 pub mod Wider
@@ -43,4 +44,5 @@ pub mod Bytes
 pub mod OneRanges
 pub mod Operands
 pub mod Literals
+pub mod Strings
 pub mod ReadThrough

@@ -11,7 +11,7 @@ use Rattle.ckc_syntax.specs.declared.tree.Node.{Node-F, out-Node}
 use Rattle.ckc_syntax.specs.declared.tree.Expr.{every_here-Expr}
 use Rattle.ckc_typed.specs.declared.environment.Globals.{Globals}
 use Rattle.ckc_typed.specs.declared.typed.Note.{Note}
-use Rattle.ckc_typed.specs.Conversions.{is_null, is_string, is_string_form, is_allocation, is_allocation_form, is_terminated_kind, takes_string, takes_allocation, takes_pointer, pointer_takes, kinds_allow, kind_is_tested, is_tested}
+use Rattle.ckc_typed.specs.Conversions.{is_null, is_string, is_allocation, is_allocation_form, is_terminated_kind, takes_string, takes_allocation, takes_pointer, pointer_takes, kinds_allow, kind_is_tested, is_tested}
 use Rattle.ckc_typed.specs.Operands.{same_element}
 use Rattle.ckc_typed.specs.Trees.{NotedExpr, NotedLayer}
 use Rattle.ckc_typed.specs.Types.{is_char, is_pointer, is_scalar, kind_of, element_of}
@@ -25,7 +25,7 @@ use Rattle.ckc_source.specs.Eval.{Store}
 use Rattle.ckc_blame_sound.specs.Settings.{Setting}
 use Rattle.ckc_blame_sound.specs.Bodies.{AreFresh}
 use Rattle.ckc_blame_sound.specs.Points.{HoldsAt}
-use Rattle.ckc_blame_numbers.specs.Typed.{IsTyped, Agrees}
+use Rattle.ckc_blame_numbers.specs.Typed.{IsRow, HasRow, IsTyped, Agrees}
 use Rattle.ckc_blame_pointers.specs.Covered.{DeclareOnes, IsSoundStore, IsCoveredNode, IsCoveredExpr, AreCovered}
 use Rattle.ckc_blame_pointers.proofs.Binary.{ExprClaims}
 use Rattle.ckc_blame_pointers.proofs.Casts.{IsTestable, tested_looser, null_testable, known_testable}
@@ -33,16 +33,13 @@ use Rattle.ckc_blame_pointers.proofs.Elements.{no_fault}
 use Rattle.ckc_blame_pointers.proofs.Inside.{null_range}
 use Rattle.ckc_blame_pointers.proofs.OneRanges.{one_known}
 use Rattle.ckc_blame_pointers.proofs.Scalars.{null_scalar, same_scalar}
+use Rattle.ckc_blame_pointers.proofs.Strings.{string_row, string_taken, string_typed}
 use Rattle.ckc_blame_pointers.proofs.Truths.{either}
 
 pub tested_pointer : (t : CType) (e : NotedExpr) → is_tested t e ≡ true → is_pointer t ≡ true
 tested_pointer t e tested = (and_parts (is_pointer t) (pointer_takes kind_is_tested t e) tested).0
 
 module _ (globals : Globals) (s : Setting) (store : Store) (here : Here) (t : CType) (e : NotedExpr) (typed : IsTyped globals s e) (covered : AreCovered s store here.seen e) (tested : is_tested t e ≡ true) where
-  no_text : (x : NotedLayer) (t : CType) → IsCoveredNode s store here.seen t x → is_string_form x ≡ false
-  no_text (Node-F.Text bytes) t c = absurd c
-  no_text x t c = refl
-
   no_allocation : (x : NotedLayer) (t : CType) → IsCoveredNode s store here.seen t x → is_allocation_form x ≡ false
   no_allocation (Node-F.Calloc w e u) t c = absurd c
   no_allocation x t c = refl
@@ -50,10 +47,11 @@ module _ (globals : Globals) (s : Setting) (store : Store) (here : Here) (t : CT
   covered_here : IsCoveredExpr s store here.seen (record { node = e.node; pos = e.pos; note = e.note })
   covered_here = every_here-Expr Name Note AnyLimits AnyNode (IsCoveredExpr s store here.seen) e covered
 
-  not_string : takes_string t e ≡ true → ⊥
-  not_string h =
+  string_takes : takes_string t e ≡ true → takes_pointer kind_is_tested t e ≡ true
+  string_takes h =
       let p = (and_parts (is_string e) (is_terminated_kind (kind_of t) && is_char (element_of t)) h).0 in
-      let other = no_text (out-Node Name Note e.node) e.note.ctype covered_here.node in absurd (cc)
+      let row : IsRow globals s (out-Node Name Note e.node) e.note = every_here-Expr Name Note AnyLimits AnyNode (HasRow globals s) e typed in
+      string_taken t e (tested_pointer t e tested) (string_typed e.note.ctype row.mode (string_row globals s.variables row.mode (out-Node Name Note e.node) e.note.ctype p row.row) covered_here.checked) h
 
   not_new : takes_allocation t e ≡ true → ⊥
   not_new h =
@@ -63,7 +61,7 @@ module _ (globals : Globals) (s : Setting) (store : Store) (here : Here) (t : CT
   -- It is null, or a pointer to the same type.
   operand_takes : (is_null e ≡ true) ⊎ (takes_pointer kind_is_tested t e ≡ true)
   operand_takes =
-      ⊎_elim (λ null. inl null) (λ rest. ⊎_elim (λ string. absurd (not_string string)) (λ rest. ⊎_elim (λ new. absurd (not_new new)) (λ p. inr p) (either (takes_allocation t e) (takes_pointer kind_is_tested t e) rest))
+      ⊎_elim (λ null. inl null) (λ rest. ⊎_elim (λ string. inr (string_takes string)) (λ rest. ⊎_elim (λ new. absurd (not_new new)) (λ p. inr p) (either (takes_allocation t e) (takes_pointer kind_is_tested t e) rest))
       (either (takes_string t e) (takes_allocation t e || takes_pointer kind_is_tested t e) rest))
       (either (is_null e) (takes_string t e || (takes_allocation t e || takes_pointer kind_is_tested t e)) (and_parts (is_pointer t) (pointer_takes kind_is_tested t e) tested).1)
 

@@ -2,6 +2,7 @@
 use Rattle.std.proofs.Common.{◌≡◌, inl, inr, refl, sym, subst, ℕ, List}
 use Rattle.std.specs.Prelude.{◌+◌, ◌<◌, ◌^◌, length, Ok}
 use Rattle.ckc_typed.specs.declared.environment.Globals.{Globals}
+use Rattle.ckc_typed.specs.Statics.{strings_of_expr}
 use Rattle.ckc_typed.specs.Trees.{NotedExpr}
 use Rattle.ckc_bounds_views.specs.Parts.{View, fresh_behind}
 use Rattle.ckc_bounds_views.specs.Views.{view}
@@ -9,7 +10,7 @@ use Rattle.ckc_bounds_statements.specs.Paths.{Here}
 use Rattle.ckc_source.specs.declared.outcome.Value.{Value}
 use Rattle.ckc_source.specs.Eval.{Store, evaluated}
 use Rattle.ckc_build_values.specs.Expressions.{expr_elaborated}
-use Rattle.ckc_blame_sound.specs.Settings.{Setting}
+use Rattle.ckc_blame_sound.specs.Settings.{Setting, AreStrings}
 use Rattle.ckc_blame_sound.specs.Values.{IsWordOf}
 use Rattle.ckc_blame_sound.specs.Points.{HoldsAt}
 use Rattle.ckc_blame_numbers.specs.Typed.{IsTyped, Agrees}
@@ -21,7 +22,8 @@ use Rattle.ckc_blame_sound.specs.Bodies.{AreFresh}
 use Rattle.ckc_blame_pointers.specs.Meant.{IsNotStuck, HasPlace, IsMeant}
 use Rattle.ckc_blame_pointers.proofs.Binary.{ExprClaims}
 use Rattle.ckc_blame_pointers.proofs.Claims.{weaker}
-use Rattle.ckc_blame_pointers.proofs.Exprs.{point_of, expr_claims}
+use Rattle.ckc_blame_pointers.proofs.Exprs.{point_of}
+use Rattle.ckc_blame_pointers.proofs.Induction.{expr_claims}
 use Rattle.ckc_blame_pointers.proofs.Later.{extends_self}
 use Rattle.ckc_blame_texts.proofs.SameViews.{same_view}
 
@@ -54,11 +56,11 @@ module _ (globals : Globals) (s : Setting) (agrees : Agrees globals s) (declares
       itself first fresh v = extends_self (first + (view s.frame e).values) (fresh_behind (view s.frame e) fresh here.at) v
 
   pub judged_meant : (before after : NotedExpr) (fresh literals : ℕ) → fresh + length ((view s.frame before).fresh here.at) < 2 ^ 32 → AreFresh s.frame fresh → IsTyped globals s before → (view s.frame before).judged fresh here.at ≡ Ok after → IsCovered s store here.seen after
-      → HoldsAt s store entry here → IsNotStuck (IsMeant s store entry here (view s.frame before)) (evaluated store (expr_elaborated s.text s.variables literals after))
-  judged_meant before after fresh literals little are typed is covered h =
+      → AreStrings s literals (strings_of_expr after) → HoldsAt s store entry here → IsNotStuck (IsMeant s store entry here (view s.frame before)) (evaluated store (expr_elaborated s.text s.variables literals after))
+  judged_meant before after fresh literals little are typed is covered strings h =
       let same : view s.frame after ≡ view s.frame before = same_view s.frame before after fresh here.at is s.frame in
       let good : IsTyped globals s after = (judged_typed globals s before after fresh here.at typed is).0 in
       subst (λ v. IsNotStuck (IsMeant s store entry here v) (evaluated store (expr_elaborated s.text s.variables literals after))) same
       (weaker (evaluated store (expr_elaborated s.text s.variables literals after))
-      (expr_claims globals s agrees declares store entry next ready after good here covered h fresh (subst (λ (v : View). fresh + length (v.fresh here.at) < 2 ^ 32) (sym same) little) are (subst (λ (v : View). v.judged fresh here.at ≡ Ok after) (sym same) is) literals)
+      (expr_claims globals s agrees declares store entry next ready after good here covered h fresh (subst (λ (v : View). fresh + length (v.fresh here.at) < 2 ^ 32) (sym same) little) are (subst (λ (v : View). v.judged fresh here.at ≡ Ok after) (sym same) is) literals strings)
       (λ p there c. meant after good h literals p there c))

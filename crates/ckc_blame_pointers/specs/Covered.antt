@@ -332,12 +332,13 @@ IsCoveredUnary s store op.Deref e = IsElement e ⊎ (IsSingle s e ⊎ (IsStructu
 IsCoveredUnary s store op.Address e = IsAddressed s e.note.ctype (out-Node Name Note e.node)
 IsCoveredUnary s store o e = IsArithmetic o
 
--- The nodes of a type of which it is said what they come to: numbers, `sizeof`, `NULL`, locals in scope, static
--- integers, arrays and pointers, operators, `?:`, casts, bounds casts that are tested, what is read through pointers, what
--- `->` and `.` read, and the addresses of static objects, elements and members; and the structures of which `.` gives a
--- member.
+-- The nodes of a type of which it is said what they come to: numbers, string literals, `sizeof`, `NULL`, locals in
+-- scope, static integers, arrays and pointers, operators, `?:`, casts, bounds casts that are tested, what is read
+-- through pointers, what `->` and `.` read, and the addresses of static objects, elements and members; and the structures
+-- of which `.` gives a member.
 abbrev pub IsCoveredNode : Setting → Store → List ℕ → CType → NotedLayer → Type 0
 IsCoveredNode s store seen t (Node-F.Number n unsigned) = Unit {0}
+IsCoveredNode s store seen t (Node-F.Text bytes) = Unit {0}
 IsCoveredNode s store seen t (Node-F.Size w) = Unit {0}
 IsCoveredNode s store seen t Node-F.Null = Unit {0}
 IsCoveredNode s store seen t (Node-F.Name (name.Local k)) = IsInScope s seen k

@@ -2,6 +2,7 @@
 
 ghost use Rattle.std.specs.Prelude.{◌≡◌, ℕ, ◌+◌, ◌<◌, ◌≤◌, ◌^◌, List, length, Ok};
 ghost use Rattle.ckc_typed.specs.declared.environment.Globals.{Globals};
+ghost use Rattle.ckc_typed.specs.Statics.{strings_of_expr};
 ghost use Rattle.ckc_typed.specs.Trees.{NotedExpr};
 ghost use Rattle.ckc_bounds_points.specs.declared.frame.Frame.{Frame};
 ghost use Rattle.ckc_bounds_points.specs.Flow.{State};
@@ -9,7 +10,7 @@ ghost use Rattle.ckc_bounds_views.specs.Views.{view};
 ghost use Rattle.ckc_bounds_statements.specs.Paths.{Here};
 ghost use Rattle.ckc_source.specs.Eval.{Store, evaluated};
 ghost use Rattle.ckc_build_values.specs.Expressions.{expr_elaborated};
-ghost use Rattle.ckc_blame_sound.specs.Settings.{Setting};
+ghost use Rattle.ckc_blame_sound.specs.Settings.{Setting, AreStrings};
 ghost use Rattle.ckc_blame_sound.specs.Points.{HoldsAt};
 ghost use Rattle.ckc_blame_numbers.specs.Typed.{IsTyped, Agrees};
 ghost use Rattle.ckc_blame_sound.specs.Bodies.{AreFresh};
@@ -17,9 +18,9 @@ ghost use Rattle.ckc_blame_pointers.specs.Covered.{DeclareLocals, IsSoundStore, 
 ghost use Rattle.ckc_blame_pointers.specs.Meant.{IsNotStuck, IsMeant};
 
 /// What becomes of a judged expression gives a value that is as it is judged to be, or stops at a named check. It is
-/// not stuck. This is said of numbers, `sizeof`, `NULL`, locals in scope, static integers and arrays, operators, `?:`,
-/// casts, bounds casts that are tested, static pointers, members, what is read through checked pointers, and the addresses
-/// of static objects, elements and members; and of no unchecked pointers.
+/// not stuck. This is said of numbers, string literals, `sizeof`, `NULL`, locals in scope, static integers and arrays,
+/// operators, `?:`, casts, bounds casts that are tested, static pointers, members, what is read through checked
+/// pointers, and the addresses of static objects, elements and members; and of no unchecked pointers.
 pub fn expressions_are_not_stuck()
     ensures { (globals : Globals) (s : Setting) (entry : List ℕ) (here : Here)
         (before after : NotedExpr) (fresh literals next : ℕ) (store : Store) → Agrees globals s
@@ -27,7 +28,7 @@ pub fn expressions_are_not_stuck()
         → fresh + length ((view s.frame before).fresh here.at) < 2 ^ 32 → AreFresh s.frame fresh
         → IsTyped globals s before
         → (view s.frame before).judged fresh here.at ≡ Ok after → IsCovered s store here.seen after
-        → HoldsAt s store entry here
+        → AreStrings s literals (strings_of_expr after) → HoldsAt s store entry here
         → IsNotStuck (IsMeant s store entry here (view s.frame before))
         (evaluated store (expr_elaborated s.text s.variables literals after)) }
 {}

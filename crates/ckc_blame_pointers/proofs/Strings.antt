@@ -1,0 +1,143 @@
+-- The string literals in the parts of an expression, and what becomes of a string literal.
+use Rattle.std.proofs.Common.{◌≡◌, refl, sym, ap, subst, ◌∙◌, ℕ, ◌+◌, List, ◌++◌, rules}
+use Rattle.std.specs.Prelude.{Bool, true, false, ◌&&◌, Option, Some}
+use Rattle.std.proofs.lemmas.Bool.{and_parts}
+use Rattle.ckc_base.specs.declared.arithmetic.Mode.{Mode}
+use Rattle.ckc_base.specs.declared.arithmetic.Mode.TheVariants.{Checked, Unchecked}
+use Rattle.ckc_types.specs.declared.types.Kind.{Kind}
+use Rattle.ckc_types.specs.declared.types.Kind.TheVariants as kind
+use Rattle.ckc_types.specs.declared.types.CType.{CType, CType-F, out-CType, roll-CType, the_lemmas as ctype_lemmas}
+use Rattle.ckc_types.specs.declared.types.CType.TheVariants as ctype
+use Rattle.ckc_syntax.specs.declared.tree.Name.{Name}
+use Rattle.ckc_syntax.specs.declared.tree.Limits.{map-Limits, out-Limits, fold_out-Limits}
+use Rattle.ckc_syntax.specs.declared.tree.Node.{Node-F, fold-Node, map-Node, roll-Node, fold-roll-Node}
+use Rattle.ckc_syntax.specs.declared.tree.Expr.{Expr-F, roll-Expr, fold-roll-Expr}
+use Rattle.ckc_syntax.specs.Inside.{listed, inside_limits}
+use Rattle.ckc_typed.specs.declared.environment.Globals.{Globals}
+use Rattle.ckc_typed.specs.declared.environment.Variable.{Variable}
+use Rattle.ckc_typed.specs.declared.typed.Note.{Note}
+use Rattle.ckc_typed.specs.declared.typed.StaticObject.{StaticObject}
+use Rattle.ckc_typed.specs.Conversions.{is_string, is_string_form, is_terminated_kind, kind_is_tested, kinds_allow, takes_pointer, takes_string}
+use Rattle.ckc_typed.specs.Expressions.{string_type}
+use Rattle.ckc_typed.specs.Operands.{is_raw_kind}
+use Rattle.ckc_typed.specs.Statics.{Strings, node_strings, expr_strings, strings_of_limits, strings_of_expr}
+use Rattle.ckc_typed.specs.Trees.{NotedLimits, NotedNode, NotedExpr, NotedLayer}
+use Rattle.ckc_typed.specs.Types.{is_char, is_char_form, is_pointer, is_pointer_form, element_of, element_in, kind_of, kind_in, same_type}
+use Rattle.ckc_typed_welltyped.specs.Expressions.{HasType}
+use Rattle.ckc_typed_welltyped.specs.Parts.{LimitsLayer}
+use Rattle.ckc_build_values.specs.Expressions.{part_of, literals_of}
+use Rattle.ckc_build_values.proofs.Counted.{expr_counted}
+use Rattle.ckc_blame_sound.specs.Settings.{Setting, IsString, AreStrings}
+use Rattle.ckc_blame_sound.proofs.Strings.{strings_in_front, strings_after}
+use Rattle.ckc_blame_pointers.specs.Covered.{IsLiteral}
+use Rattle.ckc_blame_pointers.proofs.Arrays.{type_same}
+
+-- ---- the literals in the parts
+
+abbrev pub strings_of_node : NotedNode → Strings
+strings_of_node = fold-Node Name Note Strings Strings Strings (inside_limits listed (λ e. e)) node_strings expr_strings
+
+abbrev pub strings_in_node : NotedLayer → Strings
+strings_in_node x = node_strings (map-Node Name Note NotedLimits NotedNode NotedExpr Strings Strings Strings strings_of_limits strings_of_node strings_of_expr x)
+
+abbrev pub strings_in_limits : LimitsLayer → Strings
+strings_in_limits x = inside_limits listed (λ e. e) (map-Limits Name Note NotedLimits NotedNode NotedExpr Strings Strings Strings strings_of_limits strings_of_node strings_of_expr x)
+
+pub node_strings_are : (x : NotedLayer) → strings_of_node (roll-Node Name Note x) ≡ strings_in_node x
+node_strings_are x = fold-roll-Node Name Note Strings Strings Strings (inside_limits listed (λ e. e)) node_strings expr_strings x
+
+pub expr_strings_are : (x : Expr-F Name Note NotedLimits NotedNode NotedExpr) → strings_of_expr (roll-Expr Name Note x) ≡ strings_of_node x.node
+expr_strings_are x = fold-roll-Expr Name Note Strings Strings Strings (inside_limits listed (λ e. e)) node_strings expr_strings x
+
+pub limits_strings_are : (l : NotedLimits) → strings_of_limits l ≡ strings_in_limits (out-Limits Name Note l)
+limits_strings_are l = fold_out-Limits Name Note Strings Strings Strings (inside_limits listed (λ e. e)) node_strings expr_strings l
+
+module _ (s : Setting) (e : NotedExpr) (ys : Strings) (k : ℕ) where
+  pub first_strings : AreStrings s k (strings_of_expr e ++ ys) → AreStrings s k (strings_of_expr e)
+  first_strings h = strings_in_front s (strings_of_expr e) ys k h
+
+  pub later_strings : AreStrings s k (strings_of_expr e ++ ys) → AreStrings s (k + (part_of e).literals) ys
+  later_strings h = strings_after s (strings_of_expr e) ys k (literals_of e) (expr_counted e) h
+
+-- ---- a literal
+
+-- that is no unchecked pointer
+pub string_out : (mode : Mode) → is_raw_kind (kind_of (string_type mode)) ≡ false → out-CType (string_type mode) ≡ CType-F.Pointer kind.Nt ctype.Char
+string_out Checked e = search (rules, ctype_lemmas)
+string_out Unchecked e = let raw : is_raw_kind (kind_of (string_type Unchecked)) ≡ true = ap (λ f. is_raw_kind (kind_in f)) unchecked_out in absurd cc
+  where
+    unchecked_out : out-CType (string_type Unchecked) ≡ CType-F.Pointer kind.Raw ctype.Char
+    unchecked_out = search (rules, ctype_lemmas)
+
+-- a pointer to characters that end with a zero
+pub record IsStringType (t : CType) : Type 0 where
+  pub pointer : is_pointer t ≡ true
+  pub kind_is : kind_of t ≡ Some kind.Nt
+  pub element : element_of t ≡ ctype.Char
+
+pub string_typed : (t : CType) (mode : Mode) → t ≡ string_type mode → is_raw_kind (kind_of t) ≡ false → IsStringType t
+string_typed t mode is checked =
+    subst IsStringType (sym is) (record { pointer = ap is_pointer_form out; kind_is = ap kind_in out; element = ap element_in out })
+  where
+    out : out-CType (string_type mode) ≡ CType-F.Pointer kind.Nt ctype.Char
+    out = string_out mode (sym (ap is_raw_kind (ap kind_of is)) ∙ checked)
+
+-- The static object of a literal is the array that it points into.
+pub string_literal : (s : Setting) (t : CType) (bytes : List ℕ) (k : ℕ) → IsStringType t → IsString s bytes k → IsLiteral s t bytes k
+string_literal s t bytes k typed string = record {
+  array = record {
+    object = string.object;
+    there = string.there;
+    judged = string.judged;
+    kind = kind.Nt;
+    array = ap (λ (o : StaticObject). o.array) string.made;
+    counted = refl;
+    ends = ap (λ (o : StaticObject). o.terminated) string.made;
+    free = string.free;
+    pointer = typed.pointer;
+    kind_is = typed.kind_is;
+    element = typed.element ∙ sym (ap (λ (o : StaticObject). o.element) string.made);
+  };
+  char = ap (λ (o : StaticObject). is_char o.element) string.made ∙ search (rules, ctype_lemmas);
+  ends = ap (λ (o : StaticObject). o.terminated) string.made;
+  count = ap (λ (o : StaticObject). o.count) string.made;
+}
+
+-- ---- a literal that is cast
+
+pub char_type : (t : CType) → is_char t ≡ true → t ≡ ctype.Char
+char_type t e = by (out-CType t) refl e
+  where
+    back : roll-CType (out-CType t) ≡ t
+    back = search (rules, ctype_lemmas)
+
+    char_is : roll-CType CType-F.Char ≡ ctype.Char
+    char_is = search (rules, ctype_lemmas)
+
+    by : (f : CType-F CType) → out-CType t ≡ f → is_char_form f ≡ true → t ≡ ctype.Char
+    by CType-F.Char is e = sym back ∙ ap roll-CType is ∙ char_is
+    by (CType-F.Pointer k u) is e = absurd cc
+    by CType-F.Int is e = absurd cc
+    by CType-F.Unsigned is e = absurd cc
+    by CType-F.Void is e = absurd cc
+    by (CType-F.Struct tag) is e = absurd cc
+
+ends_in : (k : Option Kind) → is_terminated_kind k ≡ true → k ≡ Some kind.Nt
+ends_in (Some kind.Nt) e = refl
+ends_in k e = absurd cc
+
+all_true : (a b c d : Bool) → a ≡ true → b ≡ true → c ≡ true → d ≡ true → ((a && (b && c)) && d) ≡ true
+all_true a b c d p q r z = rw (p, q, r, z) refl
+
+-- The row of a literal is the type of literals in the mode.
+pub string_row : (globals : Globals) (variables : List Variable) (mode : Mode) (x : NotedLayer) (t : CType) → is_string_form x ≡ true → HasType globals variables mode x t → t ≡ string_type mode
+string_row globals variables mode (Node-F.Text bytes) t s r = r
+string_row globals variables mode x t s r = absurd cc
+
+-- A literal is taken as a pointer that it may become.
+pub string_taken : (t : CType) (e : NotedExpr) → is_pointer t ≡ true → IsStringType e.note.ctype → takes_string t e ≡ true → takes_pointer kind_is_tested t e ≡ true
+string_taken t e pointer typed h =
+    let p : (is_terminated_kind (kind_of t) ≡ true) × (is_char (element_of t) ≡ true) = and_parts (is_terminated_kind (kind_of t)) (is_char (element_of t)) (and_parts (is_string e) (is_terminated_kind (kind_of t) && is_char (element_of t)) h).1 in
+    let same : same_type (element_of t) (element_of e.note.ctype) ≡ true = subst (λ u. same_type (element_of t) u ≡ true) (char_type (element_of t) p.1 ∙ sym typed.element) (type_same (element_of t)) in
+    let kinds : kinds_allow kind_is_tested (kind_of e.note.ctype) (kind_of t) ≡ true = ap (λ j. kinds_allow kind_is_tested j (kind_of t)) typed.kind_is ∙ ap (λ j. kinds_allow kind_is_tested (Some kind.Nt) j) (ends_in (kind_of t) p.0) in
+    all_true (is_pointer t) (is_pointer e.note.ctype) (same_type (element_of t) (element_of e.note.ctype)) (kinds_allow kind_is_tested (kind_of e.note.ctype) (kind_of t)) pointer typed.pointer same kinds
