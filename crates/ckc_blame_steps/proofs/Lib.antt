@@ -36,6 +36,7 @@ pub mod Given
 pub mod Kept
 pub mod Objects
 pub mod ResultPoints
+pub mod Declaring
 pub mod Words
 pub mod Callocs
 pub mod Valued

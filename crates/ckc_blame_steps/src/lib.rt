@@ -6,6 +6,7 @@ mod allocated_laws;
 mod calls_laws;
 mod covered_laws;
 mod decided_laws;
+mod declared_laws;
 mod laws;
 mod results_laws;
 mod rooms_laws;
@@ -15,6 +16,7 @@ pub use allocated_laws::allocations_draw;
 pub use calls_laws::{calls_keep_sound, ends_keep_sound, results_are_known, returns_keep_sound};
 pub use covered_laws::checked_steps_are_covered;
 pub use decided_laws::conditions_are_decided;
+pub use declared_laws::{results_are_spared, steps_declare};
 pub use laws::{assignments_keep_sound, bytes_keep_sound};
 pub use results_laws::{
     callees_are_known, covered_give_words, objects_keep_results, points_after_results_hold,
