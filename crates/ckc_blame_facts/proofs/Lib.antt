@@ -33,3 +33,4 @@ pub mod TreeStrings
 pub mod Spared
 pub mod LaidOut
 pub mod Variables
+pub mod Ones
