@@ -61,7 +61,7 @@ made_there frame b ls (x ∷ ds) (suc i) k d is e =
 pub all_at : (frame : Frame) (b : Bool) (ds : List NotedDecl) (k : ℕ) (d : NotedDecl) → slice_get ds k ≡ Some d → slice_get (with_all frame b [] ds) k ≡ Some (local_made frame b k d)
 all_at frame b ds k d e = made_there frame b [] ds k k d (sym (from_zero k)) e
 
-declaration_at : (frame : Frame) (b : Bool) (ds : List NotedDecl) (k : ℕ) (l : Local) → slice_get (with_all frame b [] ds) k ≡ Some l
+pub declaration_at : (frame : Frame) (b : Bool) (ds : List NotedDecl) (k : ℕ) (l : Local) → slice_get (with_all frame b [] ds) k ≡ Some l
     → (d : NotedDecl) × (slice_get ds k ≡ Some d) × (l ≡ local_made frame b k d)
 declaration_at frame b ds k l e =
     let one = some_at ds k less in (one.0, one.1, same (all_at frame b ds k one.0 one.1))

@@ -42,3 +42,4 @@ pub mod Spoken
 pub mod Variables
 pub mod Given
 pub mod CalledNames
+pub mod Ones

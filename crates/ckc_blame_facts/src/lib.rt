@@ -19,5 +19,7 @@ pub use laws::{
     callees_have_heads, functions_are_small, pointees_are_integers, statics_are_told,
     steps_have_room, texts_have_few,
 };
-pub use locals_laws::{locals_are_in_scope, locals_are_scalars, locals_declare};
+pub use locals_laws::{
+    locals_are_in_scope, locals_are_scalars, locals_declare, locals_declare_ones,
+};
 pub use spoken_laws::checked_expressions_are_spoken;

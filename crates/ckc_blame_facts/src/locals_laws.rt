@@ -15,12 +15,19 @@ ghost use Rattle.ckc_source.specs.Code.{Code, Expr, Function};
 ghost use Rattle.ckc_blame_sound.specs.Settings.{Setting, IsFunction};
 ghost use Rattle.ckc_blame_sound.specs.Steps.{IsStep, IsCondition};
 ghost use Rattle.ckc_blame_texts.specs.Judged.{IsJudged, globals_in};
-ghost use Rattle.ckc_blame_pointers.specs.Covered.{DeclareLocals, IsInScope};
+ghost use Rattle.ckc_blame_pointers.specs.Covered.{DeclareLocals, DeclareOnes, IsInScope};
 
 /// The declared bounds of the locals of a judged text name locals and static arrays alone.
 pub fn locals_declare()
     ensures { (p : Typed) (s : Setting) (f : Function) → IsJudged p → IsFunction p s f
         → DeclareLocals s }
+{}
+
+/// No `_Ptr` is declared with bounds in a judged text: each local that is one has the bounds of its
+/// type, one element.
+pub fn locals_declare_ones()
+    ensures { (p : Typed) (s : Setting) (f : Function) → IsJudged p → IsFunction p s f
+        → DeclareOnes s }
 {}
 
 /// Each local of a judged text that is a variable of its function is a scalar, and so is what is

@@ -48,7 +48,7 @@ taken takes false l e o = tt
 taken takes true l e None = tt
 taken takes true l e (Some b) = λ i. e
 
-decl_fits : (frame : Frame) (h : Holder) (d : NotedDecl) → Gives (λ (x : Bounds). IsBoundable d) (decl_bounds frame h d)
+pub decl_fits : (frame : Frame) (h : Holder) (d : NotedDecl) → Gives (λ (x : Bounds). IsBoundable d) (decl_bounds frame h d)
 decl_fits frame h d = by d.bounds
   where
     by : (o : Option NotedLimits) → Gives (λ (x : Bounds). is_some o ≡ true → takes_bounds (type_written d.ctype) d.length ≡ true) (bounds_declared frame h (type_written d.ctype) d.length o)

@@ -96,7 +96,7 @@ module _ (frame : Frame) (h : NotedHead) (after before : NotedStmt) (twin : Twin
       ∙ ap (λ m. with_nameless m (locals_frame frame h before)) (needs (locals_frame frame h before) head (first_fresh h before))
 
 -- what a body becomes is its twin
-body_twin : (frame : Frame) (h : NotedHead) (before after : NotedStmt) → body_judged frame h before ≡ Ok after → Twin (path after) (path before)
+pub body_twin : (frame : Frame) (h : NotedHead) (before after : NotedStmt) → body_judged frame h before ≡ Ok after → Twin (path after) (path before)
 body_twin frame h before after judged =
     let walk = made_of ((path before).judged (function_frame frame h before) (head_bounds frame h) (begin_of frame h before)) (λ p. Ok p.0) after judged in
     let same : walk.0.0 ≡ after = cc in
