@@ -1,6 +1,7 @@
 -- The statement of a step that calls a function.
 use Rattle.std.proofs.Common.{◌≡◌, ◌⊎◌, ⊎_elim, refl, sym, ap, subst, ◌∙◌, ℕ, ◌+◌, List, [], ◌∷◌, map, rules, arith}
 use Rattle.std.specs.Prelude.{◌≤◌, ◌^◌, ◌-◌, ◌||◌, slice_get, Bool, true, false, not, Option, Some, Ok}
+use Rattle.std.specs.List.{flat_map}
 use Rattle.ckc_base.specs.declared.places.Pos.{Pos}
 use Rattle.ckc_base.specs.Outcomes.{bind, unless}
 use Rattle.ckc_syntax.specs.declared.tree.Name.{Name}
@@ -14,6 +15,7 @@ use Rattle.ckc_typed.specs.declared.environment.Variable.{Variable}
 use Rattle.ckc_typed.specs.declared.typed.Note.{Note}
 use Rattle.ckc_typed.specs.declared.typed.Typed.{Typed}
 use Rattle.ckc_typed.specs.Expressions.{is_object_form}
+use Rattle.ckc_typed.specs.Statics.{strings_of_expr}
 use Rattle.ckc_typed.specs.Statements.{is_call_form, is_variable_form, is_text_call}
 use Rattle.ckc_typed.specs.Trees.{NotedAct, NotedDecl, NotedExpr, NotedInit, NotedLayer, NotedStmt}
 use Rattle.ckc_typed.specs.Types.{is_pointer, type_written}
@@ -37,7 +39,7 @@ use Rattle.ckc_build_elaborate.specs.Literals.{literals_of_bounds}
 use Rattle.ckc_build_elaborate.specs.Names.{number_of, params_of}
 use Rattle.ckc_build_elaborate.specs.Steps.{Destination, spot, nowhere, destination_of, destination_for, arguments, called, assigned, assigned_form, declared, returned}
 use Rattle.ckc_build_elaborate.specs.Statements.{all_assigns, act_code, part_of}
-use Rattle.ckc_blame_sound.specs.Settings.{Setting}
+use Rattle.ckc_blame_sound.specs.Settings.{Setting, AreStrings}
 use Rattle.ckc_blame_sound.specs.Bodies.{globals_of_text, IsInBody}
 use Rattle.ckc_blame_sound.specs.Calls.{arguments_of_node, arguments_of_expr, arguments_of_init, arguments_of_act, arguments_of, head_by_name, head_of_node, head_of_expr, head_of_init, head_of_act, head_of}
 use Rattle.ckc_blame_sound.specs.Steps.{is_simple, IsStep}
@@ -48,6 +50,7 @@ use Rattle.ckc_blame_steps.specs.Arguments.{literals_before_act, literals_before
 use Rattle.ckc_blame_steps.specs.Results.{value_of_init, value_of_act, value_of, type_of_act, type_of}
 use Rattle.ckc_blame_steps.proofs.Converted.{call_looser}
 use Rattle.ckc_blame_given.proofs.Looser.{IsLooser}
+use Rattle.ckc_blame_steps.proofs.Strings.{strings_there, sides_strings, init_strings, call_strings}
 use Rattle.ckc_blame_steps.proofs.Calls.{IsCall, call_judged, value_is_judged}
 use Rattle.ckc_blame_given.proofs.Views.{viewed_layer, view_is}
 
@@ -131,6 +134,7 @@ module _ (s : Setting) (here there : Here) (sp : Spot) (target : Option Kept) (n
     pub number_is : number ≡ number_of (name.Function function) s.text.tree.items
     pub arguments_are : es ≡ arguments s.text s.variables (literals_before step.after step.literals) (params_of (name.Function function) s.text.tree.items) afters
     pub mode : sp.mode ≡ step.inside.mode
+    pub strings : AreStrings s (literals_before step.after step.literals) (flat_map strings_of_expr afters)
 
   -- what the statement is judged as, by its layer
   judged_as : (d : ActLayer) → out-Act Name Note step.before.body ≡ d → act_judged (viewed d) s.frame s.head step.before.pos step.before.note here ≡ Ok (step.after, step.behind)
@@ -175,6 +179,11 @@ module _ (s : Setting) (here there : Here) (sp : Spot) (target : Option Kept) (n
   arguments_by : (e : NotedExpr) (n : Name) (fs : List NotedExpr) → out-Node Name Note e.node ≡ Node-F.Call n fs → arguments_of_expr e ≡ fs
   arguments_by e n fs is = ap arguments_of_node is
 
+  -- the string literals in the arguments of a call that a statement has as its value
+  strings_of_call : (x : ActLayer) → out-Act Name Note step.after.body ≡ x → (e : NotedExpr) (n : Name) (fs : List NotedExpr) → out-Node Name Note e.node ≡ Node-F.Call n fs
+      → AreStrings s (literals_before_act x step.literals) (strings_of_expr e) → AreStrings s (literals_before step.after step.literals) (flat_map strings_of_expr fs)
+  strings_of_call x out e n fs node h = subst (λ (y : ActLayer). AreStrings s (literals_before_act y step.literals) (flat_map strings_of_expr fs)) (sym out) (call_strings s (literals_before_act x step.literals) e n fs node h)
+
   abbrev at : Spot
   at = spot step.after.pos step.after.note.mode
 
@@ -201,6 +210,7 @@ module _ (s : Setting) (here there : Here) (sp : Spot) (target : Option Kept) (n
         number_is = made.number_is;
         arguments_are = made.arguments_are ∙ ap (λ (y : ActLayer). arguments s.text s.variables (literals_before_act y step.literals) (params_of (name.Function made.function) s.text.tree.items) made.afters) (sym out);
         mode = made.mode ∙ mode_as (act.Call m.0.0) (Act-F.Call x) is last.0 refl;
+        strings = strings_of_call (Act-F.Call m.0.0) out m.0.0 (name.Function made.function) made.afters made.node (strings_there s step.literals step.after step.strings (Act-F.Call m.0.0) out);
       }
 
   module _ (word : here.next ≤ 2 ^ 32 - 1) where
@@ -242,6 +252,7 @@ module _ (s : Setting) (here there : Here) (sp : Spot) (target : Option Kept) (n
           number_is = made.number_is;
           arguments_are = made.arguments_are ∙ ap (λ (y : ActLayer). arguments s.text s.variables (literals_before_act y step.literals) (params_of (name.Function made.function) s.text.tree.items) made.afters) (sym out);
           mode = made.mode ∙ mode_as (act.Assign a.0.0 b.0.0) (Act-F.Assign q x) is st refl;
+          strings = strings_of_call (Act-F.Assign a.0.0 b.0.0) out b.0.0 (name.Function made.function) made.afters made.node (sides_strings s step.literals step.after step.strings a.0.0 b.0.0 out).1;
         }
 
     as_local : (d : NotedDecl) → out-Act Name Note step.before.body ≡ Act-F.Local d → IsCallStep
@@ -286,6 +297,7 @@ module _ (s : Setting) (here there : Here) (sp : Spot) (target : Option Kept) (n
               number_is = made.number_is;
               arguments_are = made.arguments_are ∙ ap (λ (y : ActLayer). arguments s.text s.variables (literals_before_act y step.literals) (params_of (name.Function made.function) s.text.tree.items) made.afters) (sym out);
               mode = made.mode ∙ mode_as (act.Local e) (Act-F.Local d) is done refl;
+              strings = strings_of_call (Act-F.Local e) out w.0.0 (name.Function made.function) made.afters made.node (init_strings s step.literals step.after step.strings e w.0.0 out row.plain refl);
             }
         by init.Nothing same y h judged st =
             let pair = pair_same {A = NotedInit} init.Nothing y here h (ap (λ z. init_judged s.frame z here) (sym same) ∙ judged) in

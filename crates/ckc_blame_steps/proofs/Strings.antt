@@ -1,13 +1,16 @@
 -- The string literals of the parts of a statement that is a step by itself.
-use Rattle.std.proofs.Common.{◌≡◌, subst, ℕ, ◌+◌, Bool, true, []}
-use Rattle.std.specs.Prelude.{if◌then◌else◌}
+use Rattle.std.proofs.Common.{◌≡◌, ◌∙◌, refl, sym, ap, subst, ℕ, ◌+◌, Bool, true, List, [], ◌∷◌, ◌++◌, map}
+use Rattle.std.specs.Prelude.{if◌then◌else◌, Option, Some}
+use Rattle.std.specs.List.{flat_map}
 use Rattle.ckc_syntax.specs.declared.tree.Name.{Name}
 use Rattle.ckc_syntax.specs.declared.tree.Init.TheVariants as init
+use Rattle.ckc_syntax.specs.Inside.{listed, inside_each, inside_limits}
 use Rattle.ckc_syntax.specs.declared.tree.Act.{Act-F, out-Act}
+use Rattle.ckc_syntax.specs.declared.tree.Node.{Node-F, out-Node, fold_out-Node}
 use Rattle.ckc_typed.specs.declared.typed.Note.{Note}
 use Rattle.ckc_typed.specs.Declarations.{is_plain}
-use Rattle.ckc_typed.specs.Statics.{strings_of_expr, strings_of_bounds, strings_of_init, act_strings, strings_of_stmt}
-use Rattle.ckc_typed.specs.Trees.{NotedDecl, NotedExpr, NotedInit, NotedStmt}
+use Rattle.ckc_typed.specs.Statics.{Strings, strings_of_expr, strings_of_bounds, strings_of_init, strings_of_value, node_strings, expr_strings, act_strings, strings_of_stmt}
+use Rattle.ckc_typed.specs.Trees.{NotedDecl, NotedExpr, NotedInit, NotedLayer, NotedStmt}
 use Rattle.ckc_build_values.specs.Expressions.{literals_of}
 use Rattle.ckc_build_values.proofs.Counted.{expr_counted}
 use Rattle.ckc_build_elaborate.specs.Literals.{literals_of_bounds}
@@ -15,6 +18,8 @@ use Rattle.ckc_build_elaborate.proofs.Counted.{bounds}
 use Rattle.ckc_blame_sound.specs.Settings.{Setting, AreStrings}
 use Rattle.ckc_blame_sound.proofs.Strings.{strings_in_front, strings_after, strings_inside, strings_are}
 use Rattle.ckc_blame_numbers.proofs.Stepping.{ActLayer}
+use Rattle.ckc_blame_pointers.proofs.Strings.{strings_in_node, expr_strings_are}
+use Rattle.ckc_blame_steps.specs.Results.{returned_by, returned_by_act}
 
 module _ (s : Setting) (literals : ℕ) (st : NotedStmt) (strings : AreStrings s literals (strings_of_stmt st)) where
   pub strings_there : (x : ActLayer) → out-Act Name Note st.body ≡ x → AreStrings s literals (act_strings (strings_inside x))
@@ -36,3 +41,27 @@ module _ (s : Setting) (literals : ℕ) (st : NotedStmt) (strings : AreStrings s
       strings_after s (strings_of_bounds d.bounds) (strings_of_init (is_plain d.length) d.init) literals (literals_of_bounds d.bounds) (bounds d.bounds) (strings_there (Act-F.Local d) is) in
       subst (λ (b : Bool). AreStrings s (literals + literals_of_bounds d.bounds) (if b then strings_of_expr e else [])) plain
       (subst (λ (i : NotedInit). AreStrings s (literals + literals_of_bounds d.bounds) (strings_of_init (is_plain d.length) i)) one h)
+
+  -- those of what is returned
+  pub returned_strings : (f : NotedExpr) → returned_by st ≡ Some f → AreStrings s literals (strings_of_expr f)
+  returned_strings f is = by (out-Act Name Note st.body) refl is
+    where
+      by : (x : ActLayer) → out-Act Name Note st.body ≡ x → returned_by_act x ≡ Some f → AreStrings s literals (strings_of_expr f)
+      by (Act-F.Return e) out there = subst (λ o. AreStrings s literals (strings_of_value o)) there (strings_there (Act-F.Return e) out)
+      by x out there = absurd cc
+
+each_listed : (es : List NotedExpr) → inside_each listed (λ (xs : Strings). xs) (map (λ (e : NotedExpr). strings_of_expr e) es) ≡ flat_map strings_of_expr es
+each_listed [] = refl
+each_listed (e ∷ es) = ap (λ xs. strings_of_expr e ++ xs) (each_listed es)
+
+strings_down : (e : NotedExpr) → strings_of_expr e ≡ strings_in_node (out-Node Name Note e.node)
+strings_down e =
+    expr_strings_are (record { node = e.node; pos = e.pos; note = e.note })
+    ∙ fold_out-Node Name Note Strings Strings Strings (inside_limits listed (λ e. e)) node_strings expr_strings e.node
+
+-- those of the arguments of a call
+pub call_strings : (s : Setting) (k : ℕ) (e : NotedExpr) (n : Name) (es : List NotedExpr) → out-Node Name Note e.node ≡ Node-F.Call n es
+    → AreStrings s k (strings_of_expr e) → AreStrings s k (flat_map strings_of_expr es)
+call_strings s k e n es is h =
+    subst (AreStrings s k) (each_listed es)
+    (subst (λ (x : NotedLayer). AreStrings s k (strings_in_node x)) is (subst (AreStrings s k) (strings_down e) h))

@@ -9,3 +9,4 @@ pub mod Givable
 pub mod Known
 pub mod Rooms
 pub mod Before
+pub mod Accepted
