@@ -1,12 +1,11 @@
 -- The statement of a checked step is covered once it is judged: each kind of statement.
-use Rattle.std.proofs.Common.{◌≡◌, ◌∙◌, refl, sym, ap, subst, ℕ, Bool, true, false, List, [], ◌∷◌, arith}
-use Rattle.std.specs.Prelude.{◌<◌, ◌≤◌, ◌^◌, ◌-◌, ◌||◌, not, length, Option, None, Some, IfSome, Ok}
-use Rattle.ckc_base.specs.declared.arithmetic.Mode.{Mode}
+use Rattle.std.proofs.Common.{◌≡◌, ◌∙◌, refl, sym, ap, subst, true, false, List}
+use Rattle.std.specs.Prelude.{◌-◌, not, Option, None, Some, IfSome, Ok}
 use Rattle.ckc_base.specs.declared.arithmetic.Mode.TheVariants.{Checked}
-use Rattle.ckc_base.specs.Outcomes.{bind, unless}
+use Rattle.ckc_base.specs.Outcomes.{unless}
 use Rattle.ckc_syntax.specs.declared.tree.Name.{Name}
 use Rattle.ckc_syntax.specs.declared.tree.Init.TheVariants as init
-use Rattle.ckc_syntax.specs.declared.tree.Node.{Node-F, out-Node}
+use Rattle.ckc_syntax.specs.declared.tree.Node.{out-Node}
 use Rattle.ckc_syntax.specs.declared.tree.Act.{Act-F, out-Act}
 use Rattle.ckc_syntax.specs.declared.tree.Act.TheVariants as act
 use Rattle.ckc_syntax_limits.specs.Small.{Small}
@@ -14,12 +13,10 @@ use Rattle.ckc_types.specs.declared.types.CType.{CType}
 use Rattle.ckc_typed.specs.declared.environment.Globals.{Globals}
 use Rattle.ckc_typed.specs.declared.typed.Note.{Note}
 use Rattle.ckc_typed.specs.declared.typed.Typed.{Typed}
-use Rattle.ckc_typed.specs.Conversions.{is_allocation}
 use Rattle.ckc_typed.specs.Statements.{is_result}
-use Rattle.ckc_typed.specs.Trees.{NotedAct, NotedDecl, NotedExpr, NotedInit, NotedStmt}
+use Rattle.ckc_typed.specs.Trees.{NotedDecl, NotedExpr, NotedInit, NotedStmt}
 use Rattle.ckc_typed.specs.Types.{is_scalar_type, type_written}
 use Rattle.ckc_typed_welltyped.specs.Declarations.{StartsLocal}
-use Rattle.ckc_typed_welltyped.specs.Expressions.{WellTypedExpr}
 use Rattle.ckc_typed_welltyped.specs.Productions.{callless_expr, is_call, is_right}
 use Rattle.ckc_typed_welltyped.specs.Statements as rows
 use Rattle.ckc_typed_welltyped.specs.Statements.{IsAssignment, act_rows, WellTypedStmt}
@@ -43,12 +40,12 @@ use Rattle.ckc_blame_facts.specs.Pointees.{AreFine}
 use Rattle.ckc_blame_facts.proofs.Checked.{step_checked}
 use Rattle.ckc_blame_facts.proofs.FineNames.{names_fine}
 use Rattle.ckc_blame_facts.proofs.FineStatements.{scalar_fine}
+use Rattle.ckc_blame_facts.proofs.Pointees.{typed_fine}
 use Rattle.ckc_blame_facts.proofs.Rooms.{step_places}
 use Rattle.ckc_blame_given.specs.Stored.{IsAssignJudged, AreAssignsJudged}
 use Rattle.ckc_blame_given.proofs.Stored.{assignment_stored, bundle_stored}
-use Rattle.ckc_blame_steps.specs.Before.{Premises, IsCoveredThere, IsCoveredIf}
+use Rattle.ckc_blame_steps.specs.Before.{Premises, IsCoveredIf}
 use Rattle.ckc_blame_steps.specs.Granted.{IsCoveredInit, IsCoveredRight, IsCoveredAct}
-use Rattle.ckc_blame_steps.specs.Results.{returned_by_act, returned_by}
 use Rattle.ckc_blame_steps.proofs.Calls.{value_is_judged}
 use Rattle.ckc_blame_steps.proofs.CoveredParts.{sides_covered, bundle_covered}
 use Rattle.ckc_blame_steps.proofs.CoveredRights.{value_covered, one_covered, right_covered, alone_covered}
@@ -185,14 +182,14 @@ module _ (p : Typed) (j : IsJudged p) (small : Small j.named.tree) (words : Have
       (init_covered (type_written d.ctype) (type_written m.made.ctype) d.init m.made.init (ap type_written m.parts.type_is) typed.scalar typed.starts (subst (IsFitAct globals s here.seen) is fits)
       (subst IsGivenAct is gives) m.parts.begins)
 
-  call_covered : ((e : NotedExpr) → before ≡ Act-F.Call e → is_allocation e ≡ false) → (e : NotedExpr) → before ≡ Act-F.Call e → IsCoveredAct s store here.seen after
-  call_covered other e is =
+  call_covered : (e : NotedExpr) → before ≡ Act-F.Call e → IsCoveredAct s store here.seen after
+  call_covered e is =
       let c = as_call s here there step i e is in
       let judged = (value_is_judged s.frame c.call c.made here i.behind i.counting c.judged).0 in
       let fit : Fits c.call = subst (IsFitAct globals s here.seen) c.is fits in
       let given : is_call c.call ≡ true = subst IsGivenAct c.is gives in
       subst (IsCoveredAct s store here.seen) (sym c.becomes)
-      (alone_covered p j s f function store here known.told known.spoken c.call c.made here.next fit given (other c.call c.is) judged)
+      (alone_covered p j s f function store here known.told known.spoken c.call c.made here.next fit given (typed_fine globals s c.call fine fit.typed) judged)
 
   -- what is returned
   pub return_if : (x y : Option NotedExpr) → IfSome x Fits → IfSome x (λ (e : NotedExpr). callless_expr e ≡ true) → is_result s.result x ≡ true → JudgedIf s here there step i x y
@@ -223,14 +220,14 @@ module _ (p : Typed) (j : IsJudged p) (small : Small j.named.tree) (words : Have
       subst (IsCoveredAct s store here.seen) (sym m.becomes)
       (value_covered p j s f function store here known.told known.spoken x m.made here.next (subst (IsFitAct globals s here.seen) is fits) (subst IsGivenAct is gives) typed.1 m.judged)
 
-  -- all of them, if no statement is a `calloc` alone
-  pub act_covered : ((e : NotedExpr) → before ≡ Act-F.Call e → is_allocation e ≡ false) → IsCoveredAct s store here.seen after
-  act_covered other = by before refl i.simple
+  -- all of them
+  pub act_covered : IsCoveredAct s store here.seen after
+  act_covered = by before refl i.simple
     where
       by : (x : ActLayer) → before ≡ x → is_simple x ≡ true → IsCoveredAct s store here.seen after
       by (Act-F.Local d) is simple = local_covered d is
       by (Act-F.Assign e g) is simple = assign_covered e g is
-      by (Act-F.Call e) is simple = call_covered other e is
+      by (Act-F.Call e) is simple = call_covered e is
       by (Act-F.Return x) is simple = return_covered x is
       by (Act-F.Check x) is simple = check_covered x is
       by (Act-F.Bundle ss) is simple = bundle_is_covered ss is

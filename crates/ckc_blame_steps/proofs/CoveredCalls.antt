@@ -1,6 +1,6 @@
 -- The arguments of a checked call, and what a checked return returns, are covered.
-use Rattle.std.proofs.Common.{◌≡◌, ◌∙◌, refl, sym, ap, subst, ℕ, true, false, List, arith}
-use Rattle.std.specs.Prelude.{◌≤◌, ◌<◌, ◌^◌, ◌-◌, ◌||◌, Bool, length, Option, None, Some, IfSome}
+use Rattle.std.proofs.Common.{◌≡◌, refl, sym, subst, ℕ, true, false, List, arith}
+use Rattle.std.specs.Prelude.{◌≤◌, ◌^◌, ◌-◌, ◌||◌, Bool, Option, None, Some, IfSome}
 use Rattle.ckc_base.specs.declared.arithmetic.Mode.TheVariants.{Checked}
 use Rattle.ckc_syntax.specs.declared.tree.Name.{Name}
 use Rattle.ckc_syntax.specs.declared.tree.Name.TheVariants as name
@@ -10,7 +10,7 @@ use Rattle.ckc_syntax_limits.specs.Small.{Small}
 use Rattle.ckc_typed.specs.declared.environment.Globals.{Globals}
 use Rattle.ckc_typed.specs.declared.typed.Note.{Note}
 use Rattle.ckc_typed.specs.declared.typed.Typed.{Typed}
-use Rattle.ckc_typed.specs.Trees.{NotedDecl, NotedExpr, NotedInit}
+use Rattle.ckc_typed.specs.Trees.{NotedExpr, NotedInit}
 use Rattle.ckc_typed_welltyped.specs.Productions.{callless_expr, is_call, is_right}
 use Rattle.ckc_bounds_statements.specs.Paths.{Here}
 use Rattle.ckc_source.specs.declared.stmt.Kept.{Kept}

@@ -11,7 +11,6 @@ use Rattle.ckc_types.specs.declared.types.CType.TheVariants as ctype
 use Rattle.ckc_syntax.specs.declared.tree.Name.{Name}
 use Rattle.ckc_syntax.specs.declared.tree.Name.TheVariants as name
 use Rattle.ckc_syntax.specs.declared.tree.Node.{Node-F, map-Node, fold-Node, out-Node, roll-Node, fold-roll-Node}
-use Rattle.ckc_syntax.specs.declared.tree.Limits.{fold-Limits}
 use Rattle.ckc_syntax.specs.declared.tree.Expr.{every_here-Expr, fold-roll-Expr}
 use Rattle.ckc_typed.specs.declared.environment.Globals.{Globals}
 use Rattle.ckc_typed.specs.declared.environment.Signature.{Signature}
@@ -21,20 +20,16 @@ use Rattle.ckc_typed.specs.declared.typed.Typed.{Typed}
 use Rattle.ckc_typed.specs.Constants.{size_of}
 use Rattle.ckc_typed.specs.Conversions.{is_allocation, is_allocation_form, is_null, is_null_form, is_string, is_string_form, is_terminated_kind, kind_converts, kinds_allow, takes_string, takes_allocation, takes_pointer, pointer_takes, converts}
 use Rattle.ckc_typed.specs.Environment.{putchar, signature_named}
-use Rattle.ckc_typed.specs.Expressions.{is_placed}
 use Rattle.ckc_typed.specs.Operands.{same_element}
-use Rattle.ckc_typed.specs.Statements.{is_named}
 use Rattle.ckc_typed.specs.Trees.{NotedLimits, NotedNode, NotedExpr, NotedLayer, TypeTree}
 use Rattle.ckc_typed.specs.Types.{is_char, is_integer, is_integer_form, is_pointer, is_scalar, element_in, element_of, kind_of, same_type, type_written}
 use Rattle.ckc_typed_welltyped.specs.Expressions.{AnyLimits, AnyNode, HasType, AreArguments, IsAllocation, IsCall}
 use Rattle.ckc_typed_welltyped.specs.Productions.{call_form, callless_expr, callless_limits, limits_callless, node_callless, expr_callless, is_call, is_right}
 use Rattle.ckc_typed_welltyped.specs.Statements as rows
-use Rattle.ckc_bounds_points.specs.Flow.{State}
 use Rattle.ckc_bounds_views.specs.Judged.{all_judged}
 use Rattle.ckc_bounds_views.specs.Parts.{fresh_behind}
 use Rattle.ckc_bounds_views.specs.Views.{view}
 use Rattle.ckc_bounds_statements.specs.Paths.{Here}
-use Rattle.ckc_build_values.specs.Kinds.{size_behind}
 use Rattle.ckc_source.specs.Code.{Function}
 use Rattle.ckc_source.specs.Eval.{Store}
 use Rattle.ckc_blame_sound.specs.Settings.{Setting, IsFunction}
@@ -44,7 +39,7 @@ use Rattle.ckc_blame_slots.proofs.Same.{same_equal}
 use Rattle.ckc_blame_numbers.specs.Typed.{IsRow, HasRow, IsTyped}
 use Rattle.ckc_blame_numbers.proofs.Judging.{IsGood, Gives, expr_judged, outline}
 use Rattle.ckc_blame_numbers.proofs.Statements.{made_of}
-use Rattle.ckc_blame_pointers.specs.Covered.{IsCoveredNode, IsCoveredExpr, AreCovered, IsCovered}
+use Rattle.ckc_blame_pointers.specs.Covered.{IsCoveredNode, IsCoveredExpr, IsCovered}
 use Rattle.ckc_blame_texts.specs.Judged.{IsJudged, globals_in}
 use Rattle.ckc_blame_texts.proofs.Every.{ExprLayer, EachLimits, EachExpr}
 use Rattle.ckc_blame_facts.specs.Checked.{IsCheckedPart, IsChecked}
@@ -58,7 +53,7 @@ use Rattle.ckc_blame_facts.proofs.Pointees.{fine_integer}
 use Rattle.ckc_blame_given.specs.Targets.{IsCoveredTarget}
 use Rattle.ckc_blame_given.proofs.Views.{node_back}
 use Rattle.ckc_blame_steps.specs.Before.{AreSpoken, IsSizedNode, IsSizedPart, IsSized, IsCoveredThere, AreCoveredThere}
-use Rattle.ckc_blame_steps.specs.Granted.{HasPlaces, IsCoveredValue, IsCoveredFirst, IsCoveredCall, IsCoveredRight, IsCoveredAlone}
+use Rattle.ckc_blame_steps.specs.Granted.{HasPlaces, IsCoveredFirst, IsCoveredCall, IsCoveredRight, IsCoveredAlone}
 use Rattle.ckc_blame_steps.proofs.CallsMade.{call_made, calloc_made}
 use Rattle.ckc_blame_steps.proofs.CoveredTargets.{IsNamedForm, target_covered}
 use Rattle.ckc_blame_steps.proofs.FitExprs.{IsFit}
@@ -282,21 +277,29 @@ module _ (p : Typed) (j : IsJudged p) (s : Setting) (f : Function) (function : I
   plain_right t g (Node-F.Calloc w n u) node c = absurd node
   plain_right t g d node c = c
 
+  -- the blocks of a `calloc` may be made at each pointer to its elements
+  calloc_places : (t : CType) (e n : NotedExpr) (w u : TypeTree) → Fits e → out-Node Name Note e.node ≡ Node-F.Calloc w n u → element_of t ≡ type_written w → IsFine t → HasPlaces s t
+  calloc_places t e n w u h is element fine =
+      let sized : 0 < size_of s.text.layout (type_written w) = subst (IsSizedNode s) is (every_here-Expr Name Note AnyLimits AnyNode (IsSizedPart s) e h.sized) in
+      record {
+        sized = subst (λ (x : CType). 0 < size_of s.text.layout x) (sym element) sized;
+        terminated = λ k. fine_integer t fine (terminated_kind (kind_of t) k);
+      }
+
+  calloc_row : (e n : NotedExpr) (w u : TypeTree) → Fits e → out-Node Name Note e.node ≡ Node-F.Calloc w n u → IsAllocation (type_written w) n (type_written u) e.note.ctype
+  calloc_row e n w u h is =
+      let row : IsRow globals s (out-Node Name Note e.node) e.note = every_here-Expr Name Note AnyLimits AnyNode (HasRow globals s) e h.typed in
+      subst (λ (x : NotedLayer). HasType globals s.variables row.mode x e.note.ctype) is row.row
+
   calloc_covered : (t : CType) (e g n : NotedExpr) (w u : TypeTree) (fresh : ℕ) → Fits e → out-Node Name Note e.node ≡ Node-F.Calloc w n u → callless_expr n ≡ true → converts t e ≡ true → IsFine t
       → (view s.frame e).judged fresh here.at ≡ Ok g → IsCoveredRight s store here.seen t g (out-Node Name Note g.node)
   calloc_covered t e g n w u fresh h is callless goes fine judged =
-      let row : IsRow globals s (out-Node Name Note e.node) e.note = every_here-Expr Name Note AnyLimits AnyNode (HasRow globals s) e h.typed in
-      let a : IsAllocation (type_written w) n (type_written u) e.note.ctype = subst (λ (x : NotedLayer). HasType globals s.variables row.mode x e.note.ctype) is row.row in
+      let a = calloc_row e n w u h is in
       let other : is_integer e.note.ctype ≡ false = ap is_integer a.pointer ∙ ap is_integer_form (pointer_out kind.Arr (type_written w)) in
       let element : element_of t ≡ type_written w = calloc_element t e n w u is other goes ∙ ap element_of a.pointer ∙ ap element_in (pointer_out kind.Arr (type_written w)) in
-      let sized : 0 < size_of s.text.layout (type_written w) = subst (IsSizedNode s) is (every_here-Expr Name Note AnyLimits AnyNode (IsSizedPart s) e h.sized) in
       let m = calloc_made s.frame here.at fresh e g judged w u n is in
-      let places : HasPlaces s t = record {
-        sized = subst (λ (x : CType). 0 < size_of s.text.layout x) (sym element) sized;
-        terminated = λ k. fine_integer t fine (terminated_kind (kind_of t) k);
-      } in
       subst (IsCoveredRight s store here.seen t g) (sym m.node)
-      (places, value_covered n m.count fresh (count_fits e n w u is h) callless (integer_scalar n.note.ctype a.counted) m.judged)
+      (calloc_places t e n w u h is element fine, value_covered n m.count fresh (count_fits e n w u is h) callless (integer_scalar n.note.ctype a.counted) m.judged)
 
   pub right_covered : (t : CType) (e g : NotedExpr) (fresh : ℕ) → Fits e → is_right e ≡ true → converts t e ≡ true → IsFine t → (view s.frame e).judged fresh here.at ≡ Ok g
       → IsCoveredRight s store here.seen t g (out-Node Name Note g.node)
@@ -315,12 +318,19 @@ module _ (p : Typed) (j : IsJudged p) (s : Setting) (f : Function) (function : I
       by d is callless = absurd cc
 
   -- a call that is a statement
-  pub alone_covered : (e g : NotedExpr) (fresh : ℕ) → Fits e → is_call e ≡ true → is_allocation e ≡ false → (view s.frame e).judged fresh here.at ≡ Ok g → IsCoveredAlone s store here.seen (out-Node Name Note g.node)
-  alone_covered e g fresh h call other judged = by (out-Node Name Note e.node) refl call other
+  pub alone_covered : (e g : NotedExpr) (fresh : ℕ) → Fits e → is_call e ≡ true → IsFine e.note.ctype → (view s.frame e).judged fresh here.at ≡ Ok g → IsCoveredAlone s store here.seen (out-Node Name Note g.node)
+  alone_covered e g fresh h call fine judged = by (out-Node Name Note e.node) refl call
     where
-      by : (d : NotedLayer) → out-Node Name Note e.node ≡ d → call_form d ≡ true → is_allocation_form d ≡ false → IsCoveredAlone s store here.seen (out-Node Name Note g.node)
-      by (Node-F.Call n es) is callless other =
+      by : (d : NotedLayer) → out-Node Name Note e.node ≡ d → call_form d ≡ true → IsCoveredAlone s store here.seen (out-Node Name Note g.node)
+      by (Node-F.Call n es) is callless =
           let c = call_covered e g n es fresh h is callless judged in
           subst (IsCoveredAlone s store here.seen) (sym c.node) c.call
-      by (Node-F.Calloc w n u) is callless other = absurd cc
-      by d is callless other = absurd cc
+      by (Node-F.Calloc w n u) is callless =
+          let a = calloc_row e n w u h is in
+          let t = ctype.Pointer kind.Arr (type_written w) in
+          let m = calloc_made s.frame here.at fresh e g judged w u n is in
+          subst (IsCoveredAlone s store here.seen) (sym m.node) (
+            calloc_places t e n w u h is (ap element_in (pointer_out kind.Arr (type_written w))) (subst IsFine a.pointer fine),
+            value_covered n m.count fresh (count_fits e n w u is h) callless (integer_scalar n.note.ctype a.counted) m.judged,
+          )
+      by d is callless = absurd cc

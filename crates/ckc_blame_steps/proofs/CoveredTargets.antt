@@ -1,6 +1,6 @@
 -- The targets of checked assignments are those of which it is said where they lie.
 use Rattle.std.proofs.Common.{◌≡◌, ◌∙◌, ⊎_elim, sym, ap, subst, refl, inl, inr, ℕ, Bool, true, false, List, rules}
-use Rattle.std.specs.Prelude.{◌⊎◌, ◌&&◌, ◌||◌, not, if◌then◌else◌, Option, Some, None, is_some}
+use Rattle.std.specs.Prelude.{◌⊎◌, ◌&&◌, ◌||◌, if◌then◌else◌, Option, Some, None, is_some}
 use Rattle.std.proofs.lemmas.Bool.{and_parts}
 use Rattle.ckc_base.specs.declared.arithmetic.Mode.{Mode}
 use Rattle.ckc_types.specs.declared.types.Kind.{Kind}
@@ -18,10 +18,10 @@ use Rattle.ckc_typed.specs.declared.typed.Note.{Note}
 use Rattle.ckc_typed.specs.declared.typed.Typed.{Typed}
 use Rattle.ckc_typed.specs.Environment.{object_named, type_of_name, used, variable_named}
 use Rattle.ckc_typed.specs.Expressions.{is_no_array, is_object_form, is_placed_form}
-use Rattle.ckc_typed.specs.Operands.{arrow_type, dot_type, index_type, is_moved, target_type}
+use Rattle.ckc_typed.specs.Operands.{dot_type, index_type, is_moved}
 use Rattle.ckc_typed.specs.Statements.{is_variable_form}
 use Rattle.ckc_typed.specs.Trees.{NotedExpr, NotedLayer}
-use Rattle.ckc_typed.specs.Types.{is_integer, is_pointer, is_pointer_form, is_scalar, element_of, kind_in, kind_of}
+use Rattle.ckc_typed.specs.Types.{is_integer, is_pointer_form, is_scalar, element_of, kind_in, kind_of}
 use Rattle.ckc_typed_welltyped.specs.Expressions.{AnyLimits, AnyNode, HasType}
 use Rattle.ckc_bounds_views.specs.Judged.{is_counted_kind}
 use Rattle.ckc_source.specs.Code.{Function}
@@ -29,7 +29,7 @@ use Rattle.ckc_source.specs.Eval.{Store}
 use Rattle.ckc_blame_sound.specs.Settings.{Setting, IsFunction}
 use Rattle.ckc_blame_numbers.specs.Typed.{IsRow, HasRow, IsTyped}
 use Rattle.ckc_blame_pointers.specs.Covered as covers
-use Rattle.ckc_blame_pointers.specs.Covered.{IsElement, IsStructureElement, IsPointerTarget, IsArrow, IsPointerArrow, IsStructureNode, IsCoveredUnary, IsCoveredNode, IsCoveredExpr, AreCovered, IsCovered}
+use Rattle.ckc_blame_pointers.specs.Covered.{IsElement, IsStructureElement, IsPointerTarget, IsArrow, IsPointerArrow, IsStructureNode, IsCoveredUnary, IsCoveredNode, IsCoveredExpr, AreCovered}
 use Rattle.ckc_blame_texts.specs.Judged.{IsJudged, globals_in}
 use Rattle.ckc_blame_texts.proofs.Every.{EachLimits}
 use Rattle.ckc_blame_facts.specs.Statics.{IsStatic}

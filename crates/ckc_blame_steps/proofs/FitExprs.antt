@@ -1,6 +1,6 @@
 -- What is known of the expressions of a checked step before it is judged.
-use Rattle.std.proofs.Common.{◌≡◌, ◌∙◌, ⊎_elim, sym, ap, subst, refl, ℕ, Bool, true, false, List, [], ◌∷◌, map, arith, rules}
-use Rattle.std.specs.Prelude.{◌&&◌, nat_le, length, Option, Some, None, IfSome}
+use Rattle.std.proofs.Common.{◌≡◌, ◌∙◌, ⊎_elim, sym, ap, subst, refl, ℕ, true, List, [], ◌∷◌, map, arith, rules}
+use Rattle.std.specs.Prelude.{◌&&◌, nat_le, length, Some, None, IfSome}
 use Rattle.std.specs.List.{AllByRecursion, Contains, list_all}
 use Rattle.std.proofs.lemmas.Bool.{and_parts}
 use Rattle.std.proofs.lemmas.List.{length-map}

@@ -15,6 +15,7 @@ pub mod Own
 pub mod Steps
 pub mod Declarations
 pub mod Origins
+pub mod AllocatedAlone
 pub mod Whole
 pub mod Bundles
 pub mod Decided

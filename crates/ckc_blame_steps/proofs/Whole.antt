@@ -1,10 +1,11 @@
 -- Each step that is an assignment keeps states sound.
-use Rattle.std.proofs.Common.{◌≡◌, subst, ℕ, List, ◌∷◌}
+use Rattle.std.proofs.Common.{◌≡◌, refl, subst, ℕ, false, List, ◌∷◌}
 use Rattle.ckc_base.specs.declared.arithmetic.Mode.TheVariants.{Checked}
 use Rattle.ckc_syntax.specs.declared.tree.Name.{Name}
 use Rattle.ckc_syntax.specs.declared.tree.Node.{Node-F, out-Node}
 use Rattle.ckc_typed.specs.declared.typed.Note.{Note}
 use Rattle.ckc_typed.specs.declared.typed.Typed.{Typed}
+use Rattle.ckc_typed.specs.Conversions.{is_allocation_form}
 use Rattle.ckc_typed.specs.Trees.{NotedExpr, NotedLayer}
 use Rattle.ckc_source.specs.declared.stmt.Spot.{Spot}
 use Rattle.ckc_source.specs.Code.{Target, Right, Code, End, Assign}
@@ -23,16 +24,18 @@ use Rattle.ckc_blame_control.proofs.Faced.{faces_assign}
 use Rattle.ckc_blame_control.proofs.Moved.{stands_ready}
 use Rattle.ckc_blame_steps.specs.Granted.{IsGranted, IsCoveredAct, IsCoveredAlone}
 use Rattle.ckc_blame_steps.specs.Plans.{AllocateSoundly}
+use Rattle.ckc_blame_steps.proofs.AllocatedAlone.{allocation_sound}
 use Rattle.ckc_blame_steps.proofs.Becomes.{call_none}
 use Rattle.ckc_blame_steps.proofs.Declarations.{declaration_sound}
-use Rattle.ckc_blame_steps.proofs.Origins.{Kind, kind}
+use Rattle.ckc_blame_steps.proofs.Origins.{Kind, IsCallAlone, kind}
 use Rattle.ckc_blame_steps.proofs.Steps.{assignment_sound, at_b, covered_there}
 
--- no call that is a statement is an assignment
+-- no call that is a statement is an assignment, but for a `calloc`
 no_call : (s : Setting) (sp : Spot) (target : Target) (right : Right) (at : Spot) (literals : ℕ) (f : NotedExpr) (store : Store) (seen : List ℕ) (x : NotedLayer)
-    → assigned_form s.text s.variables at nowhere literals f x End ≡ Assign sp target right End → IsCoveredAlone s store seen x → ⊥
-no_call s sp target right at literals f store seen (Node-F.Call n es) h c = call_none s n es sp at nowhere literals f.pos target right h store seen c
-no_call s sp target right at literals f store seen x h c = c
+    → is_allocation_form x ≡ false → assigned_form s.text s.variables at nowhere literals f x End ≡ Assign sp target right End → IsCoveredAlone s store seen x → ⊥
+no_call s sp target right at literals f store seen (Node-F.Call n es) other h c = call_none s n es sp at nowhere literals f.pos target right h store seen c
+no_call s sp target right at literals f store seen (Node-F.Calloc w n u) other h c = absurd (cc)
+no_call s sp target right at literals f store seen x other h c = c
 
 pub every_assignment : (p : Typed) (st : State) (h : Sound p st) (sp : Spot) (target : Target) (right : Right) (rest : Code) (next : List Work) → IsGranted p → AllocateSoundly p
     → settled st.frame.work ≡ Rest (Assign sp target right rest) ∷ next → (spot_of st).mode ≡ Checked → IsSoundMove p (source_step (elaborated p) st)
@@ -45,12 +48,19 @@ every_assignment p st h sp target right rest next g allocations is mode =
     at_mode : sp.mode ≡ Checked
     at_mode = subst (λ w. (spot_at st.frame.function.end w).mode ≡ Checked) is mode
 
+    alone : (c : IsCallAlone h.setting f.here f.exits.ends (Assign sp target right) f.judged) (x : NotedLayer) → out-Node Name Note c.made.node ≡ x
+        → IsCoveredAlone h.setting (store_of (shapes_elaborated p.layout) (at_work st (Rest rest ∷ next))) f.here.seen x → IsSoundMove p (source_step (elaborated p) st)
+    alone c (Node-F.Calloc w n u) out covered = allocation_sound p st h sp target right rest next g allocations is mode f c w u n out
+    alone c x out covered =
+        absurd (no_call h.setting sp target right (spot c.made.pos f.judged.after.note.mode) f.judged.literals c.made (store_of (shapes_elaborated p.layout) (at_work st (Rest rest ∷ next))) f.here.seen x refl
+        (subst (λ (y : NotedLayer). assigned_form h.setting.text h.setting.variables (spot c.made.pos f.judged.after.note.mode) nowhere f.judged.literals c.made y End ≡ Assign sp target right End) out c.goes) covered)
+
     by : Kind h.setting f.here f.exits.ends (Assign sp target right) f.judged → IsSoundMove p (source_step (elaborated p) st)
     by (Kind.Assigns e x layer) = assignment_sound p st h sp target right rest next g allocations is mode f e x layer
     by (Kind.Declares d layer) = declaration_sound p st h sp target right rest next g allocations is mode f d layer
     by (Kind.Calls c) =
-        absurd (no_call h.setting sp target right (spot c.made.pos f.judged.after.note.mode) f.judged.literals c.made (store_of (shapes_elaborated p.layout) (at_work st (Rest rest ∷ next))) f.here.seen (out-Node Name Note c.made.node) c.goes
+        alone c (out-Node Name Note c.made.node) refl
         (subst (IsCoveredAct h.setting (store_of (shapes_elaborated p.layout) (at_work st (Rest rest ∷ next))) f.here.seen) c.becomes
-        (covered_there p g st h (Assign sp target right) (Rest rest ∷ next) f sp at_mode (at_work st (Rest rest ∷ next)) (at_b p g st h (Assign sp target right) (Rest rest ∷ next) f))))
+        (covered_there p g st h (Assign sp target right) (Rest rest ∷ next) f sp at_mode (at_work st (Rest rest ∷ next)) (at_b p g st h (Assign sp target right) (Rest rest ∷ next) f)))
     by (Kind.Bundles ss layer other) = absurd (cc)
     by (Kind.Others other) = absurd (cc)

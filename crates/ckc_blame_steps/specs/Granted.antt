@@ -9,6 +9,8 @@ use Rattle.ckc_syntax.specs.declared.tree.Node.{Node-F, out-Node}
 use Rattle.ckc_syntax.specs.declared.tree.Act.{Act-F, out-Act}
 use Rattle.ckc_typed.specs.declared.typed.Note.{Note}
 use Rattle.ckc_types.specs.declared.types.CType.{CType}
+use Rattle.ckc_types.specs.declared.types.CType.TheVariants as ctype
+use Rattle.ckc_types.specs.declared.types.Kind.TheVariants as kind
 use Rattle.ckc_typed.specs.declared.typed.Typed.{Typed}
 use Rattle.ckc_typed.specs.Conversions.{is_terminated_kind}
 use Rattle.ckc_typed.specs.Types.{element_of, is_integer, kind_of, type_written}
@@ -69,9 +71,11 @@ abbrev pub IsCoveredRight : Setting → Store → List ℕ → CType → NotedEx
 IsCoveredRight s store seen t e (Node-F.Call n es) = IsCoveredCall s store seen n es
 IsCoveredRight s store seen t e node = IsCoveredValue s store seen t e node
 
--- a statement that is an expression is a call
+-- A statement that is an expression is a call, or a `calloc`, which gives an `_Array_ptr`.
 abbrev pub IsCoveredAlone : Setting → Store → List ℕ → NotedLayer → Type 0
 IsCoveredAlone s store seen (Node-F.Call n es) = IsCoveredCall s store seen n es
+IsCoveredAlone s store seen (Node-F.Calloc w n u) =
+    HasPlaces s (ctype.Pointer kind.Arr (type_written w)) × IsCovered s store seen n
 IsCoveredAlone s store seen node = ⊥
 
 -- an initialiser; no local has a list in braces

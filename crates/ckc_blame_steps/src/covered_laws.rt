@@ -1,14 +1,12 @@
 //! What follows from the definitions alone, each the contract of a function that does nothing.
 
-ghost use Rattle.std.specs.Prelude.{◌≡◌, ℕ, false, List, Option};
+ghost use Rattle.std.specs.Prelude.{◌≡◌, ℕ, List, Option};
 ghost use Rattle.ckc_base.specs.declared.arithmetic.Mode.TheVariants.{Checked};
 ghost use Rattle.ckc_syntax.specs.declared.tree.Name.{Name};
-ghost use Rattle.ckc_syntax.specs.declared.tree.Act.{Act-F, out-Act};
+ghost use Rattle.ckc_syntax.specs.declared.tree.Act.{out-Act};
 ghost use Rattle.ckc_syntax_limits.specs.Small.{Small};
 ghost use Rattle.ckc_typed.specs.declared.typed.Note.{Note};
 ghost use Rattle.ckc_typed.specs.declared.typed.Typed.{Typed};
-ghost use Rattle.ckc_typed.specs.Conversions.{is_allocation};
-ghost use Rattle.ckc_typed.specs.Trees.{NotedExpr};
 ghost use Rattle.ckc_bounds_statements.specs.Paths.{Here};
 ghost use Rattle.ckc_source.specs.declared.stmt.Kept.{Kept};
 ghost use Rattle.ckc_source.specs.declared.stmt.Spot.{Spot};
@@ -28,14 +26,12 @@ ghost use Rattle.ckc_blame_steps.specs.Results.{returned_by};
 
 /// The expressions of a step of mode Checked of a judged text are covered once they are judged, if the names
 /// there are told and expressions without calls are spoken of; so are the arguments of a call, and what is
-/// returned. The text is small, its literals are words, and its checked expressions are safe. No statement is
-/// a `calloc` alone.
+/// returned. The text is small, its literals are words, and its checked expressions are safe.
 pub fn checked_steps_are_covered()
     ensures step { (p : Typed) (s : Setting) (f : Function) (store : Store) (here there : Here)
         (step : Code → Code) (end : Spot) (j : IsJudged p) → Small j.named.tree → HaveWords p
         → AreSafe p → AreFew p → IsFunction p s f → (i : IsStep s here step there)
         → (spot_in end (step End)).mode ≡ Checked → Premises p s store here i.before
-        → ((e : NotedExpr) → out-Act Name Note i.before.body ≡ Act-F.Call e → is_allocation e ≡ false)
         → IsCoveredAct s store here.seen (out-Act Name Note i.after.body) }
     ensures arguments { (p : Typed) (s : Setting) (f : Function) (store : Store)
         (here there : Here) (spot : Spot) (target : Option Kept) (number : ℕ) (es : List Expr)
