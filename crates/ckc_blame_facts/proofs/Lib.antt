@@ -14,7 +14,7 @@ pub mod Rooms
 pub mod Down
 mod Spots
 mod Fine
-mod Scoped
+pub mod Scoped
 pub mod Modes
 pub mod Checked
 mod Ranges
@@ -24,7 +24,7 @@ pub mod Judged
 mod Layouts
 mod Members
 mod CoveredStatics
-mod Texts
+pub mod Texts
 pub mod Runs
 pub mod SmallNames
 pub mod ScalarLocals

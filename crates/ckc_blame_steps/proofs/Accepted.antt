@@ -1,7 +1,16 @@
 -- What is known of each text that the phases accept.
-use Rattle.std.proofs.Common.{◌≡◌, ◌≢◌, ◌∙◌, sym, ap, subst, arith, ℕ, ◌<◌, List, [], ◌∷◌, length}
-use Rattle.std.specs.Prelude.{◌^◌, true, Option, None, Some, Ok, IfSome, IsSome}
-use Rattle.std.specs.List.{Contains}
+use Rattle.std.proofs.Common.{◌≡◌, ◌∙◌, refl, sym, ap, subst, arith, ℕ, ◌+◌, ◌<◌, List, [], ◌∷◌, length}
+use Rattle.std.specs.Prelude.{◌^◌, ◌-◌, ◌≤◌, true, Option, None, Some, Ok, IfSome, IsSome}
+use Rattle.std.specs.List.{Contains, flat_map}
+use Rattle.ckc_base.specs.Outcomes.{Outcome}
+use Rattle.ckc_syntax.specs.declared.tree.Name.{Name}
+use Rattle.ckc_syntax.specs.declared.tree.Expr.{every_here-Expr}
+use Rattle.ckc_typed.specs.declared.typed.Note.{Note}
+use Rattle.ckc_typed_welltyped.specs.Expressions.{AnyLimits, AnyNode}
+use Rattle.ckc_blame_facts.specs.Rooms.{HasPlaces}
+use Rattle.ckc_blame_facts.specs.Values.{HasFewValues}
+use Rattle.ckc_blame_facts.proofs.Modes.{step_spot, step_mode}
+use Rattle.ckc_blame_facts.proofs.Ones.{ones_declared}
 use Rattle.ckc_base.specs.declared.arithmetic.Mode.TheVariants.{Checked}
 use Rattle.ckc_base.specs.Traces.{Stuck}
 use Rattle.ckc_syntax_limits.specs.Small.{Small}
@@ -27,12 +36,12 @@ use Rattle.ckc_build_elaborate.specs.Elaborated.{elaborated}
 use Rattle.ckc_build_elaborate.specs.Shapes.{shapes_elaborated}
 use Rattle.ckc_blame.specs.Blamed.{IsBlamed, IsNeverStuck}
 use Rattle.ckc_blame.specs.Checked.{WhollyChecked}
-use Rattle.ckc_blame_sound.specs.Bodies.{globals_of_text}
+use Rattle.ckc_blame_sound.specs.Bodies.{IsNextFresh}
 use Rattle.ckc_blame_sound.specs.Calls.{store_in, arguments_of}
 use Rattle.ckc_blame_sound.specs.Few.{AreFew}
 use Rattle.ckc_blame_sound.specs.Given.{AreGiven}
 use Rattle.ckc_blame_sound.specs.Safe.{AreSafe}
-use Rattle.ckc_blame_sound.specs.Settings.{Setting, IsFunction, setting_of}
+use Rattle.ckc_blame_sound.specs.Settings.{Setting, IsFunction, AreStrings, setting_of}
 use Rattle.ckc_blame_sound.specs.Slots.{AreFilled}
 use Rattle.ckc_blame_sound.specs.Sound.{Sound}
 use Rattle.ckc_blame_sound.specs.Steps.{IsStep, IsCondition}
@@ -68,7 +77,7 @@ use Rattle.ckc_blame_facts.proofs.Texts.{texts_are_told}
 use Rattle.ckc_blame_facts.proofs.Variables.{locals_declared, step_scope, test_scope}
 use Rattle.ckc_blame_steps.specs.Accepted.{IsAccepted}
 use Rattle.ckc_blame_steps.specs.Arguments.{GiveWords, literals_before, numbers_behind}
-use Rattle.ckc_blame_steps.specs.Before.{Premises, IsCoveredThere, AreCoveredThere, IsCoveredIf}
+use Rattle.ckc_blame_steps.specs.Before.{HasOnlySized, Premises, IsCoveredThere, AreCoveredThere, IsCoveredIf}
 use Rattle.ckc_blame_steps.specs.Givable.{IsGivable, AreGivable}
 use Rattle.ckc_blame_steps.specs.Granted.{IsGranted}
 use Rattle.ckc_blame_steps.specs.Known.{IsKnown, Begins, ArgumentsGiveWords, ReturnsGiveWords}
@@ -107,7 +116,7 @@ module _ (p : Typed) (s : Setting) (store : Store) (here : Here) where
 
 -- ---- a text
 
-module _ (text : List ℕ) (p : Typed) (a : IsAccepted text p) where
+module _ (text : List ℕ) (p : Typed) (a : IsAccepted text p) (sized_there : (s : Setting) (f : Function) (here there : Here) (step : Code → Code) → IsFunction p s f → (i : IsStep s here step there) → HasOnlySized s i.before) where
   j : IsJudged p
   j = record {
     spelled = a.spelled;
@@ -148,7 +157,7 @@ module _ (text : List ℕ) (p : Typed) (a : IsAccepted text p) where
     same = ap (λ (x : Setting). x.text) is.judged
 
     ones : DeclareOnes s
-    ones = ones_have_their_bounds p s f j is
+    ones = ones_declared p s f j is
 
     told : (store : Store) (seen : List ℕ) → AreFilled p store → ((k : ℕ) → Contains seen k → IsInScope s seen k) → IsTold (globals_in p) s store seen
     told store seen filled scope =
@@ -159,7 +168,7 @@ module _ (text : List ℕ) (p : Typed) (a : IsAccepted text p) where
       told = told store here.seen filled (step_scope p s f j is here there step (few s f is) i);
       spoken = λ before after fresh typed checked callless judged. checked_spoken p s f before after fresh here.at j is ones typed checked callless judged;
       given = i.inside.given (subst AreGiven (sym same) bodies);
-      sized = i.inside.sized (subst HaveSizedElements (sym same) sizes);
+      sized = sized_there s f here there step is i;
     }
 
     -- ---- conditions
@@ -170,7 +179,7 @@ module _ (text : List ℕ) (p : Typed) (a : IsAccepted text p) where
         where
           by : (o : Option NotedExpr) → IfSome o (HasPlaces s.frame here.at here.next) → IfSome o (λ x. (view s.frame x).values + 1 < 2 ^ 32)
           by None h = tt
-          by (Some x) h = few_whole s.frame x h.values
+          by (Some x) h = every_here-Expr Name Note AnyLimits AnyNode (HasFewValues s.frame) x h.values
 
       spoken_there : IfSome c.after (IsSpoken s)
       spoken_there =
@@ -225,6 +234,9 @@ module _ (text : List ℕ) (p : Typed) (a : IsAccepted text p) where
     word_variables : length set.variables < 2 ^ 32
     word_variables = let m = few set s.frame.function h.stands.function in omega (arith, m)
 
+    word_there : (here : Here) → IsNextFresh set here.next → here.next ≤ 2 ^ 32 - 1
+    word_there here fresh = let h = fresh word_variables in let less = h.1 in omega (arith, less)
+
     abbrev first_from : Here → Numbered
     first_from here = record { value = 0; fresh = here.next }
 
@@ -232,7 +244,7 @@ module _ (text : List ℕ) (p : Typed) (a : IsAccepted text p) where
         → GiveWords set store f.here.at (literals_before f.judged.after f.judged.literals) (arguments_of f.judged.before) (arguments_of f.judged.after) (first_from f.here)
     arguments spot target number es next f checked =
         let known = point_known p set s.frame.function f.here j h.stands.function word_variables f.judged.fresh f.judged.named in
-        let called = call_step set f.here f.exits.ends spot target number es f.judged (word_there p set s.frame.function j small h.stands.function f.here f.exits.ends (Call spot target number es) f.judged) in
+        let called = call_step set f.here f.exits.ends spot target number es f.judged (word_there f.here f.judged.fresh) in
         let there = arguments_there p j small words safe nodes set s.frame.function h.stands.function store f.here f.exits.ends spot target number es f.judged checked
         (premises set s.frame.function h.stands.function store f.here f.exits.ends (Call spot target number es) f.judged h.filled) in
         let room = arguments_have_room p set s.frame.function j small h.stands.function f.here f.exits.ends (Call spot target number es) f.judged in

@@ -54,3 +54,4 @@ pub mod CoveredRights
 pub mod CoveredParts
 pub mod CoveredActs
 pub mod CoveredCalls
+pub mod Accepted
