@@ -1,10 +1,8 @@
 -- What a value that is converted to a type is there.
-use Rattle.std.proofs.Common.{◌≡◌, ◌⊎◌, ⊎_elim, refl, ap, ℕ, List, arith}
+use Rattle.std.proofs.Common.{◌≡◌, ⊎_elim, refl, ap, ℕ, List, arith}
 use Rattle.std.specs.Prelude.{◌%◌, ◌<◌, ◌^◌, Bool, true, false, ◌&&◌, ◌||◌, if◌then◌else◌, Ok, Err}
 use Rattle.std.proofs.lemmas.Bool.{and_parts}
-use Rattle.ckc_types.specs.declared.types.Kind.TheVariants as kind
 use Rattle.ckc_types.specs.declared.types.CType.{CType, CType-F, out-CType}
-use Rattle.ckc_types.specs.declared.types.CType.TheVariants as ctype
 use Rattle.ckc_types.specs.declared.types.Structs.{Structs}
 use Rattle.ckc_syntax.specs.declared.tree.Name.{Name}
 use Rattle.ckc_syntax.specs.declared.tree.Node.{Node-F, out-Node}

@@ -11,7 +11,6 @@ use Rattle.ckc_typed.specs.declared.typed.Typed.{Typed}
 use Rattle.ckc_typed.specs.Environment.{signature_named}
 use Rattle.ckc_typed.specs.Trees.{NotedDecl, NotedLayer}
 use Rattle.ckc_typed.specs.Types.{type_written}
-use Rattle.ckc_typed_welltyped.specs.Expressions as typing
 use Rattle.ckc_typed_welltyped.specs.Expressions.{HasType}
 use Rattle.ckc_typed_welltyped.proofs.ByParts.{expr_by_parts}
 use Rattle.ckc_bounds_points.specs.declared.frame.Bounds.{Bounds}

@@ -1,6 +1,6 @@
 -- The arguments of a call, one after another: what they stand for, and what is known of it.
 use Rattle.std.proofs.Common.{◌≡◌, refl, sym, ap, subst, ◌∙◌, ℕ, zero, suc, ◌+◌, List, [], ◌∷◌, length, map, arith}
-use Rattle.std.specs.Prelude.{◌<◌, ◌≤◌, ◌-◌, pos, slice_get, slice_index, Option, None, Some}
+use Rattle.std.specs.Prelude.{◌<◌, ◌≤◌, pos, slice_get, slice_index, Option, None, Some}
 use Rattle.ckc_types.specs.declared.types.CType.{CType}
 use Rattle.ckc_typed.specs.declared.typed.Typed.{Typed}
 use Rattle.ckc_typed.specs.Trees.{NotedExpr}

@@ -1,6 +1,6 @@
 -- What a call gives to the place that keeps its result.
 use Rattle.std.proofs.Common.{◌≡◌, refl, sym, ap, subst, ◌∙◌, ℕ, List, [], ◌∷◌, map, ◌+ℤ◌, arith}
-use Rattle.std.specs.Prelude.{◌≤◌, ◌^◌, ◌-◌, ◌*◌, Bool, true, false, if◌then◌else◌, ℤ, pos, ◌*ℤ◌, slice_get, Option, None, Some}
+use Rattle.std.specs.Prelude.{◌≤◌, ◌^◌, ◌-◌, ◌*◌, Bool, true, false, if◌then◌else◌, pos, ◌*ℤ◌, slice_get, Option, None, Some}
 use Rattle.std.proofs.lemmas.Int.{ints}
 use Rattle.std.proofs.Math.IntN.{pos-*ℤ-pos}
 use Rattle.ckc_linear.specs.declared.forms.Base.{Base}

@@ -1,5 +1,5 @@
 -- The statement of a step that calls a function.
-use Rattle.std.proofs.Common.{◌≡◌, ◌⊎◌, ⊎_elim, refl, sym, ap, subst, ◌∙◌, ℕ, ◌+◌, List, [], ◌∷◌, map, rules, arith}
+use Rattle.std.proofs.Common.{◌≡◌, ⊎_elim, refl, sym, ap, subst, ◌∙◌, ℕ, ◌+◌, List, [], ◌∷◌, map, rules, arith}
 use Rattle.std.specs.Prelude.{◌≤◌, ◌^◌, ◌-◌, ◌||◌, slice_get, Bool, true, false, not, Option, Some, Ok}
 use Rattle.std.specs.List.{flat_map}
 use Rattle.ckc_base.specs.declared.places.Pos.{Pos}

@@ -1,5 +1,5 @@
 -- A valuation in which a `calloc` stands for an address, and its fresh variable for what it counts.
-use Rattle.std.proofs.Common.{◌≡◌, ◌⊎◌, ⊎_elim, refl, sym, ap, subst, ◌∙◌, ℕ, suc, Bool, true, false, List, [], ◌∷◌, ◌++◌, length, length-append, arith}
+use Rattle.std.proofs.Common.{◌≡◌, ⊎_elim, refl, sym, ap, subst, ◌∙◌, ℕ, suc, Bool, true, false, List, [], ◌∷◌, ◌++◌, length, length-append, arith}
 use Rattle.std.specs.Prelude.{◌==◌, ◌+◌, ◌<◌, ◌≤◌, ◌^◌, if◌then◌else◌, is_some, ℤ, pos, ◌+ℤ◌, Option, None, Some}
 use Rattle.std.proofs.lemmas.Bool.Decides.{nat_tests}
 use Rattle.std.proofs.lemmas.Int.{ints}
@@ -16,7 +16,6 @@ use Rattle.ckc_bounds_points.specs.Forms.{in_type}
 use Rattle.ckc_bounds_views.specs.Parts.{View, capped, next_behind, fresh_behind, with_last}
 use Rattle.ckc_bounds_views.specs.Ranges.{form_or_fresh}
 use Rattle.ckc_bounds_stores.specs.declared.values.Numbered.{Numbered}
-use Rattle.ckc_source.specs.declared.expr.Integer.TheVariants.{Int}
 use Rattle.ckc_blame_sound.specs.Bodies.{AreFresh}
 use Rattle.ckc_blame_sound.specs.Settings.{Setting}
 use Rattle.ckc_blame_sound.specs.Values.{number_of, IsNumberOf}

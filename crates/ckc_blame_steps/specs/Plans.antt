@@ -120,9 +120,9 @@ abbrev pub AllocationsDraw : Globals → Setting → List Shape → List ℕ →
 AllocationsDraw globals s shapes entry here =
     (b : State) → IsAt s shapes entry here b → (t : CType) (f g n : NotedExpr)
     (fresh literals : ℕ) → counted_in (out-Node Name Note g.node) ≡ Some n → IsTyped globals s f → converts t f ≡ true
-    → HasPlaces s t → (view s.frame f).judged fresh here.at ≡ Ok g → fresh + length ((view s.frame g).fresh here.at) < 2 ^ 32
-    → AreFresh s.frame fresh → IsCovered s (store_of shapes b) here.seen n
-    → AreStrings s literals (strings_of_expr n)
+    → HasPlaces s t → (view s.frame f).judged fresh here.at ≡ Ok g
+    → fresh + length ((view s.frame g).fresh here.at) < 2 ^ 32 → AreFresh s.frame fresh
+    → IsCovered s (store_of shapes b) here.seen n → AreStrings s literals (strings_of_expr n)
     → ComesTo (IsDrawn s shapes entry here b t g)
     (drawn shapes b (right_of s.text s.variables literals (is_terminated t) g))
 

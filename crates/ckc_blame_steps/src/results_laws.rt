@@ -40,8 +40,8 @@ pub fn objects_keep_results()
 {}
 
 /// An expression that is covered, whose string literals are static objects from a number on, gives
-/// a word to what it is returned or passed as, and the arguments of a call do if each is, with their
-/// numbers one after another.
+/// a word to what it is returned or passed as, and the arguments of a call do if each is, with
+/// their numbers one after another.
 pub fn covered_give_words()
     ensures one { (globals : Globals) (s : Setting) (entry : List ℕ) (here : Here) (next : ℕ)
         (store : Store) → Agrees globals s → DeclareLocals s → IsSoundStore s store next
