@@ -9,10 +9,12 @@ use Rattle.ckc_types.specs.declared.types.CType.{CType, CType-F, out-CType, the_
 use Rattle.ckc_types.specs.declared.types.CType.TheVariants as ctype
 use Rattle.ckc_syntax.specs.declared.tree.Name.{Name}
 use Rattle.ckc_syntax.specs.declared.tree.Node.{Node-F, out-Node}
+use Rattle.ckc_syntax.specs.declared.tree.Act.{Act-F}
 use Rattle.ckc_typed.specs.declared.typed.Note.{Note}
 use Rattle.ckc_typed.specs.declared.typed.Typed.{Typed}
 use Rattle.ckc_typed.specs.Conversions.{is_allocation, is_allocation_form, is_null, is_terminated_kind, kind_converts, takes_string, takes_pointer, converts}
 use Rattle.ckc_typed.specs.Operands.{same_element}
+use Rattle.ckc_typed.specs.Statics.{strings_of_expr}
 use Rattle.ckc_typed.specs.Trees.{NotedExpr, NotedLayer, TypeTree}
 use Rattle.ckc_typed.specs.Types.{is_integer, is_pointer, is_pointer_form, element_of, kind_in, same_type, type_written}
 use Rattle.ckc_bounds_views.specs.Parts.{fresh_behind}
@@ -33,7 +35,7 @@ use Rattle.ckc_build_elaborate.specs.Shapes.{shapes_elaborated}
 use Rattle.ckc_build_elaborate.specs.Steps.{spot, nowhere, right_of, assigned_form, is_terminated}
 use Rattle.ckc_blame_sound.specs.Calls.{store_in}
 use Rattle.ckc_blame_sound.specs.Points.{HoldsAt}
-use Rattle.ckc_blame_sound.specs.Settings.{Setting, IsFunction}
+use Rattle.ckc_blame_sound.specs.Settings.{Setting, AreStrings, IsFunction}
 use Rattle.ckc_blame_sound.specs.Slots.{AreFilled}
 use Rattle.ckc_blame_sound.specs.Sound.{Sound}
 use Rattle.ckc_blame_sound.proofs.Kept.{point_kept}
@@ -47,7 +49,9 @@ use Rattle.ckc_blame_control.proofs.Kept.{faced_sound, blocks_keep_ranges}
 use Rattle.ckc_blame_control.proofs.Moved.{stopped, move_by}
 use Rattle.ckc_blame_pointers.specs.Covered.{IsCovered}
 use Rattle.ckc_blame_pointers.proofs.Arrays.{type_same}
+use Rattle.ckc_blame_pointers.proofs.Strings.{strings_in_node}
 use Rattle.ckc_blame_given.specs.Targets.{ComesTo}
+use Rattle.ckc_blame_given.proofs.Layers.{strings_are}
 use Rattle.ckc_blame_given.proofs.Points.{same_point}
 use Rattle.ckc_blame_steps.specs.Granted.{IsGranted, HasPlaces, IsCoveredAlone, IsCoveredAct, HasRoom, HasRoomAct}
 use Rattle.ckc_blame_steps.specs.Plans.{IsDrawn, AllocateSoundly, counted_in}
@@ -56,6 +60,7 @@ use Rattle.ckc_blame_steps.proofs.Callocs.{IsJudgedCalloc, judged_calloc}
 use Rattle.ckc_blame_steps.proofs.Origins.{IsCallAlone}
 use Rattle.ckc_blame_steps.proofs.Steps.{at_b, covered_there, typed_act, known}
 use Rattle.ckc_blame_steps.proofs.Stores.{text_is, planning}
+use Rattle.ckc_blame_steps.proofs.Strings.{strings_there}
 
 pointer_out : (k : Kind) (t : CType) → out-CType (ctype.Pointer k t) ≡ CType-F.Pointer k t
 pointer_out k t = search (rules, the_lemmas)
@@ -147,6 +152,13 @@ module _ (p : Typed) (g : IsGranted p) (allocations : AllocateSoundly p) (st : S
   room : HasRoom s.frame f.here.at 0 f.here.next c.made
   room = subst (HasRoomAct s.frame f.here.at f.here.next) c.becomes (g.room s st.frame.function f.here f.exits.ends step function f.judged)
 
+  -- the string literals of what it counts
+  counted_strings : AreStrings s f.judged.literals (strings_of_expr n)
+  counted_strings =
+      let strings : AreStrings s f.judged.literals (strings_of_expr c.made) = strings_there s f.judged.literals f.judged.after f.judged.strings (Act-F.Call c.made) c.becomes in
+      let inside : AreStrings s f.judged.literals (strings_in_node (out-Node Name Note c.made.node)) = subst (AreStrings s f.judged.literals) (strings_are c.made) strings in
+      subst (λ (x : NotedLayer). AreStrings s f.judged.literals (strings_in_node x)) out inside
+
   abbrev Draws : Drawn → Type 0
   Draws = IsDrawn s shapes st.frame.entry f.here start t c.made
 
@@ -154,7 +166,7 @@ module _ (p : Typed) (g : IsGranted p) (allocations : AllocateSoundly p) (st : S
   drawn_there =
       subst (λ r. ComesTo Draws (drawn shapes start r)) (sym right_is)
       (allocations s st.frame.function f.here f.exits.ends step st.frame.entry function f.judged start (at_b p g st h step next f) t c.call c.made n f.here.next f.judged.literals (ap counted_in out) typed goes covered.0
-      leads.0 room.variables (known p g st h step next f).fresh covered.1)
+      leads.0 room.variables (known p g st h step next f).fresh covered.1 counted_strings)
 
   -- ---- the state after
 

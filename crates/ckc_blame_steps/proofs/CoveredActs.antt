@@ -38,7 +38,7 @@ use Rattle.ckc_blame_control.proofs.Typed.{by_parts, statement_typed}
 use Rattle.ckc_blame_facts.specs.Checked.{mode_of}
 use Rattle.ckc_blame_facts.specs.Pointees.{AreFine}
 use Rattle.ckc_blame_facts.proofs.Checked.{step_checked}
-use Rattle.ckc_blame_facts.proofs.FineNames.{names_fine}
+use Rattle.ckc_blame_facts.proofs.DeclaredTypes.{names_fine}
 use Rattle.ckc_blame_facts.proofs.FineStatements.{scalar_fine}
 use Rattle.ckc_blame_facts.proofs.Pointees.{typed_fine}
 use Rattle.ckc_blame_facts.proofs.Rooms.{step_places}

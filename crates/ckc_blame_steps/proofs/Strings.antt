@@ -4,12 +4,12 @@ use Rattle.std.specs.Prelude.{if◌then◌else◌, Option, Some}
 use Rattle.std.specs.List.{flat_map}
 use Rattle.ckc_syntax.specs.declared.tree.Name.{Name}
 use Rattle.ckc_syntax.specs.declared.tree.Init.TheVariants as init
-use Rattle.ckc_syntax.specs.Inside.{listed, inside_each, inside_limits}
+use Rattle.ckc_syntax.specs.Inside.{listed, inside_each}
 use Rattle.ckc_syntax.specs.declared.tree.Act.{Act-F, out-Act}
-use Rattle.ckc_syntax.specs.declared.tree.Node.{Node-F, out-Node, fold_out-Node}
+use Rattle.ckc_syntax.specs.declared.tree.Node.{Node-F, out-Node}
 use Rattle.ckc_typed.specs.declared.typed.Note.{Note}
 use Rattle.ckc_typed.specs.Declarations.{is_plain}
-use Rattle.ckc_typed.specs.Statics.{Strings, strings_of_expr, strings_of_bounds, strings_of_init, strings_of_value, node_strings, expr_strings, act_strings, strings_of_stmt}
+use Rattle.ckc_typed.specs.Statics.{Strings, strings_of_expr, strings_of_bounds, strings_of_init, strings_of_value, act_strings, strings_of_stmt}
 use Rattle.ckc_typed.specs.Trees.{NotedDecl, NotedExpr, NotedInit, NotedLayer, NotedStmt}
 use Rattle.ckc_build_values.specs.Expressions.{literals_of}
 use Rattle.ckc_build_values.proofs.Counted.{expr_counted}
@@ -18,7 +18,8 @@ use Rattle.ckc_build_elaborate.proofs.Counted.{bounds}
 use Rattle.ckc_blame_sound.specs.Settings.{Setting, AreStrings}
 use Rattle.ckc_blame_sound.proofs.Strings.{strings_in_front, strings_after, strings_inside, strings_are}
 use Rattle.ckc_blame_numbers.proofs.Stepping.{ActLayer}
-use Rattle.ckc_blame_pointers.proofs.Strings.{strings_in_node, expr_strings_are}
+use Rattle.ckc_blame_pointers.proofs.Strings.{strings_in_node}
+use Rattle.ckc_blame_given.proofs.Layers as layers
 use Rattle.ckc_blame_steps.specs.Results.{returned_by, returned_by_act}
 
 module _ (s : Setting) (literals : ℕ) (st : NotedStmt) (strings : AreStrings s literals (strings_of_stmt st)) where
@@ -54,14 +55,9 @@ each_listed : (es : List NotedExpr) → inside_each listed (λ (xs : Strings). x
 each_listed [] = refl
 each_listed (e ∷ es) = ap (λ xs. strings_of_expr e ++ xs) (each_listed es)
 
-strings_down : (e : NotedExpr) → strings_of_expr e ≡ strings_in_node (out-Node Name Note e.node)
-strings_down e =
-    expr_strings_are (record { node = e.node; pos = e.pos; note = e.note })
-    ∙ fold_out-Node Name Note Strings Strings Strings (inside_limits listed (λ e. e)) node_strings expr_strings e.node
-
 -- those of the arguments of a call
 pub call_strings : (s : Setting) (k : ℕ) (e : NotedExpr) (n : Name) (es : List NotedExpr) → out-Node Name Note e.node ≡ Node-F.Call n es
     → AreStrings s k (strings_of_expr e) → AreStrings s k (flat_map strings_of_expr es)
 call_strings s k e n es is h =
     subst (AreStrings s k) (each_listed es)
-    (subst (λ (x : NotedLayer). AreStrings s k (strings_in_node x)) is (subst (AreStrings s k) (strings_down e) h))
+    (subst (λ (x : NotedLayer). AreStrings s k (strings_in_node x)) is (subst (AreStrings s k) (layers.strings_are e) h))
