@@ -38,8 +38,8 @@ use Rattle.ckc_blame_control.proofs.Typed.{by_parts, statement_typed}
 use Rattle.ckc_blame_facts.specs.Checked.{mode_of}
 use Rattle.ckc_blame_facts.specs.Pointees.{AreFine}
 use Rattle.ckc_blame_facts.proofs.Checked.{step_checked}
-use Rattle.ckc_blame_facts.proofs.DeclaredTypes.{names_fine}
-use Rattle.ckc_blame_facts.proofs.FineStatements.{scalar_fine}
+use Rattle.ckc_blame_facts.proofs.DeclaredTypes.{names_fine, scalar_parts}
+use Rattle.ckc_blame_facts.proofs.Pointees.{object_fine}
 use Rattle.ckc_blame_facts.proofs.Pointees.{typed_fine}
 use Rattle.ckc_blame_facts.proofs.Rooms.{step_places}
 use Rattle.ckc_blame_given.specs.Stored.{IsAssignJudged, AreAssignsJudged}
@@ -171,7 +171,7 @@ module _ (p : Typed) (j : IsJudged p) (small : Small j.named.tree) (words : Have
   init_covered t u (init.One e) y same scalar starts fit given judged =
       subst (IsCoveredInit s store here.seen u) (sym judged.1)
       (subst (λ (v : CType). IsCoveredRight s store here.seen v judged.0 (out-Node Name Note judged.0.node)) (sym same)
-      (right_covered p j s f function store here known.told known.spoken t e judged.0 here.next fit given starts (scalar_fine t scalar) judged.2))
+      (right_covered p j s f function store here known.told known.spoken t e judged.0 here.next fit given starts (object_fine t (scalar_parts t scalar).1) judged.2))
   init_covered t u (init.Many es) y same scalar starts fit given judged = absurd starts
 
   local_covered : (d : NotedDecl) → before ≡ Act-F.Local d → IsCoveredAct s store here.seen after

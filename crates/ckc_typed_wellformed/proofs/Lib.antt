@@ -1,1 +1,1 @@
-mod Derived
+pub mod Derived
