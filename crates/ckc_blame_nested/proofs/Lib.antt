@@ -2,4 +2,4 @@ mod Items
 mod Grammar
 mod Named
 mod Noteless
-mod Whole
+pub mod Whole

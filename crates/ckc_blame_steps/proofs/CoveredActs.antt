@@ -131,7 +131,7 @@ module _ (p : Typed) (j : IsJudged p) (small : Small j.named.tree) (words : Have
   fits =
       fit_stmt globals s here.seen i.before (statement_typed p s f j words function i.before i.inside)
       (step_checked s here there step (subst AreSafe (sym text) safe) i checked)
-      (λ e c. (i.scope.names e c e refl, few_of s.frame here.at here.next (exprs_in i.before) (step_places p s f j small few function here there step i) e c, known.sized e c))
+      (λ e c. (i.scope.names e c e refl, few_of s.frame here.at here.next (exprs_in i.before) (step_places p s f j small function here there step i) e c, known.sized e c))
 
   pub gives : IsGivenAct before
   gives = stmt_given i.before known.given
