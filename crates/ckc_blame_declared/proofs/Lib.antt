@@ -6,4 +6,4 @@ pub mod Own
 pub mod More
 pub mod Parameters
 pub mod Results
-mod Integers
+pub mod Integers

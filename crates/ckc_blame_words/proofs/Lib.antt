@@ -5,4 +5,4 @@ pub mod Named
 mod Noteless
 pub mod Chain
 mod Words
-mod Whole
+pub mod Whole
