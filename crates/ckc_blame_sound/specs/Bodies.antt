@@ -18,13 +18,15 @@ use Rattle.ckc_bounds_statements.specs.Paths.{path}
 use Rattle.ckc_blame_sound.specs.Settings.{Setting}
 use Rattle.ckc_blame_sound.specs.Words.{HasWords, HasOnlyWords, HaveWords}
 use Rattle.ckc_blame_sound.specs.Safe.{IsSafe, HasOnlySafe, AreSafe}
+use Rattle.ckc_blame_sound.specs.Sized.{HasOnlySized, AllocateSizes}
 
 -- what a whole text declares
 abbrev pub globals_of_text : Typed → Globals
 globals_of_text p = globals_of (without_notes p.tree).items
 
 -- A statement may stand in the body of a function, before it is judged: it is well typed among the variables of the
--- function, and declares no others; its literals are words and its expressions safe if those of the text are.
+-- function, and declares no others; its literals are words, its expressions safe, and what it allocates has sizes, if
+-- those of the text are so.
 pub record IsInBody (s : Setting) (st : NotedStmt) : Type 0 where
   pub mode : Mode
   pub looped : Bool
@@ -32,6 +34,7 @@ pub record IsInBody (s : Setting) (st : NotedStmt) : Type 0 where
   pub known : (d : NotedDecl) → Contains (path st).declared d → Contains s.variables (variable_declared d)
   pub words : HaveWords s.text → HasOnlyWords st
   pub safe : AreSafe s.text → HasOnlySafe st
+  pub sized : AllocateSizes s.text → HasOnlySized s.text.layout st
 
 -- A condition may stand there, in a statement of a mode: if it is not left out it is a well typed scalar, and its literals
 -- are words and it is safe if those of the text are.

@@ -6,6 +6,7 @@ pub mod Arguments
 pub mod Points
 pub mod Words
 pub mod Safe
+pub mod Sized
 pub mod Few
 pub mod Bodies
 pub mod Steps

@@ -116,7 +116,7 @@ variables_counted h body =
 
 setting_inside : (p : Typed) (j : IsJudged p) (h : NotedHead) (body : NotedStmt) (b : IsBodyJudged (globals_in p) j.typed h body) → IsInBody (setting_of p h body) b.before
 unfolding setting_of
-setting_inside p j h body b = record { mode = b.mode; looped = false; typed = b.fits; known = declared_known (globals_in p) j.typed h body b; words = λ w. w j.typed h b.before j.has_bounds b.there; safe = λ w. w j.typed h b.before j.has_bounds b.there }
+setting_inside p j h body b = record { mode = b.mode; looped = false; typed = b.fits; known = declared_known (globals_in p) j.typed h body b; words = λ w. w j.typed h b.before j.has_bounds b.there; safe = λ w. w j.typed h b.before j.has_bounds b.there; sized = λ w. w j.typed h b.before j.has_types.typed j.has_bounds b.there }
 
 setting_fresh : (p : Typed) (h : NotedHead) (body : NotedStmt) → IsNextFresh (setting_of p h body) (first_fresh h body)
 unfolding setting_of

@@ -20,6 +20,7 @@ use Rattle.ckc_bounds_statements.specs.Paths.{Path, ActPath, act_declared, act_p
 use Rattle.ckc_blame_sound.specs.Settings.{Setting}
 use Rattle.ckc_blame_sound.specs.Words.{HasWords, exprs_of_act, exprs_in, HaveWords}
 use Rattle.ckc_blame_sound.specs.Safe.{IsSafe, AreSafe}
+use Rattle.ckc_blame_sound.specs.Sized.{IsSized, AllocateSizes}
 use Rattle.ckc_blame_sound.specs.Bodies.{globals_of_text, IsInBody, IsTestInBody}
 use Rattle.ckc_blame_sound.proofs.Words.{exprs_inside, exprs_rolled}
 
@@ -46,17 +47,20 @@ module _ (s : Setting) where
   PartsInBody mode (Act-F.For u e t b) = IfSome u (IsInBody s) × IsTestInBody s mode e × IfSome t (IsInBody s) × IsInBody s b
   PartsInBody mode a = Unit {0}
 
-  -- What is declared in a part is among the variables, the literals of its expressions are words, and they are safe.
+  -- What is declared in a part is among the variables, the literals of its expressions are words, they are safe, and what
+  -- they allocate has sizes.
   record Own (ds : List NotedDecl) (es : List NotedExpr) : Type 0 where
     pub known : (d : NotedDecl) → Contains ds d → Contains s.variables (variable_declared d)
     pub words : HaveWords s.text → (e : NotedExpr) → Contains es e → HasWords e
     pub safe : AreSafe s.text → (e : NotedExpr) → Contains es e → IsSafe e
+    pub sized : AllocateSizes s.text → (e : NotedExpr) → Contains es e → IsSized s.text.layout e
 
   front : (ds cs : List NotedDecl) (es fs : List NotedExpr) → Own (ds ++ cs) (es ++ fs) → Own ds es
   front ds cs es fs h = record {
     known = λ d c. h.known d (Contains-append_left ds cs d c);
     words = λ w e c. h.words w e (Contains-append_left es fs e c);
     safe = λ w e c. h.safe w e (Contains-append_left es fs e c);
+    sized = λ w e c. h.sized w e (Contains-append_left es fs e c);
   }
 
   back : (ds cs : List NotedDecl) (es fs : List NotedExpr) → Own (ds ++ cs) (es ++ fs) → Own cs fs
@@ -64,13 +68,14 @@ module _ (s : Setting) where
     known = λ d c. h.known d (Contains-append_right ds cs d c);
     words = λ w e c. h.words w e (Contains-append_right es fs e c);
     safe = λ w e c. h.safe w e (Contains-append_right es fs e c);
+    sized = λ w e c. h.sized w e (Contains-append_right es fs e c);
   }
 
   abbrev Fits : NotedStmt → Mode → Bool → Type 0
   Fits = WellTypedStmt (globals_of_text s.text) s.variables s.result
 
   own : (st : NotedStmt) (m : Mode) (l : Bool) → Fits st m l → Own (path st).declared (exprs_in st) → IsInBody s st
-  own st m l w k = record { mode = m; looped = l; typed = w; known = k.known; words = k.words; safe = k.safe }
+  own st m l w k = record { mode = m; looped = l; typed = w; known = k.known; words = k.words; safe = k.safe; sized = k.sized }
 
   abbrev declared_each : List NotedStmt → List NotedDecl
   declared_each ss = inside_each listed (λ (v : Path). v.declared) (map path ss)
@@ -180,4 +185,5 @@ module _ (s : Setting) where
         known = subst (λ ds. (d : NotedDecl) → Contains ds d → Contains s.variables (variable_declared d)) (declared_is at note x) h.known;
         words = λ w. subst (λ es. (e : NotedExpr) → Contains es e → HasWords e) (exprs_rolled at note x) (h.words w);
         safe = λ w. subst (λ es. (e : NotedExpr) → Contains es e → IsSafe e) (exprs_rolled at note x) (h.safe w);
+        sized = λ w. subst (λ es. (e : NotedExpr) → Contains es e → IsSized s.text.layout e) (exprs_rolled at note x) (h.sized w);
       }))
