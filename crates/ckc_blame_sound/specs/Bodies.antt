@@ -21,14 +21,15 @@ use Rattle.ckc_blame_sound.specs.Settings.{Setting}
 use Rattle.ckc_blame_sound.specs.Words.{HasWords, HasOnlyWords, HaveWords}
 use Rattle.ckc_blame_sound.specs.Safe.{IsSafe, HasOnlySafe, AreSafe}
 use Rattle.ckc_blame_sound.specs.Given.{AreGiven}
+use Rattle.ckc_blame_sound.specs.Sized.{HasOnlySized, AllocateSizes}
 
 -- what a whole text declares
 abbrev pub globals_of_text : Typed → Globals
 globals_of_text p = globals_of (without_notes p.tree).items
 
 -- A statement may stand in the body of a function, before it is judged: it is well typed among the variables of the
--- function, and declares no others and no parameter; its literals are words and its expressions safe if those of the
--- text are, and the grammar gives it if it gives the bodies of the text.
+-- function, and declares no others and no parameter; its literals are words, its expressions safe, and what it allocates
+-- has sizes, if those of the text are so, and the grammar gives it if it gives the bodies of the text.
 pub record IsInBody (s : Setting) (st : NotedStmt) : Type 0 where
   pub mode : Mode
   pub looped : Bool
@@ -38,6 +39,7 @@ pub record IsInBody (s : Setting) (st : NotedStmt) : Type 0 where
   pub safe : AreSafe s.text → HasOnlySafe st
   pub late : (d : NotedDecl) (k : ℕ) → Contains (path st).declared d → d.name ≡ name.Local k → length s.head.params ≤ k
   pub given : AreGiven s.text → (given_stmt st).fine ≡ true
+  pub sized : AllocateSizes s.text → HasOnlySized s.text.layout st
 
 -- A condition may stand there, in a statement of a mode: if it is not left out it is a well typed scalar, its literals
 -- are words and it is safe if those of the text are, and it has no call if the grammar gives the bodies of the text.

@@ -7,6 +7,7 @@ pub mod Points
 pub mod Words
 pub mod Safe
 pub mod Given
+pub mod Sized
 pub mod Few
 pub mod Bodies
 pub mod Steps

@@ -59,12 +59,12 @@ module _ (items : List NamedItem) (visible : List Name) where
   abbrev Names : Amount → Type 0
   Names a = IfSome a.variable IsVisible
 
-  layer_variable : (x : NotedLayer) → node_open items visible x ≡ true → IfSome (variable_in_form x) IsVisible
+  layer_variable : (x : NotedLayer) → node_open (tests_of items) visible x ≡ true → IfSome (variable_in_form x) IsVisible
   layer_variable (Node-F.Name n) h = h
   layer_variable x h = tt
 
   variable_visible : (e : NotedExpr) → Passes e → IfSome (variable_in e) IsVisible
-  variable_visible e h = layer_variable (out-Node Name Note e.node) (sym (expr_is_open items visible e) ∙ h)
+  variable_visible e h = layer_variable (out-Node Name Note e.node) (sym (expr_is_open (tests_of items) visible e) ∙ h)
 
   moved_names : (v : Option Name) (c : Option ℤ) → IfSome v IsVisible → IfSome (moved v c) Names
   moved_names (Some n) (Some c) h = h
@@ -82,7 +82,7 @@ module _ (items : List NamedItem) (visible : List Name) where
   sum_names structs op.Sub e f h g = moved_names (variable_in e) (negative (number_in structs f)) (variable_visible e h)
   sum_names structs o e f h g = tt
 
-  layer_names : (structs : Structs) (x : NotedLayer) → node_open items visible x ≡ true → IfSome (amount_in_form structs x) Names
+  layer_names : (structs : Structs) (x : NotedLayer) → node_open (tests_of items) visible x ≡ true → IfSome (amount_in_form structs x) Names
   layer_names structs (Node-F.Name n) h = h
   layer_names structs (Node-F.Bin o e f) h =
       let p = and_cases (expr_passes (tests_of items) visible (bare_expr e)) (expr_passes (tests_of items) visible (bare_expr f)) h in sum_names structs o e f p.0 p.1
@@ -93,7 +93,7 @@ module _ (items : List NamedItem) (visible : List Name) where
     where
       by : (c : Option ℤ) → IfSome (amount_by structs e c) Names
       by (Some c) = tt
-      by None = layer_names structs (out-Node Name Note e.node) (sym (expr_is_open items visible e) ∙ h)
+      by None = layer_names structs (out-Node Name Note e.node) (sym (expr_is_open (tests_of items) visible e) ∙ h)
 
   pieces_named : (n : Option Name) (a : Option Amount) → IfSome n IsVisible → IfSome a Names → IfSome (named_pieces n a) (λ p. IsVisible p.name × IfSome p.by Names)
   pieces_named None a h g = tt
@@ -103,7 +103,7 @@ module _ (items : List NamedItem) (visible : List Name) where
   negative_names None = tt
   negative_names (Some c) = tt
 
-  sum_named : (structs : Structs) (o : TreeOp) (x : NotedLayer) (k : NotedExpr) → node_open items visible x ≡ true → Passes k → IfSome (sum_pieces structs o x k) (λ p. IsVisible p.name × IfSome p.by Names)
+  sum_named : (structs : Structs) (o : TreeOp) (x : NotedLayer) (k : NotedExpr) → node_open (tests_of items) visible x ≡ true → Passes k → IfSome (sum_pieces structs o x k) (λ p. IsVisible p.name × IfSome p.by Names)
   sum_named structs op.Add (Node-F.Name n) k h g = (h, amount_names structs k g)
   sum_named structs op.Sub (Node-F.Name n) k h g = (h, negative_names (negative (number_in structs k)))
   sum_named structs op.Add (Node-F.Bin op.Add p x) k h g =
@@ -114,11 +114,11 @@ module _ (items : List NamedItem) (visible : List Name) where
       pieces_named (variable_in p) (sum_amount structs op.Sub x k) (variable_visible p b.0) (sum_names structs op.Sub x k b.1 g)
   sum_named structs o x k h g = tt
 
-  node_named : (structs : Structs) (x : NotedLayer) → node_open items visible x ≡ true → IfSome (node_pieces structs x) (λ p. IsVisible p.name × IfSome p.by Names)
+  node_named : (structs : Structs) (x : NotedLayer) → node_open (tests_of items) visible x ≡ true → IfSome (node_pieces structs x) (λ p. IsVisible p.name × IfSome p.by Names)
   node_named structs (Node-F.Name n) h = (h, tt)
   node_named structs (Node-F.Bin o e k) h =
       let p = and_cases (expr_passes (tests_of items) visible (bare_expr e)) (expr_passes (tests_of items) visible (bare_expr k)) h in
-      sum_named structs o (out-Node Name Note e.node) k (sym (expr_is_open items visible e) ∙ p.0) p.1
+      sum_named structs o (out-Node Name Note e.node) k (sym (expr_is_open (tests_of items) visible e) ∙ p.0) p.1
   node_named structs x h = tt
 
   -- ---- forms
@@ -249,7 +249,7 @@ module _ (items : List NamedItem) (visible : List Name) where
     end_is : (t : CType) (e : NotedExpr) → Passes e → IfSome (bound frame (holder.Local k) t e) IsOver
     end_is t e h =
         bound_is t (node_pieces frame.structs (out-Node Name Note e.node)) (bound frame (holder.Local k) t e) refl
-        (node_named frame.structs (out-Node Name Note e.node) (sym (expr_is_open items visible e) ∙ h))
+        (node_named frame.structs (out-Node Name Note e.node) (sym (expr_is_open (tests_of items) visible e) ∙ h))
 
     -- ---- bounds
 
@@ -291,7 +291,7 @@ module _ (items : List NamedItem) (visible : List Name) where
     unknown_over : AreOver bounds.Unknown
     unknown_over j h = absurd cc
 
-    written_over : (t : CType) (l : Limits-F Name Note NotedLimits NotedNode NotedExpr) → limits_open items visible l ≡ true → IfSome (bounds_written frame (holder.Local k) t l) AreOver
+    written_over : (t : CType) (l : Limits-F Name Note NotedLimits NotedNode NotedExpr) → limits_open (tests_of items) visible l ≡ true → IfSome (bounds_written frame (holder.Local k) t l) AreOver
     written_over t (Limits-F.Count e at) h =
         counted_over (amount_form frame (holder.Local k) (amount frame.structs e)) (amount_is (amount frame.structs e) (amount_names frame.structs e h))
     written_over t (Limits-F.ByteCount e at) h =
@@ -320,9 +320,9 @@ module _ (items : List NamedItem) (visible : List Name) where
         → IfSome (bounds_taken frame (holder.Local k) t length l) AreOver
     taken_over t length l h = by (takes_bounds t length)
       where
-        passes : limits_open items visible (out-Limits Name Note l) ≡ true
+        passes : limits_open (tests_of items) visible (out-Limits Name Note l) ≡ true
         passes =
-            sym (limits_opened items visible (out-Limits Name Note l)) ∙ ap (λ (m : NotedLimits). limits_pass (tests_of items) visible (bare_limits m)) (limits_back l) ∙ h
+            sym (limits_opened (tests_of items) visible (out-Limits Name Note l)) ∙ ap (λ (m : NotedLimits). limits_pass (tests_of items) visible (bare_limits m)) (limits_back l) ∙ h
 
         by : (b : Bool) → IfSome (if b then bounds_written frame (holder.Local k) t (out-Limits Name Note l) else None) AreOver
         by true = written_over t (out-Limits Name Note l) passes

@@ -16,14 +16,11 @@ use Rattle.ckc_resolve.specs.Trees.{NamedItem}
 use Rattle.ckc_typed_fit.specs.Tests.{Tests, limits_parts, node_parts, expr_parts, limits_pass, node_passes, expr_passes}
 use Rattle.ckc_typed_fit.specs.Visible.{is_visible}
 use Rattle.ckc_bounds_known.proofs.Reaching.{and_cases}
-use Rattle.ckc_blame_sound.specs.Scopes.{IsAmong, NamesAmong, HasAmong, NamesSeen}
+use Rattle.ckc_blame_sound.specs.Scopes.{IsAmong, NamesAmong, NamesSeen}
 use Rattle.ckc_blame_texts.proofs.Every.{LimitsLayer, ExprLayer, EachLimits, EachNode, EachExpr}
 use Rattle.ckc_blame_walk.specs.Scopes.{tests_of, HasLocal}
 
-module _ (items : List NamedItem) (visible : List Name) where
-  abbrev tests : Tests
-  tests = tests_of items
-
+module _ (tests : Tests) (visible : List Name) where
   -- ---- a level of an expression without its notes
 
   abbrev pub limits_open : LimitsLayer → Bool
@@ -63,54 +60,18 @@ module _ (items : List NamedItem) (visible : List Name) where
       expr_opened (record { node = e.node; pos = e.pos; note = e.note })
       ∙ ap (λ n. node_passes tests visible (bare_node n)) (sym (node_back e.node)) ∙ node_opened (out-Node Name Note e.node)
 
-  -- ---- names
+  -- ---- what follows of each node from its test follows of each one in an expression
 
-  or_false : (b : Bool) → (b || false) ≡ true → b ≡ true
-  or_false true h = refl
-  or_false false h = h
-
-  pub local_visible : (k : ℕ) → is_visible items visible (name.Local k) ≡ true → HasLocal visible k
-  local_visible k h = or_false _ h
-
-  module _ (seen : List ℕ) (sees : (k : ℕ) → HasLocal visible k → Contains seen k) where
-    name_seen : (n : Name) → is_visible items visible n ≡ true → IsAmong seen n
-    name_seen (name.Local k) h = sees k (local_visible k h)
-    name_seen (name.Static k) h = tt
-    name_seen (name.Function k) h = tt
-    name_seen (name.Tag k) h = tt
-    name_seen (name.Member k) h = tt
-    name_seen name.Getchar h = tt
-    name_seen name.Putchar h = tt
-
-    node_seen : (x : NotedLayer) → node_open x ≡ true → NamesAmong seen x
-    node_seen (Node-F.Name n) h = name_seen n h
-    node_seen (Node-F.Number n u) h = tt
-    node_seen (Node-F.Text bytes) h = tt
-    node_seen Node-F.Null h = tt
-    node_seen (Node-F.Un o e) h = tt
-    node_seen (Node-F.Bin o e f) h = tt
-    node_seen (Node-F.Pick e f g) h = tt
-    node_seen (Node-F.Index e f) h = tt
-    node_seen (Node-F.Dot e n at) h = tt
-    node_seen (Node-F.Arrow e n at) h = tt
-    node_seen (Node-F.Cast t e) h = tt
-    node_seen (Node-F.Size t) h = tt
-    node_seen (Node-F.Trusted t e l) h = tt
-    node_seen (Node-F.Tested t e l) h = tt
-    node_seen (Node-F.Call n es) h = tt
-    node_seen (Node-F.Calloc t e u) h = tt
-
-    -- ---- the induction
-
+  module _ (R : NotedLayer → Type 0) (so : (x : NotedLayer) → node_open x ≡ true → R x) where
     abbrev Q : ExprLayer → Type 0
-    Q = HasAmong seen
+    Q e = R (out-Node Name Note e.node)
 
     record LimitsSeen (l : NotedLimits) : Type 0 where
       pub follow : limits_pass tests visible (bare_limits l) ≡ true → EachLimits Q l
 
     record NodeSeen (n : NotedNode) : Type 0 where
       pub follow : node_passes tests visible (bare_node n) ≡ true → EachNode Q n
-      pub here : node_passes tests visible (bare_node n) ≡ true → NamesAmong seen (out-Node Name Note n)
+      pub here : node_passes tests visible (bare_node n) ≡ true → R (out-Node Name Note n)
 
     record ExprSeen (e : NotedExpr) : Type 0 where
       pub follow : expr_passes tests visible (bare_expr e) ≡ true → EachExpr Q e
@@ -206,7 +167,7 @@ module _ (items : List NamedItem) (visible : List Name) where
       follow = λ h.
           let m = node_step y (ap node_open is ∙ sym (node_opened x) ∙ h) in
           subst (λ z. EachNode Q (roll-Node Name Note z)) is (every_made-Node Name Note AnyLimits AnyNode Q (inner_node y) m.0 m.1 tt);
-      here = λ h. subst (NamesAmong seen) (sym (node_out x)) (node_seen x (sym (node_opened x) ∙ h));
+      here = λ h. subst R (sym (node_out x)) (so x (sym (node_opened x) ∙ h));
     }
 
     expr_is : (e : NotedExpr) → NodeSeen e.node → ExprSeen e
@@ -220,5 +181,46 @@ module _ (items : List NamedItem) (visible : List Name) where
     expr_by : (x : ExprLayer) (y : Expr-F Name Note KeptLimits KeptNode KeptExpr) → inner_expr y ≡ x → ExprSeen (roll-Expr Name Note x)
     expr_by x y is = subst (λ z. ExprSeen (roll-Expr Name Note z)) is (expr_is (roll-Expr Name Note (inner_expr y)) y.node.1)
 
-    pub expr_sees : (e : NotedExpr) → expr_passes tests visible (bare_expr e) ≡ true → NamesSeen seen e
-    expr_sees e = (ind-Expr Name Note LimitsSeen NodeSeen ExprSeen limits_by node_by expr_by e).follow
+    pub expr_follows : (e : NotedExpr) → expr_passes tests visible (bare_expr e) ≡ true → EachExpr Q e
+    expr_follows e = (ind-Expr Name Note LimitsSeen NodeSeen ExprSeen limits_by node_by expr_by e).follow
+
+module _ (items : List NamedItem) (visible : List Name) where
+  -- ---- names
+
+  or_false : (b : Bool) → (b || false) ≡ true → b ≡ true
+  or_false true h = refl
+  or_false false h = h
+
+  pub local_visible : (k : ℕ) → is_visible items visible (name.Local k) ≡ true → HasLocal visible k
+  local_visible k h = or_false _ h
+
+  module _ (seen : List ℕ) (sees : (k : ℕ) → HasLocal visible k → Contains seen k) where
+    name_seen : (n : Name) → is_visible items visible n ≡ true → IsAmong seen n
+    name_seen (name.Local k) h = sees k (local_visible k h)
+    name_seen (name.Static k) h = tt
+    name_seen (name.Function k) h = tt
+    name_seen (name.Tag k) h = tt
+    name_seen (name.Member k) h = tt
+    name_seen name.Getchar h = tt
+    name_seen name.Putchar h = tt
+
+    node_seen : (x : NotedLayer) → node_open (tests_of items) visible x ≡ true → NamesAmong seen x
+    node_seen (Node-F.Name n) h = name_seen n h
+    node_seen (Node-F.Number n u) h = tt
+    node_seen (Node-F.Text bytes) h = tt
+    node_seen Node-F.Null h = tt
+    node_seen (Node-F.Un o e) h = tt
+    node_seen (Node-F.Bin o e f) h = tt
+    node_seen (Node-F.Pick e f g) h = tt
+    node_seen (Node-F.Index e f) h = tt
+    node_seen (Node-F.Dot e n at) h = tt
+    node_seen (Node-F.Arrow e n at) h = tt
+    node_seen (Node-F.Cast t e) h = tt
+    node_seen (Node-F.Size t) h = tt
+    node_seen (Node-F.Trusted t e l) h = tt
+    node_seen (Node-F.Tested t e l) h = tt
+    node_seen (Node-F.Call n es) h = tt
+    node_seen (Node-F.Calloc t e u) h = tt
+
+    pub expr_sees : (e : NotedExpr) → expr_passes (tests_of items) visible (bare_expr e) ≡ true → NamesSeen seen e
+    expr_sees e = expr_follows (tests_of items) visible (NamesAmong seen) node_seen e

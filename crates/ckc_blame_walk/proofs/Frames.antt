@@ -128,6 +128,7 @@ setting_inside p j h body b numbers = record {
   words = λ w. w j.typed h b.before j.has_bounds b.there;
   safe = λ w. w j.typed h b.before j.has_bounds b.there;
   late = λ d k there named. subst (λ n. n ≤ k) (declared_counted (frame_of_text p) h.params) (locals_come_after h.params (path b.before).declared d k numbers there named);
+  sized = λ w. w j.typed h b.before j.has_types.typed j.has_bounds b.there;
   given = λ g. g j.typed h b.before j.has_bounds b.there;
 }
 

@@ -25,6 +25,7 @@ use Rattle.ckc_blame_sound.specs.Settings.{Setting}
 use Rattle.ckc_blame_sound.specs.Words.{HasWords, exprs_of_act, exprs_in, HaveWords}
 use Rattle.ckc_blame_sound.specs.Safe.{IsSafe, AreSafe}
 use Rattle.ckc_blame_sound.specs.Given.{AreGiven}
+use Rattle.ckc_blame_sound.specs.Sized.{IsSized, AllocateSizes}
 use Rattle.ckc_blame_sound.specs.Bodies.{globals_of_text, IsInBody, IsTestInBody}
 use Rattle.ckc_blame_sound.proofs.Given.{given_inside, given_rolled}
 use Rattle.ckc_blame_sound.proofs.Words.{exprs_inside, exprs_rolled}
@@ -52,13 +53,14 @@ module _ (s : Setting) where
   PartsInBody mode (Act-F.For u e t b) = IfSome u (IsInBody s) × IsTestInBody s mode e × IfSome t (IsInBody s) × IsInBody s b
   PartsInBody mode a = Unit {0}
 
-  -- What is declared in a part is among the variables and no parameter, the literals of its expressions are words, and
-  -- they are safe.
+  -- What is declared in a part is among the variables and no parameter, the literals of its expressions are words, they
+  -- are safe, and what they allocate has sizes.
   record Own (ds : List NotedDecl) (es : List NotedExpr) : Type 0 where
     pub known : (d : NotedDecl) → Contains ds d → Contains s.variables (variable_declared d)
     pub late : (d : NotedDecl) (k : ℕ) → Contains ds d → d.name ≡ name.Local k → length s.head.params ≤ k
     pub words : HaveWords s.text → (e : NotedExpr) → Contains es e → HasWords e
     pub safe : AreSafe s.text → (e : NotedExpr) → Contains es e → IsSafe e
+    pub sized : AllocateSizes s.text → (e : NotedExpr) → Contains es e → IsSized s.text.layout e
 
   front : (ds cs : List NotedDecl) (es fs : List NotedExpr) → Own (ds ++ cs) (es ++ fs) → Own ds es
   front ds cs es fs h = record {
@@ -66,6 +68,7 @@ module _ (s : Setting) where
     late = λ d k c. h.late d k (Contains-append_left ds cs d c);
     words = λ w e c. h.words w e (Contains-append_left es fs e c);
     safe = λ w e c. h.safe w e (Contains-append_left es fs e c);
+    sized = λ w e c. h.sized w e (Contains-append_left es fs e c);
   }
 
   back : (ds cs : List NotedDecl) (es fs : List NotedExpr) → Own (ds ++ cs) (es ++ fs) → Own cs fs
@@ -74,6 +77,7 @@ module _ (s : Setting) where
     late = λ d k c. h.late d k (Contains-append_right ds cs d c);
     words = λ w e c. h.words w e (Contains-append_right es fs e c);
     safe = λ w e c. h.safe w e (Contains-append_right es fs e c);
+    sized = λ w e c. h.sized w e (Contains-append_right es fs e c);
   }
 
   abbrev Fits : NotedStmt → Mode → Bool → Type 0
@@ -90,7 +94,7 @@ module _ (s : Setting) where
   fine_if u = inside_if all_have (λ (g : Given). g.fine) (option_map given_stmt u)
 
   own : (st : NotedStmt) (m : Mode) (l : Bool) → Fits st m l → Own (path st).declared (exprs_in st) → Fine st → IsInBody s st
-  own st m l w k g = record { mode = m; looped = l; typed = w; known = k.known; words = k.words; safe = k.safe; late = k.late; given = g }
+  own st m l w k g = record { mode = m; looped = l; typed = w; known = k.known; words = k.words; safe = k.safe; late = k.late; given = g; sized = k.sized }
 
   abbrev declared_each : List NotedStmt → List NotedDecl
   declared_each ss = inside_each listed (λ (v : Path). v.declared) (map path ss)
@@ -229,5 +233,6 @@ module _ (s : Setting) where
         late = subst (λ ds. (d : NotedDecl) (k : ℕ) → Contains ds d → d.name ≡ name.Local k → length s.head.params ≤ k) (declared_is at note x) h.late;
         words = λ w. subst (λ es. (e : NotedExpr) → Contains es e → HasWords e) (exprs_rolled at note x) (h.words w);
         safe = λ w. subst (λ es. (e : NotedExpr) → Contains es e → IsSafe e) (exprs_rolled at note x) (h.safe w);
+        sized = λ w. subst (λ es. (e : NotedExpr) → Contains es e → IsSized s.text.layout e) (exprs_rolled at note x) (h.sized w);
       })
       (λ w. subst (λ (g : Given). g.fine ≡ true) (given_rolled at note x) (h.given w)))

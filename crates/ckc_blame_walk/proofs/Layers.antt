@@ -43,23 +43,23 @@ declares_itself st d is = subst (λ ds. Contains ds d) (sym (declared_are st (Ac
 
 -- ---- what is visible
 
-module _ (items : List NamedItem) where
-  abbrev tests : Tests
-  tests = tests_of items
+module _ (tests : Tests) where
+  abbrev pub walk_of : NotedStmt → Walked
+  walk_of st = walked tests (bare_stmt st)
 
-  abbrev pub scope_of_act : NotedAct → Walked
-  scope_of_act a = walked_act tests (bare_act a)
+  abbrev pub walk_of_act : NotedAct → Walked
+  walk_of_act a = walked_act tests (bare_act a)
 
-  abbrev pub scoped : Layer → Act-F Name (Unit {0}) Walked Walked
-  scoped x = act_noteless (map-Act Name Note NotedAct NotedStmt Walked Walked scope_of_act (scope_of items) x)
+  abbrev pub walks_in : Layer → Act-F Name (Unit {0}) Walked Walked
+  walks_in x = act_noteless (map-Act Name Note NotedAct NotedStmt Walked Walked walk_of_act walk_of x)
 
-  abbrev pub act_scope : Layer → Walked
-  act_scope x = act_walked tests (scoped x)
+  abbrev pub act_walk : Layer → Walked
+  act_walk x = act_walked tests (walks_in x)
 
   abbrev inside : Act-F Name (Unit {0}) (BareAct Name) (BareStmt Name) → Act-F Name (Unit {0}) Walked Walked
   inside = map-Act Name (Unit {0}) (BareAct Name) (BareStmt Name) Walked Walked (walked_act tests) (walked tests)
 
-  inside_both : (x : Layer) → inside (bared x) ≡ scoped x
+  inside_both : (x : Layer) → inside (bared x) ≡ walks_in x
   inside_both (Act-F.Block m ss) = ap (λ ws. Act-F.Block m ws) (map_twice bare_stmt (walked tests) ss)
   inside_both Act-F.Empty = refl
   inside_both (Act-F.Local d) = refl
@@ -78,18 +78,38 @@ module _ (items : List NamedItem) where
   inside_both (Act-F.Check e) = refl
   inside_both (Act-F.Bundle ss) = ap (λ ws. Act-F.Bundle ws) (map_twice bare_stmt (walked tests) ss)
 
-  pub act_scope_rolled : (x : Layer) → scope_of_act (roll-Act Name Note x) ≡ act_scope x
-  act_scope_rolled x =
+  pub act_walk_rolled : (x : Layer) → walk_of_act (roll-Act Name Note x) ≡ act_walk x
+  act_walk_rolled x =
       ap (walked_act tests) (fold-roll-Act Name Note (BareAct Name) (BareStmt Name) act_bared stmt_bared x)
       ∙ fold-roll-Act Name (Unit {0}) Walked Walked (act_walked tests) stmt_walked (bared x)
       ∙ ap (act_walked tests) (inside_both x)
 
   -- a statement leaves what it does
-  pub scope_stated : (at : Pos) (note : Note) (a : NotedAct) → scope_of items (stated at note a) ≡ scope_of_act a
-  scope_stated at note a =
+  pub walk_stated : (at : Pos) (note : Note) (a : NotedAct) → walk_of (stated at note a) ≡ walk_of_act a
+  walk_stated at note a =
       ap (walked tests) (fold-roll-Stmt Name Note (BareAct Name) (BareStmt Name) act_bared stmt_bared (record { body = a; pos = at; note = note }))
       ∙ fold-roll-Stmt Name (Unit {0}) Walked Walked (act_walked tests) stmt_walked (record { body = bare_act a; pos = at; note = tt })
 
+  pub walk_are : (st : NotedStmt) (x : Layer) → out-Act Name Note st.body ≡ x → walk_of st ≡ act_walk x
+  walk_are st x is =
+      walk_stated st.pos st.note st.body ∙ ap walk_of_act (sym (act_back st.body) ∙ ap (roll-Act Name Note) is) ∙ act_walk_rolled x
+
+-- the same of what is visible
+module _ (items : List NamedItem) where
+  abbrev pub scope_of_act : NotedAct → Walked
+  scope_of_act a = walk_of_act (tests_of items) a
+
+  abbrev pub scoped : Layer → Act-F Name (Unit {0}) Walked Walked
+  scoped x = walks_in (tests_of items) x
+
+  abbrev pub act_scope : Layer → Walked
+  act_scope x = act_walk (tests_of items) x
+
+  pub act_scope_rolled : (x : Layer) → scope_of_act (roll-Act Name Note x) ≡ act_scope x
+  act_scope_rolled x = act_walk_rolled (tests_of items) x
+
+  pub scope_stated : (at : Pos) (note : Note) (a : NotedAct) → scope_of items (stated at note a) ≡ scope_of_act a
+  scope_stated at note a = walk_stated (tests_of items) at note a
+
   pub scope_are : (st : NotedStmt) (x : Layer) → out-Act Name Note st.body ≡ x → scope_of items st ≡ act_scope x
-  scope_are st x is =
-      scope_stated st.pos st.note st.body ∙ ap scope_of_act (sym (act_back st.body) ∙ ap (roll-Act Name Note) is) ∙ act_scope_rolled x
+  scope_are st x is = walk_are (tests_of items) st x is

@@ -40,6 +40,7 @@ pub mod Slots
 pub mod Judged
 pub mod Sizes
 pub mod Sized
+pub mod Allocated
 pub mod Counts
 pub mod MemberBounds
 pub mod NamedStatics

@@ -44,7 +44,7 @@ use Rattle.ckc_blame_texts.proofs.Bounded.{is_bounded}
 use Rattle.ckc_blame_walk.proofs.Sizes.{HasMembers, all_members, sized, tag_sized}
 
 -- each tag has a body
-abbrev tag_tests : List Item → Tests
+abbrev pub tag_tests : List Item → Tests
 tag_tests js = record { name = λ visible n. true; member = λ n. true; tag = has_body js }
 
 void_form : out-CType ctype.Void ≡ CType-F.Void
@@ -97,7 +97,7 @@ module _ (js : List Item) where
       (sym (fold_out-TypeTree Name Bool (type_parts (tag_tests js)) t) ∙ h)
 
   -- an object of the type may be declared
-  abbrev IsElement : CType → Type 0
+  abbrev pub IsElement : CType → Type 0
   IsElement t = (is_integer t ≡ true) ⊎ (is_object_type t ≡ true)
 
   no_void : (t : CType) → out-CType t ≡ CType-F.Void → IsElement t → ⊥
@@ -113,7 +113,7 @@ module _ (js : List Item) where
       different : false ≡ true → ⊥
       different e = cc
 
-  type_sized : (members : All HasMembers js) (t : TypeTree) → IsElement (type_written t) → type_passes (tag_tests js) t ≡ true → 0 < size_of (structs_of js) (type_written t)
+  pub type_sized : (members : All HasMembers js) (t : TypeTree) → IsElement (type_written t) → type_passes (tag_tests js) t ≡ true → 0 < size_of (structs_of js) (type_written t)
   type_sized members t element passes = by (out-CType (type_written t)) refl
     where
       by : (f : CType-F CType) → out-CType (type_written t) ≡ f → 0 < sized (structs_of js) f
