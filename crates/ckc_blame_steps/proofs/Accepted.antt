@@ -42,6 +42,7 @@ use Rattle.ckc_blame_sound.specs.Few.{AreFew}
 use Rattle.ckc_blame_sound.specs.Given.{AreGiven}
 use Rattle.ckc_blame_sound.specs.Safe.{AreSafe}
 use Rattle.ckc_blame_sound.specs.Settings.{Setting, IsFunction, AreStrings, setting_of}
+use Rattle.ckc_blame_sound.specs.Sized.{AllocateSizes}
 use Rattle.ckc_blame_sound.specs.Slots.{AreFilled}
 use Rattle.ckc_blame_sound.specs.Sound.{Sound}
 use Rattle.ckc_blame_sound.specs.Steps.{IsStep, IsCondition}
@@ -56,6 +57,7 @@ use Rattle.ckc_blame_given.specs.Targets.{KeepRunsFree}
 use Rattle.ckc_blame_nested.specs.Nested.{AreNested}
 use Rattle.ckc_blame_nested.proofs.Whole.{typed_nested}
 use Rattle.ckc_blame_words.proofs.Whole.{literals_are_words}
+use Rattle.ckc_blame_walk.proofs.Allocated.{texts_allocate_sizes}
 use Rattle.ckc_blame_walk.proofs.Counts.{slot_parts}
 use Rattle.ckc_blame_walk.proofs.NamedStatics.{members_named}
 use Rattle.ckc_blame_declared.proofs.Integers.{members_count_integers}
@@ -77,7 +79,7 @@ use Rattle.ckc_blame_facts.proofs.Texts.{texts_are_told}
 use Rattle.ckc_blame_facts.proofs.Variables.{locals_declared, step_scope, test_scope}
 use Rattle.ckc_blame_steps.specs.Accepted.{IsAccepted}
 use Rattle.ckc_blame_steps.specs.Arguments.{GiveWords, literals_before, numbers_behind}
-use Rattle.ckc_blame_steps.specs.Before.{HasOnlySized, Premises, IsCoveredThere, AreCoveredThere, IsCoveredIf}
+use Rattle.ckc_blame_steps.specs.Before.{Premises, IsCoveredThere, AreCoveredThere, IsCoveredIf}
 use Rattle.ckc_blame_steps.specs.Givable.{IsGivable, AreGivable}
 use Rattle.ckc_blame_steps.specs.Granted.{IsGranted}
 use Rattle.ckc_blame_steps.specs.Known.{IsKnown, Begins, ArgumentsGiveWords, ReturnsGiveWords}
@@ -116,7 +118,7 @@ module _ (p : Typed) (s : Setting) (store : Store) (here : Here) where
 
 -- ---- a text
 
-module _ (text : List ℕ) (p : Typed) (a : IsAccepted text p) (sized_there : (s : Setting) (f : Function) (here there : Here) (step : Code → Code) → IsFunction p s f → (i : IsStep s here step there) → HasOnlySized s i.before) where
+module _ (text : List ℕ) (p : Typed) (a : IsAccepted text p) where
   j : IsJudged p
   j = record {
     spelled = a.spelled;
@@ -145,6 +147,9 @@ module _ (text : List ℕ) (p : Typed) (a : IsAccepted text p) (sized_there : (s
   bodies : AreGiven p
   bodies = texts_given p j given
 
+  sizes : AllocateSizes p
+  sizes = texts_allocate_sizes p j given small
+
   counts : NameIntegerMembers p.layout
   counts = members_count_integers p j
 
@@ -168,7 +173,7 @@ module _ (text : List ℕ) (p : Typed) (a : IsAccepted text p) (sized_there : (s
       told = told store here.seen filled (step_scope p s f j is here there step (few s f is) i);
       spoken = λ before after fresh typed checked callless judged. checked_spoken p s f before after fresh here.at j is ones typed checked callless judged;
       given = i.inside.given (subst AreGiven (sym same) bodies);
-      sized = sized_there s f here there step is i;
+      sized = i.inside.sized (subst AllocateSizes (sym same) sizes);
     }
 
     -- ---- conditions

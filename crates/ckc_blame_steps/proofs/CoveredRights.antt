@@ -32,6 +32,7 @@ use Rattle.ckc_bounds_views.specs.Views.{view}
 use Rattle.ckc_bounds_statements.specs.Paths.{Here}
 use Rattle.ckc_source.specs.Code.{Function}
 use Rattle.ckc_source.specs.Eval.{Store}
+use Rattle.ckc_blame_sound.specs.Sized.{IsSizedNode, IsSizedPart, IsSized}
 use Rattle.ckc_blame_sound.specs.Settings.{Setting, IsFunction}
 use Rattle.ckc_blame_sound.specs.Scopes.{HasAmong, NamesSeen}
 use Rattle.ckc_blame_sound.proofs.Facts.{one_of}
@@ -52,7 +53,7 @@ use Rattle.ckc_blame_facts.proofs.Judged.{judged_covered}
 use Rattle.ckc_blame_facts.proofs.Pointees.{fine_integer}
 use Rattle.ckc_blame_given.specs.Targets.{IsCoveredTarget}
 use Rattle.ckc_blame_given.proofs.Views.{node_back}
-use Rattle.ckc_blame_steps.specs.Before.{AreSpoken, IsSizedNode, IsSizedPart, IsSized, IsCoveredThere, AreCoveredThere}
+use Rattle.ckc_blame_steps.specs.Before.{AreSpoken, IsCoveredThere, AreCoveredThere}
 use Rattle.ckc_blame_steps.specs.Granted.{HasPlaces, IsCoveredFirst, IsCoveredCall, IsCoveredRight, IsCoveredAlone}
 use Rattle.ckc_blame_steps.proofs.CallsMade.{call_made, calloc_made}
 use Rattle.ckc_blame_steps.proofs.CoveredTargets.{IsNamedForm, target_covered}
@@ -175,7 +176,7 @@ module _ (p : Typed) (j : IsJudged p) (s : Setting) (f : Function) (function : I
   AllFit [] = Unit {0}
   AllFit (e ∷ es) = Fits e × AllFit es
 
-  all_fit : (es : List NotedExpr) → AllDown (IsTyped globals s) es → AllDown IsChecked es → AllDown (NamesSeen here.seen) es → AllDown (HaveFewValues s.frame) es → AllDown (IsSized s) es → AllFit es
+  all_fit : (es : List NotedExpr) → AllDown (IsTyped globals s) es → AllDown IsChecked es → AllDown (NamesSeen here.seen) es → AllDown (HaveFewValues s.frame) es → AllDown (IsSized s.text.layout) es → AllFit es
   all_fit [] a b c d z = tt
   all_fit (e ∷ es) a b c d z = (record { typed = a.0; checked = b.0; names = c.0; few = d.0; sized = z.0 }, all_fit es a.1 b.1 c.1 d.1 z.1)
 
@@ -186,7 +187,7 @@ module _ (p : Typed) (j : IsJudged p) (s : Setting) (f : Function) (function : I
   arguments_fit e n es is h =
       let d = Node-F.Call n es in
       all_fit es (down (HasRow globals s) e d is h.typed) (down IsCheckedPart e d is h.checked) (down (HasAmong here.seen) e d is h.names) (down (HasFewValues s.frame) e d is h.few)
-      (down (IsSizedPart s) e d is h.sized)
+      (down (IsSizedPart s.text.layout) e d is h.sized)
 
   count_fits : (e n : NotedExpr) (w u : TypeTree) → out-Node Name Note e.node ≡ Node-F.Calloc w n u → Fits e → Fits n
   count_fits e n w u is h =
@@ -196,7 +197,7 @@ module _ (p : Typed) (j : IsJudged p) (s : Setting) (f : Function) (function : I
         checked = down IsCheckedPart e d is h.checked;
         names = down (HasAmong here.seen) e d is h.names;
         few = down (HasFewValues s.frame) e d is h.few;
-        sized = down (IsSizedPart s) e d is h.sized;
+        sized = down (IsSizedPart s.text.layout) e d is h.sized;
       }
 
   -- ---- calls
@@ -280,7 +281,7 @@ module _ (p : Typed) (j : IsJudged p) (s : Setting) (f : Function) (function : I
   -- the blocks of a `calloc` may be made at each pointer to its elements
   calloc_places : (t : CType) (e n : NotedExpr) (w u : TypeTree) → Fits e → out-Node Name Note e.node ≡ Node-F.Calloc w n u → element_of t ≡ type_written w → IsFine t → HasPlaces s t
   calloc_places t e n w u h is element fine =
-      let sized : 0 < size_of s.text.layout (type_written w) = subst (IsSizedNode s) is (every_here-Expr Name Note AnyLimits AnyNode (IsSizedPart s) e h.sized) in
+      let sized : 0 < size_of s.text.layout (type_written w) = subst (IsSizedNode s.text.layout) is (every_here-Expr Name Note AnyLimits AnyNode (IsSizedPart s.text.layout) e h.sized) in
       record {
         sized = subst (λ (x : CType). 0 < size_of s.text.layout x) (sym element) sized;
         terminated = λ k. fine_integer t fine (terminated_kind (kind_of t) k);

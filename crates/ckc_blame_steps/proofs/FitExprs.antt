@@ -20,6 +20,7 @@ use Rattle.ckc_bounds_views.specs.Parts.{fresh_behind}
 use Rattle.ckc_bounds_views.specs.Views.{view}
 use Rattle.ckc_blame_sound.specs.Settings.{Setting}
 use Rattle.ckc_blame_sound.specs.Scopes.{NamesSeen}
+use Rattle.ckc_blame_sound.specs.Sized.{IsSized}
 use Rattle.ckc_blame_sound.specs.Words.{exprs_of_act, exprs_in}
 use Rattle.ckc_blame_sound.proofs.Words.{exprs_inside, exprs_are}
 use Rattle.ckc_blame_numbers.specs.Typed.{IsTyped, IsTypedInit, AreTypedSides, IsTypedAct}
@@ -28,7 +29,7 @@ use Rattle.ckc_blame_facts.specs.Checked.{IsChecked, IsCheckedInit, AreCheckedSi
 use Rattle.ckc_blame_facts.specs.Rooms.{HavePlaces}
 use Rattle.ckc_blame_facts.specs.Values.{HaveFewValues}
 use Rattle.ckc_blame_facts.proofs.Callees.{none_in, split_in}
-use Rattle.ckc_blame_steps.specs.Before.{IsSized}
+
 
 module _ (globals : Globals) (s : Setting) (seen : List ℕ) where
   -- An expression is typed, safe and small, names locals in scope, and what it allocates has a size.
@@ -37,7 +38,7 @@ module _ (globals : Globals) (s : Setting) (seen : List ℕ) where
     pub checked : IsChecked e
     pub names : NamesSeen seen e
     pub few : HaveFewValues s.frame e
-    pub sized : IsSized s e
+    pub sized : IsSized s.text.layout e
 
   abbrev pub IsFitInit : NotedInit → Type 0
   IsFitInit init.Nothing = Unit {0}
@@ -58,7 +59,7 @@ module _ (globals : Globals) (s : Setting) (seen : List ℕ) where
   IsFitAct a = AreFitSides a
 
   abbrev IsSmall : NotedExpr → Type 0
-  IsSmall e = NamesSeen seen e × HaveFewValues s.frame e × IsSized s e
+  IsSmall e = NamesSeen seen e × HaveFewValues s.frame e × IsSized s.text.layout e
 
   abbrev AreSmall : List NotedExpr → Type 0
   AreSmall es = (e : NotedExpr) → Contains es e → IsSmall e

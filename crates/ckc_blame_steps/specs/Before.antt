@@ -18,6 +18,7 @@ use Rattle.ckc_bounds_views.specs.Views.{view}
 use Rattle.ckc_bounds_statements.specs.Paths.{Here}
 use Rattle.ckc_source.specs.Eval.{Store}
 use Rattle.ckc_blame_sound.specs.Settings.{Setting}
+use Rattle.ckc_blame_sound.specs.Sized.{HasOnlySized}
 use Rattle.ckc_blame_sound.specs.Words.{exprs_in}
 use Rattle.ckc_blame_numbers.specs.Typed.{IsTyped}
 use Rattle.ckc_blame_pointers.specs.Covered.{IsCovered}
@@ -33,30 +34,13 @@ AreSpoken p s here =
     (before after : NotedExpr) (fresh : ℕ) → IsTyped (globals_in p) s before → IsChecked before
     → callless_expr before ≡ true → (view s.frame before).judged fresh here.at ≡ Ok after → IsSpoken s after
 
--- The elements that a `calloc` makes have a size.
-abbrev pub IsSizedNode : Setting → NotedLayer → Type 0
-IsSizedNode s (Node-F.Calloc w n u) = 0 < size_of s.text.layout (type_written w)
-IsSizedNode s n = Unit {0}
-
--- the same of the node of an expression
-abbrev pub IsSizedPart : Setting → Expr-F Name Note NotedLimits NotedNode NotedExpr → Type 0
-IsSizedPart s e = IsSizedNode s (out-Node Name Note e.node)
-
--- this of each `calloc` in an expression, however deep
-abbrev pub IsSized : Setting → NotedExpr → Type 0
-IsSized s = every-Expr Name Note AnyLimits AnyNode (IsSizedPart s)
-
--- this of the expressions in a statement, and in each statement in it
-abbrev pub HasOnlySized : Setting → NotedStmt → Type 0
-HasOnlySized s st = (e : NotedExpr) → Contains (exprs_in st) e → IsSized s e
-
 -- What is asked of a statement at a point: what is told of the names there, and what is said of expressions without
 -- calls; the grammar gives the statement, and what it allocates has a size.
 pub record Premises (p : Typed) (s : Setting) (store : Store) (here : Here) (st : NotedStmt) : Type 0 where
   pub told : IsTold (globals_in p) s store here.seen
   pub spoken : AreSpoken p s here
   pub given : (given_stmt st).fine ≡ true
-  pub sized : HasOnlySized s st
+  pub sized : HasOnlySized s.text.layout st
 
 -- ---- after
 
