@@ -59,7 +59,7 @@ none_some : {A : Type 0} (a : A) → ◌≡◌ {A = Option A} None (Some a) → 
 none_some a e = cc
 
 -- what a condition that is not left out is judged as
-judged_as : (frame : Frame) (here : Here) (before : NotedExpr) (after : Option NotedExpr) (there : Here) → here.counting ≡ false → maybe_judged frame (Some before) here ≡ Ok (after, there)
+pub judged_as : (frame : Frame) (here : Here) (before : NotedExpr) (after : Option NotedExpr) (there : Here) → here.counting ≡ false → maybe_judged frame (Some before) here ≡ Ok (after, there)
     → (x : NotedExpr) × (after ≡ Some x) × ((view frame before).judged here.next here.at ≡ Ok x)
 unfolding value_judged
 judged_as frame here before after there counting judged =

@@ -95,6 +95,12 @@ use Rattle.ckc_blame_steps.proofs.Stepping.{IsCallStep, call_step}
 use Rattle.ckc_blame_steps.proofs.Strings.{returned_strings}
 use Rattle.ckc_blame_steps.proofs.Words.{gives_word, give_words}
 
+none_there : (here there : Here) (y : NotedExpr) → ◌≡◌ {A = Outcome (Option NotedExpr × Here)} (Ok (None, here)) (Ok (Some y, there)) → ⊥
+none_there here there y e = absurd cc
+
+some_same : {x y : NotedExpr} → ◌≡◌ {A = Option NotedExpr} (Some x) (Some y) → y ≡ x
+some_same e = cc
+
 -- ---- what gives words
 
 module _ (p : Typed) (s : Setting) (store : Store) (here : Here) where
@@ -130,15 +136,18 @@ module _ (text : List ℕ) (p : Typed) (a : IsAccepted text p) where
   }
 
   given : given_tree j.named.tree ≡ true
+  unfolding j
   given = form_kept a.spelled a.named a.has_names ∙ tree_given _ _ a.spelled a.has_tree
 
   small : Small j.named.tree
+  unfolding j
   small = small_kept a.spelled a.named a.has_names a.small
 
   words : HaveWords p
   words = literals_are_words text a.tokens a.spelled a.named a.typed p a.has_tokens a.has_tree a.has_names a.has_types a.has_bounds
 
   safe : AreSafe p
+  unfolding j
   safe = texts_are_safe a.typed p a.has_bounds.1.0 j.has_bounds
 
   nodes : AreFew p
@@ -191,16 +200,10 @@ module _ (text : List ℕ) (p : Typed) (a : IsAccepted text p) where
           by c.before c.after c.judged (condition_typed p s f Checked words is c.before c.inside) (condition_checked s here one other e (subst AreSafe (sym same) safe) c)
           (c.inside.given (subst AreGiven (sym same) bodies))
         where
-          none_there : (y : NotedExpr) (h : Here) → ◌≡◌ {A = Outcome (Option NotedExpr × Here)} (Ok (None, here)) (Ok (Some y, h)) → ⊥
-          none_there y h e = absurd cc
-
-          some_same : {x y : NotedExpr} → ◌≡◌ {A = Option NotedExpr} (Some x) (Some y) → y ≡ x
-          some_same e = cc
-
           by : (before after : Option NotedExpr) → maybe_judged s.frame before here ≡ Ok (after, c.behind) → IsTypedIf (globals_in p) s before → IfSome before IsChecked
               → callless_value before ≡ true → IfSome after (IsSpoken s)
           by None None judged typed checked callless = tt
-          by None (Some y) judged typed checked callless = absurd (none_there y c.behind judged)
+          by None (Some y) judged typed checked callless = absurd (none_there here c.behind y judged)
           by (Some x) None judged typed checked callless = tt
           by (Some x) (Some y) judged typed checked callless =
               let m = judged_as s.frame here x (Some y) c.behind c.counting judged in
@@ -266,8 +269,6 @@ module _ (text : List ℕ) (p : Typed) (a : IsAccepted text p) where
         (premises set s.frame.function h.stands.function store f.here f.exits.ends (Return spot e) f.judged h.filled))
         (returned_has_room p set s.frame.function j small h.stands.function f.here f.exits.ends (Return spot e) f.judged)
       where
-        known = point_known p set s.frame.function f.here j h.stands.function word_variables f.judged.fresh f.judged.named
-
         by : (x y : Option NotedExpr) → ((g : NotedExpr) → y ≡ Some g → AreStrings set f.judged.literals (strings_of_expr g))
             → IsCoveredIf p set store f.here x y f.here.next → IfSome x (HasRoomFrom set f.here (first_from f.here))
             → GivesWordIf set store f.here.at f.judged.literals x y (first_from f.here)
@@ -275,7 +276,8 @@ module _ (text : List ℕ) (p : Typed) (a : IsAccepted text p) where
         by None (Some y) strings c r = tt
         by (Some x) None strings c r = tt
         by (Some x) (Some y) strings c r =
-            gives_word (globals_in p) set s.frame.entry f.here s.next store known.agrees (locals_declared p set s.frame.function j h.stands.function) ready f.holds x y f.judged.literals (first_from f.here)
+            gives_word (globals_in p) set s.frame.entry f.here s.next store
+            (point_known p set s.frame.function f.here j h.stands.function word_variables f.judged.fresh f.judged.named).agrees (locals_declared p set s.frame.function j h.stands.function) ready f.holds x y f.judged.literals (first_from f.here)
             (one_givable p set store f.here x y (first_from f.here) c r) (strings y refl)
 
   -- ---- all that is known
@@ -297,6 +299,7 @@ module _ (text : List ℕ) (p : Typed) (a : IsAccepted text p) where
   }
 
   known : IsKnown p
+  unfolding j
   known = record {
     granted = granted;
     nested = typed_nested a.tokens a.spelled a.named a.typed a.has_tree a.has_names a.has_types;
