@@ -7,3 +7,4 @@ pub mod Results
 pub mod Spared
 pub mod Givable
 pub mod Known
+pub mod Accepted

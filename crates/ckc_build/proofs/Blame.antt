@@ -1,16 +1,38 @@
 -- What follows from the law that unchecked code is to blame.
-use Rattle.std.proofs.Common.{◌≡◌, ℕ, List, Result, Ok, Err, IfOk, sym, subst}
-use Rattle.ckc_base.specs.Lists.{AreBytes}
+use Rattle.std.proofs.Common.{◌≡◌, ◌↔◌, ℕ, List, Result, Ok, Err, IfOk, subst}
 use Rattle.ckc_base.specs.declared.fault.Fault.{Fault}
 use Rattle.ckc_base.specs.Phases.{Exact}
 use Rattle.ckc_blame.specs.Blamed.{IsBlamed, IsNeverStuck}
 use Rattle.ckc_blame.specs.Checked.{WhollyChecked}
+use Rattle.ckc_syntax.specs.declared.tree.NamedText.{NamedText}
+use Rattle.ckc_parser.specs.Text.{SpelledTree}
+use Rattle.ckc_resolve.specs.Phase.{naming}
 use Rattle.ckc_source.specs.Code.{Program}
+use Rattle.ckc_typed.specs.Texts.{named_typed}
+use Rattle.ckc_typed_welltyped.specs.Texts.{TypedAs}
+use Rattle.ckc_blame_steps.specs.Accepted.{IsAccepted}
 use Rattle.ckc_typed.specs.declared.typed.Typed.{Typed}
 use Rattle.ckc_build_elaborate.specs.Elaborated.{elaborated}
 use Rattle.ckc_build.specs.Meanings.{judging, HasMeaning}
 use Rattle.ckc_build.specs.Blame.{IsWhollyChecked}
 use Rattle.ckc_build.proofs.Chain.{judging_exact}
+
+-- a text that the phases judge is accepted
+pub accepted : ((t : NamedText) (p : Typed) → (named_typed t ≡ Ok p) ↔ TypedAs t p) → (text : List ℕ) (p : Typed) → judging.Makes text p → IsAccepted text p
+accepted exactly text p m =
+    let rest = m.2.2 in
+    record {
+      tokens = m.1.0;
+      spelled = m.0;
+      named = rest.0;
+      typed = rest.2.0;
+      has_tokens = m.1.1;
+      has_tree = m.1.2;
+      small = m.2.1.0;
+      has_names = subst (λ (t : SpelledTree). naming.Makes t rest.0) m.2.1.1 rest.1;
+      has_types = (exactly rest.0 rest.2.0).0 rest.2.1;
+      has_bounds = rest.2.2;
+    }
 
 -- whatever holds of each typed text that the phases make holds of what they answer
 pub if_judged : (P : Typed → Type 0) (text : List ℕ) (r : Result Typed Fault) → ((p : Typed) → judging.Makes text p → P p) → Exact judging text r → IfOk r P

@@ -13,10 +13,11 @@ ghost use Rattle.ckc_typed.specs.declared.typed.Typed.{Typed};
 ghost use Rattle.ckc_build.specs.Meanings.{HasMeaning, judging, reading};
 ghost use Rattle.ckc_build.specs.Blame.{IsWhollyChecked};
 
+use ckc_blame_steps::accepted_texts_are_blamed;
 use ckc_build_elaborate::laws::objects_are_laid_out;
 use ckc_build_sizes::{marks_stay, programs_are_small};
 use ckc_typed_fit::small_stays;
-use ckc_typed_welltyped::counts_stay;
+use ckc_typed_welltyped::{counts_stay, texts_exactly};
 use ckc_typing::{statics_have_room, statics_lie_apart};
 
 /// A text is judged, with one outcome of its types, or it has one first error.

@@ -1,0 +1,16 @@
+//! What follows from the definitions alone, each the contract of a function that does nothing.
+
+ghost use Rattle.std.specs.Prelude.{ℕ, List};
+ghost use Rattle.ckc_typed.specs.declared.typed.Typed.{Typed};
+ghost use Rattle.ckc_build_elaborate.specs.Elaborated.{elaborated};
+ghost use Rattle.ckc_blame.specs.Blamed.{IsBlamed, IsNeverStuck};
+ghost use Rattle.ckc_blame.specs.Checked.{WhollyChecked};
+ghost use Rattle.ckc_blame_steps.specs.Accepted.{IsAccepted};
+
+/// If the meaning of a text that the phases accept is stuck, unchecked code is to blame. The meaning of one that is wholly
+/// checked is never stuck.
+pub fn accepted_texts_are_blamed()
+    ensures blamed { (text : List ℕ) (p : Typed) → IsAccepted text p → IsBlamed (elaborated p) }
+    ensures checked { (text : List ℕ) (p : Typed) → IsAccepted text p → WhollyChecked p
+        → IsNeverStuck (elaborated p) }
+{}
