@@ -4,6 +4,7 @@ use Rattle.ckc_base.specs.declared.fault.Fault.{Fault}
 use Rattle.ckc_base.specs.declared.fault.Fault.TheVariants as fault
 use Rattle.ckc_base.specs.Phases.{IsExact, Answers, Exact}
 use Rattle.ckc_base.proofs.Phases.{then_exact, exact_of, phase_by_exact}
+use Rattle.ckc_blame.specs.Blamed.{IsBlamed, IsNeverStuck}
 use Rattle.ckc_source.specs.Code.{Program}
 use Rattle.ckc_typed.specs.declared.typed.Typed.{Typed}
 use Rattle.ckc_checks_operands.specs.Weights.{program_weight}
@@ -12,6 +13,7 @@ use Rattle.ckc_image.specs.declared.parts.Parts as parts
 use Rattle.ckc_build_compile.specs.Compiled.{FollowsSource, machine_parts}
 use Rattle.ckc_build_compile.specs.Confined.{ConfinesStores, NeverFaults}
 use Rattle.ckc_build.specs.Meanings.{judging, elaborating, meanings}
+use Rattle.ckc_build.specs.Blame.{IsWhollyChecked, IsConfined}
 use Rattle.ckc_build.specs.Built.{IsImage, building}
 use Rattle.ckc_build.specs.Sizes.{HasShortCode}
 use Rattle.ckc_build.proofs.Chain.{judging_exact, exact_err}
@@ -51,8 +53,18 @@ module _ (text : List ℕ) where
       (made : parts.Parts) × FollowsSource p made × (length made.code ≤ 4 * (program_weight p + 5))
       × ConfinesStores p (machine_parts made) × NeverFaults p (machine_parts made) × IsImage image (machine_parts made)
 
-  pub built_of : (p : Program) (image : List ℕ) → Exact meanings text (Ok p) → IsMade p image → building.Makes text image
-  built_of p image x q = (machine_parts q.0, record { program = p; means = x.answers; follows = q.1; confined = q.3; faultless = q.4 }, q.5)
+  pub built_of : (p : Program) (image : List ℕ) → IsBlamed p → Exact meanings text (Ok p) → IsMade p image → building.Makes text image
+  built_of p image blamed x q = (machine_parts q.0, record { program = p; means = x.answers; follows = q.1; blamed = blamed; confined = q.3; faultless = q.4 }, q.5)
+
+  pub confined_of : (p : Program) (image : List ℕ) → (IsWhollyChecked text → IsNeverStuck p) → Exact meanings text (Ok p) → IsMade p image → IsWhollyChecked text → IsConfined text image
+  confined_of p image never x q w = record {
+    parts = machine_parts q.0;
+    is_image = q.5;
+    program = p;
+    means = x.answers;
+    stores = λ input bytes. q.3 input bytes (λ n. never w input n bytes);
+    faultless = λ input bytes. q.4 input bytes (λ n. never w input n bytes);
+  }
 
   pub short_of : (p : Program) (image : List ℕ) → Exact meanings text (Ok p) → IsMade p image → HasShortCode text image
   short_of p image x q =

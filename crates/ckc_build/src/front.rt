@@ -1,7 +1,12 @@
 //! From a text to the text with its types and the ranges of its pointers, phase by phase.
+ghost use Rattle.std.specs.Prelude.{IfOk};
 ghost use Rattle.ckc_base.specs.Phases.{Exact};
+ghost use Rattle.ckc_blame.specs.Blamed.{IsBlamed, IsNeverStuck};
+ghost use Rattle.ckc_blame.specs.Checked.{WhollyChecked};
+ghost use Rattle.ckc_build_elaborate.specs.Elaborated.{elaborated};
 ghost use Rattle.ckc_build.specs.Meanings.{judging};
 
+use crate::laws::unchecked_code_is_to_blame;
 use ckc_base::Fault;
 use ckc_bounds::bounds;
 use ckc_lexer::{end_of, lex};
@@ -16,6 +21,18 @@ use std::alloc::Global;
 /// The text with its types and the ranges of its pointers, or the first error of the text.
 pub fn judge(alloc: Global, text: &[u8]) -> Result<Typed, Fault>
     // Ok of exactly the text with its types and ranges, a refusal for exactly its first error, both ways.
+    ensures exact { Exact judging text.now result }
+    // If the meaning of the text is stuck, unchecked code is to blame,
+    ensures blamed { IfOk result (λ p. IsBlamed (elaborated p)) }
+    // and the meaning of a text that is wholly checked is never stuck.
+    ensures checked { IfOk result (λ p. WhollyChecked p → IsNeverStuck (elaborated p)) }
+{
+    unchecked_code_is_to_blame();
+    judged(alloc, text)
+}
+
+/// The phases, one after another.
+fn judged(alloc: Global, text: &[u8]) -> Result<Typed, Fault>
     ensures exact { Exact judging text.now result }
 {
     // The tokens are left to the end of the process, as the trees are that the next phase has read.

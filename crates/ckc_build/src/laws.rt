@@ -6,12 +6,18 @@ ghost use Rattle.ckc_source.specs.Blocks.{block_of};
 ghost use Rattle.ckc_source.specs.Code.{Program};
 ghost use Rattle.ckc_source.specs.LaidOut.{HoldBytes, IsLaidOut};
 ghost use Rattle.ckc_checks_operands.specs.Weights.{program_weight, most_weight};
+ghost use Rattle.ckc_blame.specs.Blamed.{IsBlamed, IsNeverStuck};
+ghost use Rattle.ckc_blame.specs.Checked.{WhollyChecked};
+ghost use Rattle.ckc_build_elaborate.specs.Elaborated.{elaborated};
+ghost use Rattle.ckc_typed.specs.declared.typed.Typed.{Typed};
 ghost use Rattle.ckc_build.specs.Meanings.{HasMeaning, judging, reading};
+ghost use Rattle.ckc_build.specs.Blame.{IsWhollyChecked};
 
+use ckc_blame_steps::accepted_texts_are_blamed;
 use ckc_build_elaborate::laws::objects_are_laid_out;
 use ckc_build_sizes::{marks_stay, programs_are_small};
 use ckc_typed_fit::small_stays;
-use ckc_typed_welltyped::counts_stay;
+use ckc_typed_welltyped::{counts_stay, texts_exactly};
 use ckc_typing::{statics_have_room, statics_lie_apart};
 
 /// A text is judged, with one outcome of its types, or it has one first error.
@@ -45,4 +51,19 @@ pub fn programs_fit()
     counts_stay();
     marks_stay();
     programs_are_small();
+}
+
+/// If the meaning of a text is stuck, unchecked code is to blame: one of its steps up to there has mode Unchecked. So the
+/// meaning of a text that is wholly checked is never stuck.
+pub fn unchecked_code_is_to_blame()
+    ensures judged { (text : List ℕ) (p : Typed) → judging.Makes text p
+        → IsBlamed (elaborated p) }
+    ensures checked { (text : List ℕ) (p : Typed) → judging.Makes text p → WhollyChecked p
+        → IsNeverStuck (elaborated p) }
+    ensures blamed { (text : List ℕ) (p : Program) → HasMeaning text p → IsBlamed p }
+    ensures never_stuck { (text : List ℕ) (p : Program) → HasMeaning text p
+        → IsWhollyChecked text → IsNeverStuck p }
+{
+    texts_exactly();
+    accepted_texts_are_blamed();
 }

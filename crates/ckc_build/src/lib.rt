@@ -10,5 +10,7 @@ mod placed;
 
 pub use front::judge;
 pub use images::build;
-pub use laws::{judging_is_exact, one_tree, programs_are_laid_out, programs_fit};
+pub use laws::{
+    judging_is_exact, one_tree, programs_are_laid_out, programs_fit, unchecked_code_is_to_blame,
+};
 pub use meanings::{meanings_are_exact, program};

@@ -1,5 +1,6 @@
 -- A run of the image of a text shows the meaning of the text.
 use Rattle.std.proofs.Common.{◌≡◌, ◌≢◌, ◌⊎◌, inl, inr, ℕ, ◌≤◌, List, [], ◌∷◌, ◌++◌, Option, refl, sym, ap, subst, ◌∙◌, arith}
+use Rattle.std.specs.Prelude.{IsSome}
 use Rattle.std.proofs.lemmas.Grind.{flat_map-append}
 use Rattle.ckc_base.specs.declared.places.Pos.{Pos}
 use Rattle.ckc_base.specs.declared.runtime_checks.Check.{Check}
@@ -15,7 +16,7 @@ use Rattle.ckc_machine.specs.Runs.{Says, kind_number}
 use Rattle.ckc_outside.specs.Given as given_bytes
 use Rattle.ckc_source.specs.Code.{Program}
 use Rattle.ckc_source.specs.LaidOut.{AreBytes}
-use Rattle.ckc_source.specs.Source.{source}
+use Rattle.ckc_source.specs.Source.{source, unchecked_since}
 use Rattle.ckc_build.specs.Built.{Built}
 use Rattle.ckc_cli_commands.specs.World.{World, fed}
 use Rattle.ckc_cli_commands.specs.Running.{Shown, ShownOver, Ran}
@@ -30,7 +31,8 @@ taken_begins a b p = (taken p.0, ap taken p.1 ∙ flat_map-append got_byte a p.0
 
 -- ---- the machine beside the program, over one input
 
-module _ (p : Program) (parts : Parts) (given : List ℕ) (follows : Follows (source p given) (machine parts given) 33554432) where
+module _ (p : Program) (parts : Parts) (given : List ℕ) (follows : Follows (source p given) (machine parts given) 33554432)
+    (blamed : (n : ℕ) → (source p given n).standing ≡ Stuck → IsSome (unchecked_since p given n)) where
   abbrev Borne : ℕ → Type 0
   Borne k = (n : ℕ) × IsBorneOut (source p given n) (machine parts given k)
 
@@ -39,7 +41,7 @@ module _ (p : Program) (parts : Parts) (given : List ℕ) (follows : Follows (so
   borne k = let q = follows.back k in at q.0 q.1
     where
       at : (n : ℕ) → ((source p given n).standing ≡ Stuck) ⊎ IsBorneOut (source p given n) (machine parts given k) → ComesToBeStuck p given ⊎ Borne k
-      at n (inl stuck) = inl (n, stuck)
+      at n (inl stuck) = inl (n, stuck, blamed n stuck)
       at n (inr b) = inr (n, b)
 
   pub fault_as : (limit kind pc : ℕ) → (machine parts given limit).standing ≡ Fault kind pc → ComesToBeStuck p given
@@ -112,7 +114,7 @@ says_stopped observed.WriteFault check at s = absurd s
 
 -- ---- inputs
 
-bytes_alone : (more : List ℕ) → given_bytes.AreBytes more → AreBytes (more ++ [])
+pub bytes_alone : (more : List ℕ) → given_bytes.AreBytes more → AreBytes (more ++ [])
 bytes_alone [] h = tt
 bytes_alone (b ∷ more) h = (h.0, bytes_alone more h.1)
 
@@ -148,23 +150,23 @@ module _ (text : List ℕ) (parts : Parts) (built : Built text parts) (limit : �
   pub ran_ended : (value : ℕ) → Runs (observed.Ended value) → OverInput before after (λ given left. ComesToBeStuck built.program given ⊎ ComesTo built.program (Ended value) before.output.written after.output.written given left)
   ran_ended value ran =
       over_input (observed.Ended value) (λ given a b s. s) ran (λ given left. ComesToBeStuck built.program given ⊎ ComesTo built.program (Ended value) before.output.written after.output.written given left)
-      (λ given left bytes s. over_as built.program parts given (built.follows given bytes) limit left before.output.written after.output.written s.put s.took (Ended value) tt s.says)
+      (λ given left bytes s. over_as built.program parts given (built.follows given bytes) (λ n. built.blamed given n bytes) limit left before.output.written after.output.written s.put s.took (Ended value) tt s.says)
 
   pub ran_stopped : (check : Check) (at : Pos) → Runs (observed.Stopped check at)
       → OverInput before after (λ given left. ComesToBeStuck built.program given ⊎ ComesTo built.program (Stopped check at) before.output.written after.output.written given left)
   ran_stopped check at ran =
       over_input (observed.Stopped check at) (λ given a b s. s) ran (λ given left. ComesToBeStuck built.program given ⊎ ComesTo built.program (Stopped check at) before.output.written after.output.written given left)
-      (λ given left bytes s. over_as built.program parts given (built.follows given bytes) limit left before.output.written after.output.written s.put s.took (Stopped check at) tt s.says)
+      (λ given left bytes s. over_as built.program parts given (built.follows given bytes) (λ n. built.blamed given n bytes) limit left before.output.written after.output.written s.put s.took (Stopped check at) tt s.says)
 
   pub ran_going : Runs observed.Going → OverInput before after (λ given left. ComesToBeStuck built.program given ⊎ ComesBy built.program before.output.written after.output.written given left)
   ran_going ran =
       over_input observed.Going (λ given a b s. s) ran (λ given left. ComesToBeStuck built.program given ⊎ ComesBy built.program before.output.written after.output.written given left)
-      (λ given left bytes s. goes_as built.program parts given (built.follows given bytes) limit left before.output.written after.output.written s.put s.took)
+      (λ given left bytes s. goes_as built.program parts given (built.follows given bytes) (λ n. built.blamed given n bytes) limit left before.output.written after.output.written s.put s.took)
 
   pub ran_faulty : (kind : FaultKind) (pc : ℕ) → Runs (observed.Fault kind pc) → OverInput before after (λ given left. ComesToBeStuck built.program given)
   ran_faulty kind pc ran =
       over_input (observed.Fault kind pc) (λ given a b s. s) ran (λ given left. ComesToBeStuck built.program given)
-      (λ given left bytes s. fault_as built.program parts given (built.follows given bytes) limit (kind_number kind) pc s.says)
+      (λ given left bytes s. fault_as built.program parts given (built.follows given bytes) (λ n. built.blamed given n bytes) limit (kind_number kind) pc s.says)
 
   -- ---- if no object fails
 
@@ -198,12 +200,12 @@ module _ (text : List ℕ) (parts : Parts) (built : Built text parts) (limit : �
     pub ran_in_time : (stands : Standing) → IsOver stands → OfInput before.input.left (StandsInTime built.program limit stands) → Says o stands
     ran_in_time stands over h =
         let s = some_input (StandsInTime built.program limit stands) h in
-        subst (Says o) (in_time built.program parts s.given (built.follows s.given s.bytes) stands over s.holds.0 limit s.holds.2 s.holds.1) s.says
+        subst (Says o) (in_time built.program parts s.given (built.follows s.given s.bytes) (λ n. built.blamed s.given n s.bytes) stands over s.holds.0 limit s.holds.2 s.holds.1) s.says
 
     pub ran_put : (bytes : List ℕ) → OfInput before.input.left (PutsInTime built.program limit bytes) → PrintedFirst before.output.written after.output.written bytes
     ran_put bytes h =
         let s = some_input (PutsInTime built.program limit bytes) h in
-        let begins = reached built.program parts s.given (built.follows s.given s.bytes) s.holds.0 limit s.holds.2 s.holds.1 in (
+        let begins = reached built.program parts s.given (built.follows s.given s.bytes) (λ n. built.blamed s.given n s.bytes) s.holds.0 limit s.holds.2 s.holds.1 in (
           output (machine parts s.given limit).trace,
           subst (λ (l : List ℕ). IsPrefix l (output (machine parts s.given limit).trace)) s.holds.3 begins,
           s.put,

@@ -1,5 +1,5 @@
 -- What `exec` shows, beside the meaning of its text.
-use Rattle.std.specs.Prelude.{◌≡◌, ◌≢◌, ◌⊎◌, ℕ, ◌+◌, ◌*◌, ◌≤◌, List, ◌++◌, Option, Some}
+use Rattle.std.specs.Prelude.{◌≡◌, ◌≢◌, ◌⊎◌, ℕ, ◌+◌, ◌*◌, ◌≤◌, List, ◌++◌, Option, Some, IsSome}
 use Rattle.ckc_base.specs.declared.places.Pos.{Pos}
 use Rattle.ckc_base.specs.declared.runtime_checks.Check.{Check}
 use Rattle.ckc_base.specs.Traces.{Standing, Ended, Stopped, Stuck, output}
@@ -8,7 +8,7 @@ use Rattle.ckc_outside.specs.Given.{taken, Printed, OverAny, WhereTold}
 use Rattle.ckc_machine.specs.declared.observed.FaultKind.{FaultKind}
 use Rattle.ckc_source.specs.Code.{Program}
 use Rattle.ckc_source.specs.LaidOut.{AreBytes}
-use Rattle.ckc_source.specs.Source.{source}
+use Rattle.ckc_source.specs.Source.{source, unchecked_since}
 use Rattle.ckc_build.specs.Meanings.{HasMeaning}
 use Rattle.ckc_build.specs.Built.{most_for_a_step}
 use Rattle.ckc_cli_commands.specs.declared.status.Status.{Status}
@@ -46,9 +46,9 @@ TookPart given left bytes = (got : List ℕ) × IsPrefix got bytes × (given ≡
 
 -- ---- what the meaning comes to
 
--- with this input the program comes to a step that has no meaning
+-- With this input the program comes to a step that has no meaning, in unchecked code or after a step in it.
 abbrev pub ComesToBeStuck : Program → List ℕ → Type 0
-ComesToBeStuck p given = (n : ℕ) × (standing_after p given n ≡ Stuck)
+ComesToBeStuck p given = (n : ℕ) × (standing_after p given n ≡ Stuck) × IsSome (unchecked_since p given n)
 
 -- With this input the program comes to stand so, and by then has put what was put and taken what was taken.
 pub record ComesTo (p : Program) (stands : Standing) (old new : Option (List ℕ)) (given left : List ℕ) : Type 0 where

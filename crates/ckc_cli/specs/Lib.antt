@@ -3,3 +3,4 @@ pub mod Agreeing
 pub mod Meaning
 pub mod Checking
 pub mod Laws
+pub mod Blame

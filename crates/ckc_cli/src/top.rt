@@ -7,9 +7,11 @@ ghost use Rattle.ckc_cli_commands.specs.Causes.{Caused, Reported, puts_after};
 ghost use Rattle.ckc_cli_commands.specs.Report.{report_of};
 ghost use Rattle.ckc_cli.specs.Agreeing.{Headline};
 ghost use Rattle.ckc_cli.specs.Meaning.{Meaning};
+ghost use Rattle.ckc_cli.specs.Blame.{Blame};
 ghost use Rattle.ckc_cli.specs.Checking.{Checking};
 ghost use Rattle.ckc_cli.specs.Objects.{Counts};
 
+use ckc_build::unchecked_code_is_to_blame;
 use ckc_cli_calls::put_line;
 use ckc_cli_commands::{Status, report};
 use ckc_cli_dispatch::asked;
@@ -51,6 +53,11 @@ pub fn ccc<S: Source, O: Sink, E: Sink, F: Store>(
         (world (S.seen input.old) (O.seen out.old) (E.seen err.old) (F.seen store.old))
         (world (S.seen input.new) (O.seen out.new) (E.seen err.new) (F.seen store.new)) result }
 
+    // If a program comes to a step that has no meaning, unchecked code is to blame.
+    ensures blame { Blame (bytes_of words.now)
+        (world (S.seen input.old) (O.seen out.old) (E.seen err.old) (F.seen store.old))
+        (world (S.seen input.new) (O.seen out.new) (E.seen err.new) (F.seen store.new)) result }
+
     // The report of the status is put on err in one call; a fault of err changes no status.
     ensures report { Reported (report_of result) (E.seen err.old).written (E.seen err.new).written
         (Rose (E.seen err.old).faults (E.seen err.new).faults) }
@@ -61,6 +68,7 @@ pub fn ccc<S: Source, O: Sink, E: Sink, F: Store>(
         (world (S.seen input.old) (O.seen out.old) (E.seen err.old) (F.seen store.old))
         (world (S.seen input.new) (O.seen out.new) (E.seen err.new) (F.seen store.new)) }
 {
+    unchecked_code_is_to_blame();
     let status = asked(alloc, words, input, out, store);
     tell(&status, err);
     status

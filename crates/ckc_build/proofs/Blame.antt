@@ -1,0 +1,53 @@
+-- What follows from the law that unchecked code is to blame.
+use Rattle.std.proofs.Common.{◌≡◌, ◌↔◌, ℕ, List, Result, Ok, Err, IfOk, subst}
+use Rattle.ckc_base.specs.declared.fault.Fault.{Fault}
+use Rattle.ckc_base.specs.Phases.{Exact}
+use Rattle.ckc_blame.specs.Blamed.{IsBlamed, IsNeverStuck}
+use Rattle.ckc_blame.specs.Checked.{WhollyChecked}
+use Rattle.ckc_syntax.specs.declared.tree.NamedText.{NamedText}
+use Rattle.ckc_parser.specs.Text.{SpelledTree}
+use Rattle.ckc_resolve.specs.Phase.{naming}
+use Rattle.ckc_source.specs.Code.{Program}
+use Rattle.ckc_typed.specs.Texts.{named_typed}
+use Rattle.ckc_typed_welltyped.specs.Texts.{TypedAs}
+use Rattle.ckc_blame_steps.specs.Accepted.{IsAccepted}
+use Rattle.ckc_typed.specs.declared.typed.Typed.{Typed}
+use Rattle.ckc_build_elaborate.specs.Elaborated.{elaborated}
+use Rattle.ckc_build.specs.Meanings.{judging, HasMeaning}
+use Rattle.ckc_build.specs.Blame.{IsWhollyChecked}
+use Rattle.ckc_build.proofs.Chain.{judging_exact}
+
+-- a text that the phases judge is accepted
+pub accepted : ((t : NamedText) (p : Typed) → (named_typed t ≡ Ok p) ↔ TypedAs t p) → (text : List ℕ) (p : Typed) → judging.Makes text p → IsAccepted text p
+accepted exactly text p m =
+    let rest = m.2.2 in
+    record {
+      tokens = m.1.0;
+      spelled = m.0;
+      named = rest.0;
+      typed = rest.2.0;
+      has_tokens = m.1.1;
+      has_tree = m.1.2;
+      small = m.2.1.0;
+      has_names = subst (λ (t : SpelledTree). naming.Makes t rest.0) m.2.1.1 rest.1;
+      has_types = (exactly rest.0 rest.2.0).0 rest.2.1;
+      has_bounds = rest.2.2;
+    }
+
+-- whatever holds of each typed text that the phases make holds of what they answer
+pub if_judged : (P : Typed → Type 0) (text : List ℕ) (r : Result Typed Fault) → ((p : Typed) → judging.Makes text p → P p) → Exact judging text r → IfOk r P
+if_judged P text (Ok p) law x = law p x.answers
+if_judged P text (Err e) law x = tt
+
+module _ (judged : (text : List ℕ) (p : Typed) → judging.Makes text p → IsBlamed (elaborated p)) (checked : (text : List ℕ) (p : Typed) → judging.Makes text p → WhollyChecked p → IsNeverStuck (elaborated p)) (text : List ℕ) where
+  pub blamed_by : (p : Program) → HasMeaning text p → IsBlamed p
+  blamed_by p m = subst IsBlamed (elaborated_is m.0 p m.2) (judged text m.0 m.1)
+    where
+      elaborated_is : (t : Typed) (p : Program) → Ok (elaborated t) ≡ Ok p → elaborated t ≡ p
+      elaborated_is t p e = cc
+
+  pub never_by : (p : Program) → HasMeaning text p → IsWhollyChecked text → IsNeverStuck p
+  never_by p m w = subst IsNeverStuck (elaborated_is m.0 p m.2) (checked text m.0 m.1 (subst WhollyChecked (judging_exact.made_once text w.0 m.0 w.1 m.1) w.2))
+    where
+      elaborated_is : (t : Typed) (p : Program) → Ok (elaborated t) ≡ Ok p → elaborated t ≡ p
+      elaborated_is t p e = cc
