@@ -2,6 +2,7 @@
 //! runs.
 #![tactic(auto)]
 
+mod accepted_laws;
 mod allocated_laws;
 mod calls_laws;
 mod covered_laws;
@@ -12,6 +13,7 @@ mod results_laws;
 mod rooms_laws;
 mod whole_laws;
 
+pub use accepted_laws::accepted_texts_are_blamed;
 pub use allocated_laws::allocations_draw;
 pub use calls_laws::{calls_keep_sound, ends_keep_sound, results_are_known, returns_keep_sound};
 pub use covered_laws::checked_steps_are_covered;
