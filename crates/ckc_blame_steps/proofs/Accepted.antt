@@ -316,6 +316,9 @@ module _ (text : List ℕ) (p : Typed) (a : IsAccepted text p) where
     laid_out = programs_laid_out text a.tokens a.spelled a.named a.typed p a.has_tokens a.has_tree a.has_names a.has_types a.has_bounds;
   }
 
+  pub accepted_known : (k : IsKnown p) × Begins p k
+  accepted_known = (known, begins)
+
   pub accepted_blamed : IsBlamed (elaborated p)
   accepted_blamed input n bytes stuck = stuck_blamed p input n known begins bytes stuck
 

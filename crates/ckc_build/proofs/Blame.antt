@@ -13,8 +13,7 @@ use Rattle.ckc_typed_welltyped.specs.Texts.{TypedAs}
 use Rattle.ckc_blame_steps.specs.Accepted.{IsAccepted}
 use Rattle.ckc_typed.specs.declared.typed.Typed.{Typed}
 use Rattle.ckc_build_elaborate.specs.Elaborated.{elaborated}
-use Rattle.ckc_build.specs.Meanings.{judging, HasMeaning}
-use Rattle.ckc_build.specs.Blame.{IsWhollyChecked}
+use Rattle.ckc_build.specs.Meanings.{judging, HasMeaning, IsWhollyChecked}
 use Rattle.ckc_build.proofs.Chain.{judging_exact}
 
 -- a text that the phases judge is accepted

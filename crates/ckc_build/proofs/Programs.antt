@@ -12,8 +12,8 @@ use Rattle.ckc_build_elaborate.specs.Elaborated.{elaborated}
 use Rattle.ckc_image.specs.declared.parts.Parts as parts
 use Rattle.ckc_build_compile.specs.Compiled.{FollowsSource, machine_parts}
 use Rattle.ckc_build_compile.specs.Confined.{ConfinesStores, NeverFaults}
-use Rattle.ckc_build.specs.Meanings.{judging, elaborating, meanings}
-use Rattle.ckc_build.specs.Blame.{IsWhollyChecked, IsConfined}
+use Rattle.ckc_build.specs.Meanings.{IsWhollyChecked, judging, elaborating, meanings}
+use Rattle.ckc_build.specs.Confined.{IsConfined}
 use Rattle.ckc_build.specs.Built.{IsImage, building}
 use Rattle.ckc_build.specs.Sizes.{HasShortCode}
 use Rattle.ckc_build.proofs.Chain.{judging_exact, exact_err}
@@ -53,8 +53,8 @@ module _ (text : List ℕ) where
       (made : parts.Parts) × FollowsSource p made × (length made.code ≤ 4 * (program_weight p + 5))
       × ConfinesStores p (machine_parts made) × NeverFaults p (machine_parts made) × IsImage image (machine_parts made)
 
-  pub built_of : (p : Program) (image : List ℕ) → IsBlamed p → Exact meanings text (Ok p) → IsMade p image → building.Makes text image
-  built_of p image blamed x q = (machine_parts q.0, record { program = p; means = x.answers; follows = q.1; blamed = blamed; confined = q.3; faultless = q.4 }, q.5)
+  pub built_of : (p : Program) (image : List ℕ) → IsBlamed p → (IsWhollyChecked text → IsNeverStuck p) → Exact meanings text (Ok p) → IsMade p image → building.Makes text image
+  built_of p image blamed checked x q = (machine_parts q.0, record { program = p; means = x.answers; follows = q.1; blamed = blamed; checked = checked; confined = q.3; faultless = q.4 }, q.5)
 
   pub confined_of : (p : Program) (image : List ℕ) → (IsWhollyChecked text → IsNeverStuck p) → Exact meanings text (Ok p) → IsMade p image → IsWhollyChecked text → IsConfined text image
   confined_of p image never x q w = record {

@@ -5,27 +5,28 @@ pub use Rattle.ckc_build_compile.specs.Compiled.{most_for_a_step}
 use Rattle.ckc_build_compile.specs.Confined.{ConfinesStores, NeverFaults}
 use Rattle.ckc_base.specs.Follows.{Follows}
 use Rattle.ckc_base.specs.Phases.{Phase}
-use Rattle.ckc_blame.specs.Blamed.{IsBlamed}
+use Rattle.ckc_blame.specs.Blamed.{IsBlamed, IsNeverStuck}
 use Rattle.ckc_rv.specs.Machine.{Parts, machine}
 use Rattle.ckc_image.specs.Image.{ImageOf}
 use Rattle.ckc_source.specs.Code.{Program}
 use Rattle.ckc_source.specs.LaidOut.{AreBytes}
 use Rattle.ckc_source.specs.Source.{source}
-use Rattle.ckc_build.specs.Meanings.{HasMeaning, FirstFault}
+use Rattle.ckc_build.specs.Meanings.{HasMeaning, FirstFault, IsWhollyChecked}
 
 -- the bytes are an image of the parts
 abbrev pub IsImage : List ℕ → Parts → Type 0
 IsImage bytes parts = ImageOf bytes parts.entry parts.code parts.initial
 
 -- The parts are those of an image of a text: for every input of bytes its machine follows the meaning of the text,
--- within so many instructions for each step and as many more. If the meaning is stuck, unchecked code is to blame. If it
--- is never stuck, each store lies in a block, in a frame or in the heap word, or the meaning's step plans it, and no run
+-- within so many instructions for each step and as many more. If the meaning is stuck, unchecked code is to blame, and
+-- that of a text that is wholly checked is never stuck. If it is never stuck, each store lies in a block, in a frame or in the heap word, or the meaning's step plans it, and no run
 -- of the machine is at a fault.
 pub record Built (text : List ℕ) (parts : Parts) : Type 0 where
   pub program : Program
   pub means : HasMeaning text program
   pub follows : (input : List ℕ) → AreBytes input → Follows (source program input) (machine parts input) most_for_a_step
   pub blamed : IsBlamed program
+  pub checked : IsWhollyChecked text → IsNeverStuck program
   pub confined : ConfinesStores program parts
   pub faultless : NeverFaults program parts
 

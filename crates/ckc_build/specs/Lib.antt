@@ -1,4 +1,4 @@
 pub mod Meanings
 pub mod Built
 pub mod Sizes
-pub mod Blame
+pub mod Confined

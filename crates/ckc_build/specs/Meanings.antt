@@ -3,6 +3,7 @@ use Rattle.std.specs.Prelude.{ℕ, List, Ok}
 use Rattle.ckc_base.specs.declared.places.Refusal.{Refusal}
 use Rattle.ckc_base.specs.Outcomes.{phase_by}
 use Rattle.ckc_base.specs.Phases.{Phase, ◌>=>◌}
+use Rattle.ckc_blame.specs.Checked.{WhollyChecked}
 use Rattle.ckc_syntax_limits.specs.Phase.{limiting}
 use Rattle.ckc_lexer.specs.Phase.{lexing}
 use Rattle.ckc_parser.specs.Phase.{parsing}
@@ -42,3 +43,7 @@ HasMeaning text p = meanings.Makes text p
 -- the first error of a text
 abbrev pub FirstFault : List ℕ → Refusal → Type 0
 FirstFault text refusal = meanings.Refuses text refusal
+
+-- The text keeps all rules, and no statement of it has mode Unchecked.
+abbrev pub IsWhollyChecked : List ℕ → Type 0
+IsWhollyChecked text = (p : Typed) × judging.Makes text p × WhollyChecked p

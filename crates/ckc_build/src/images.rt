@@ -3,8 +3,8 @@ ghost use Rattle.std.specs.Prelude.{IfOk, Ok};
 ghost use Rattle.ckc_base.specs.Phases.{Answers, Exact, viewed};
 ghost use Rattle.ckc_source.specs.Code.{program_of};
 ghost use Rattle.ckc_source.specs.LaidOut.{IsLaidOut};
-ghost use Rattle.ckc_build.specs.Meanings.{meanings};
-ghost use Rattle.ckc_build.specs.Blame.{IsConfined, IsWhollyChecked};
+ghost use Rattle.ckc_build.specs.Meanings.{IsWhollyChecked, meanings};
+ghost use Rattle.ckc_build.specs.Confined.{IsConfined};
 ghost use Rattle.ckc_build.specs.Built.{building, bytes_of};
 ghost use Rattle.ckc_build.specs.Sizes.{HasShortCode};
 

@@ -10,8 +10,7 @@ ghost use Rattle.ckc_blame.specs.Blamed.{IsBlamed, IsNeverStuck};
 ghost use Rattle.ckc_blame.specs.Checked.{WhollyChecked};
 ghost use Rattle.ckc_build_elaborate.specs.Elaborated.{elaborated};
 ghost use Rattle.ckc_typed.specs.declared.typed.Typed.{Typed};
-ghost use Rattle.ckc_build.specs.Meanings.{HasMeaning, judging, reading};
-ghost use Rattle.ckc_build.specs.Blame.{IsWhollyChecked};
+ghost use Rattle.ckc_build.specs.Meanings.{HasMeaning, IsWhollyChecked, judging, reading};
 
 use ckc_blame_steps::accepted_texts_are_blamed;
 use ckc_build_elaborate::laws::objects_are_laid_out;

@@ -2,7 +2,6 @@
 use Rattle.std.proofs.Common.{◌≡◌, ℕ, List, [], ◌++◌, Option, sym, subst, refl}
 use Rattle.std.specs.Prelude.{IsSome}
 use Rattle.ckc_base.specs.declared.places.Pos.{Pos}
-use Rattle.ckc_machine.specs.declared.observed.FaultKind.{FaultKind}
 use Rattle.ckc_source.specs.Code.{Program}
 use Rattle.ckc_source.specs.Source.{unchecked_since}
 use Rattle.ckc_typed.specs.declared.typed.Typed.{Typed}
@@ -10,17 +9,15 @@ use Rattle.ckc_interp.specs.declared.seen.Seen.TheVariants as seen
 use Rattle.ckc_blame.specs.Blamed.{IsBlamed, IsNeverStuck}
 use Rattle.ckc_blame.specs.Checked.{WhollyChecked}
 use Rattle.ckc_build_elaborate.specs.Elaborated.{elaborated}
-use Rattle.ckc_build.specs.Meanings.{judging, HasMeaning}
-use Rattle.ckc_build.specs.Blame.{IsWhollyChecked}
+use Rattle.ckc_build.specs.Meanings.{judging, HasMeaning, IsWhollyChecked}
 use Rattle.ckc_cli_commands.specs.declared.status.Status.{Status}
 use Rattle.ckc_cli_commands.specs.declared.status.Status.TheVariants as status
 use Rattle.ckc_cli_commands.specs.World.{World, Untouched}
-use Rattle.ckc_cli_commands.specs.Words.{Exec, Interp, Judge}
+use Rattle.ckc_cli_commands.specs.Words.{Interp, Judge}
 use Rattle.ckc_cli_commands.specs.Commands.{Reads}
 use Rattle.ckc_cli_commands.specs.Causes.{Caused}
 use Rattle.ckc_cli.specs.Objects.{OfFile}
 use Rattle.ckc_cli.specs.Blame.{Blame, IsSaidSafely}
-use Rattle.ckc_cli.proofs.Execs.{headline}
 use Rattle.ckc_cli.proofs.Headline.{bytes_alone}
 use Rattle.ckc_cli.proofs.Meant.{meaning}
 use Rattle.ckc_cli.proofs.Checked.{checking}
@@ -47,20 +44,10 @@ module _ (known : Known) (words : List (List ℕ)) (before after : World) (same 
         (x.0, x.1, λ w. known.never_stuck x.0 p x.2.1 w given stop.0 bytes stop.1.stands_so),
       )
 
-  faultless_by : (kind : FaultKind) (pc : ℕ) (name : List ℕ) (limit : ℕ) → Reads words (Exec name limit) → s ≡ status.MachineFault kind pc → IsUnchecked name
-  faultless_by kind pc name limit asked e =
-      let x = (headline words before after same s cause name limit asked).faultless kind pc e in
-      let p = x.2.0 in
-      let run = x.2.2.any in
-      let given : List ℕ = run.0 ++ [] in
-      let bytes = bytes_alone run.0 run.1.bytes in
-      let stop = run.2 [] (λ q. refl) bytes in
-      (x.0, x.1, λ w. known.never_stuck x.0 p x.2.1 w given stop.0 bytes stop.1)
-
   said_by : (name : List ℕ) → Reads words (Judge name) → s ≡ status.Done → OfFile before.store.files name (IsSaidSafely before.output after.output)
   said_by name asked e =
       let x = (checking words before after same name asked s cause).said e in
       (x.0, x.1, record { typed = x.2.typed; judged = x.2.judged; put = x.2.put; never_stuck = known.checked x.0 x.2.typed x.2.judged })
 
   pub blame : Blame words before after s
-  blame = record { stuck = stuck_by; faultless = faultless_by; said = said_by }
+  blame = record { stuck = stuck_by; said = said_by }

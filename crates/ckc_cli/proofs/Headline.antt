@@ -18,6 +18,7 @@ use Rattle.ckc_source.specs.Code.{Program}
 use Rattle.ckc_source.specs.LaidOut.{AreBytes}
 use Rattle.ckc_source.specs.Source.{source, unchecked_since}
 use Rattle.ckc_build.specs.Built.{Built}
+use Rattle.ckc_build.specs.Meanings.{IsWhollyChecked}
 use Rattle.ckc_cli_commands.specs.World.{World, fed}
 use Rattle.ckc_cli_commands.specs.Running.{Shown, ShownOver, Ran}
 use Rattle.ckc_cli.specs.Agreeing.{OverInput, OfInput, PrintedFirst, ComesToBeStuck, ComesTo, ComesBy, StandsInTime, PutsInTime, enough}
@@ -31,32 +32,32 @@ taken_begins a b p = (taken p.0, ap taken p.1 ∙ flat_map-append got_byte a p.0
 
 -- ---- the machine beside the program, over one input
 
-module _ (p : Program) (parts : Parts) (given : List ℕ) (follows : Follows (source p given) (machine parts given) 33554432)
-    (blamed : (n : ℕ) → (source p given n).standing ≡ Stuck → IsSome (unchecked_since p given n)) where
+module _ (text : List ℕ) (p : Program) (parts : Parts) (given : List ℕ) (follows : Follows (source p given) (machine parts given) 33554432)
+    (blamed : (n : ℕ) → (source p given n).standing ≡ Stuck → IsSome (unchecked_since p given n) × ¬ IsWhollyChecked text) where
   abbrev Borne : ℕ → Type 0
   Borne k = (n : ℕ) × IsBorneOut (source p given n) (machine parts given k)
 
   -- what the machine shows is borne out by the program, or the program is stuck
-  borne : (k : ℕ) → ComesToBeStuck p given ⊎ Borne k
+  borne : (k : ℕ) → ComesToBeStuck text p given ⊎ Borne k
   borne k = let q = follows.back k in at q.0 q.1
     where
-      at : (n : ℕ) → ((source p given n).standing ≡ Stuck) ⊎ IsBorneOut (source p given n) (machine parts given k) → ComesToBeStuck p given ⊎ Borne k
-      at n (inl stuck) = inl (n, stuck, blamed n stuck)
+      at : (n : ℕ) → ((source p given n).standing ≡ Stuck) ⊎ IsBorneOut (source p given n) (machine parts given k) → ComesToBeStuck text p given ⊎ Borne k
+      at n (inl stuck) = let b = blamed n stuck in inl (n, stuck, b.0, b.1)
       at n (inr b) = inr (n, b)
 
-  pub fault_as : (limit kind pc : ℕ) → (machine parts given limit).standing ≡ Fault kind pc → ComesToBeStuck p given
+  pub fault_as : (limit kind pc : ℕ) → (machine parts given limit).standing ≡ Fault kind pc → ComesToBeStuck text p given
   fault_as limit kind pc e = at (borne limit)
     where
-      at : ComesToBeStuck p given ⊎ Borne limit → ComesToBeStuck p given
+      at : ComesToBeStuck text p given ⊎ Borne limit → ComesToBeStuck text p given
       at (inl stuck) = stuck
       at (inr b) = absurd (subst IsSafe e b.1.safe)
 
   module _ (limit : ℕ) (left : List ℕ) (old new : Option (List ℕ)) (put : Printed old new (output (machine parts given limit).trace))
       (took : given ≡ taken (machine parts given limit).trace ++ left) where
-    pub over_as : (stands : Standing) → IsOver stands → (machine parts given limit).standing ≡ stands → ComesToBeStuck p given ⊎ ComesTo p stands old new given left
+    pub over_as : (stands : Standing) → IsOver stands → (machine parts given limit).standing ≡ stands → ComesToBeStuck text p given ⊎ ComesTo p stands old new given left
     over_as stands over e = at (borne limit)
       where
-        at : ComesToBeStuck p given ⊎ Borne limit → ComesToBeStuck p given ⊎ ComesTo p stands old new given left
+        at : ComesToBeStuck text p given ⊎ Borne limit → ComesToBeStuck text p given ⊎ ComesTo p stands old new given left
         at (inl stuck) = inl stuck
         at (inr b) =
             let same = b.1.over (subst IsOver (sym e) over) in
@@ -67,10 +68,10 @@ module _ (p : Program) (parts : Parts) (given : List ℕ) (follows : Follows (so
               took = subst (λ (a : Showing Event). given ≡ taken a.trace ++ left) (sym same) took;
             })
 
-    pub goes_as : ComesToBeStuck p given ⊎ ComesBy p old new given left
+    pub goes_as : ComesToBeStuck text p given ⊎ ComesBy p old new given left
     goes_as = at (borne limit)
       where
-        at : ComesToBeStuck p given ⊎ Borne limit → ComesToBeStuck p given ⊎ ComesBy p old new given left
+        at : ComesToBeStuck text p given ⊎ Borne limit → ComesToBeStuck text p given ⊎ ComesBy p old new given left
         at (inl stuck) = inl stuck
         at (inr b) =
             inr (record {
@@ -119,6 +120,9 @@ bytes_alone [] h = tt
 bytes_alone (b ∷ more) h = (h.0, bytes_alone more h.1)
 
 module _ (text : List ℕ) (parts : Parts) (built : Built text parts) (limit : ℕ) (before after : World) (untaken : Type 0) where
+  blamed_by : (given : List ℕ) → AreBytes given → (n : ℕ) → (source built.program given n).standing ≡ Stuck → IsSome (unchecked_since built.program given n) × ¬ IsWhollyChecked text
+  blamed_by given bytes n stuck = (built.blamed given n bytes stuck, λ checked. built.checked checked given n bytes stuck)
+
   abbrev Runs : Observed → Type 0
   Runs o = Ran parts limit before after untaken o
 
@@ -147,26 +151,26 @@ module _ (text : List ℕ) (parts : Parts) (built : Built text parts) (limit : �
     );
   }
 
-  pub ran_ended : (value : ℕ) → Runs (observed.Ended value) → OverInput before after (λ given left. ComesToBeStuck built.program given ⊎ ComesTo built.program (Ended value) before.output.written after.output.written given left)
+  pub ran_ended : (value : ℕ) → Runs (observed.Ended value) → OverInput before after (λ given left. ComesToBeStuck text built.program given ⊎ ComesTo built.program (Ended value) before.output.written after.output.written given left)
   ran_ended value ran =
-      over_input (observed.Ended value) (λ given a b s. s) ran (λ given left. ComesToBeStuck built.program given ⊎ ComesTo built.program (Ended value) before.output.written after.output.written given left)
-      (λ given left bytes s. over_as built.program parts given (built.follows given bytes) (λ n. built.blamed given n bytes) limit left before.output.written after.output.written s.put s.took (Ended value) tt s.says)
+      over_input (observed.Ended value) (λ given a b s. s) ran (λ given left. ComesToBeStuck text built.program given ⊎ ComesTo built.program (Ended value) before.output.written after.output.written given left)
+      (λ given left bytes s. over_as text built.program parts given (built.follows given bytes) (blamed_by given bytes) limit left before.output.written after.output.written s.put s.took (Ended value) tt s.says)
 
   pub ran_stopped : (check : Check) (at : Pos) → Runs (observed.Stopped check at)
-      → OverInput before after (λ given left. ComesToBeStuck built.program given ⊎ ComesTo built.program (Stopped check at) before.output.written after.output.written given left)
+      → OverInput before after (λ given left. ComesToBeStuck text built.program given ⊎ ComesTo built.program (Stopped check at) before.output.written after.output.written given left)
   ran_stopped check at ran =
-      over_input (observed.Stopped check at) (λ given a b s. s) ran (λ given left. ComesToBeStuck built.program given ⊎ ComesTo built.program (Stopped check at) before.output.written after.output.written given left)
-      (λ given left bytes s. over_as built.program parts given (built.follows given bytes) (λ n. built.blamed given n bytes) limit left before.output.written after.output.written s.put s.took (Stopped check at) tt s.says)
+      over_input (observed.Stopped check at) (λ given a b s. s) ran (λ given left. ComesToBeStuck text built.program given ⊎ ComesTo built.program (Stopped check at) before.output.written after.output.written given left)
+      (λ given left bytes s. over_as text built.program parts given (built.follows given bytes) (blamed_by given bytes) limit left before.output.written after.output.written s.put s.took (Stopped check at) tt s.says)
 
-  pub ran_going : Runs observed.Going → OverInput before after (λ given left. ComesToBeStuck built.program given ⊎ ComesBy built.program before.output.written after.output.written given left)
+  pub ran_going : Runs observed.Going → OverInput before after (λ given left. ComesToBeStuck text built.program given ⊎ ComesBy built.program before.output.written after.output.written given left)
   ran_going ran =
-      over_input observed.Going (λ given a b s. s) ran (λ given left. ComesToBeStuck built.program given ⊎ ComesBy built.program before.output.written after.output.written given left)
-      (λ given left bytes s. goes_as built.program parts given (built.follows given bytes) (λ n. built.blamed given n bytes) limit left before.output.written after.output.written s.put s.took)
+      over_input observed.Going (λ given a b s. s) ran (λ given left. ComesToBeStuck text built.program given ⊎ ComesBy built.program before.output.written after.output.written given left)
+      (λ given left bytes s. goes_as text built.program parts given (built.follows given bytes) (blamed_by given bytes) limit left before.output.written after.output.written s.put s.took)
 
-  pub ran_faulty : (kind : FaultKind) (pc : ℕ) → Runs (observed.Fault kind pc) → OverInput before after (λ given left. ComesToBeStuck built.program given)
+  pub ran_faulty : (kind : FaultKind) (pc : ℕ) → Runs (observed.Fault kind pc) → OverInput before after (λ given left. ComesToBeStuck text built.program given)
   ran_faulty kind pc ran =
-      over_input (observed.Fault kind pc) (λ given a b s. s) ran (λ given left. ComesToBeStuck built.program given)
-      (λ given left bytes s. fault_as built.program parts given (built.follows given bytes) (λ n. built.blamed given n bytes) limit (kind_number kind) pc s.says)
+      over_input (observed.Fault kind pc) (λ given a b s. s) ran (λ given left. ComesToBeStuck text built.program given)
+      (λ given left bytes s. fault_as text built.program parts given (built.follows given bytes) (blamed_by given bytes) limit (kind_number kind) pc s.says)
 
   -- ---- if no object fails
 
@@ -200,12 +204,12 @@ module _ (text : List ℕ) (parts : Parts) (built : Built text parts) (limit : �
     pub ran_in_time : (stands : Standing) → IsOver stands → OfInput before.input.left (StandsInTime built.program limit stands) → Says o stands
     ran_in_time stands over h =
         let s = some_input (StandsInTime built.program limit stands) h in
-        subst (Says o) (in_time built.program parts s.given (built.follows s.given s.bytes) (λ n. built.blamed s.given n s.bytes) stands over s.holds.0 limit s.holds.2 s.holds.1) s.says
+        subst (Says o) (in_time text built.program parts s.given (built.follows s.given s.bytes) (blamed_by s.given s.bytes) stands over s.holds.0 limit s.holds.2 s.holds.1) s.says
 
     pub ran_put : (bytes : List ℕ) → OfInput before.input.left (PutsInTime built.program limit bytes) → PrintedFirst before.output.written after.output.written bytes
     ran_put bytes h =
         let s = some_input (PutsInTime built.program limit bytes) h in
-        let begins = reached built.program parts s.given (built.follows s.given s.bytes) (λ n. built.blamed s.given n s.bytes) s.holds.0 limit s.holds.2 s.holds.1 in (
+        let begins = reached text built.program parts s.given (built.follows s.given s.bytes) (blamed_by s.given s.bytes) s.holds.0 limit s.holds.2 s.holds.1 in (
           output (machine parts s.given limit).trace,
           subst (λ (l : List ℕ). IsPrefix l (output (machine parts s.given limit).trace)) s.holds.3 begins,
           s.put,

@@ -9,7 +9,7 @@ use Rattle.ckc_machine.specs.declared.observed.FaultKind.{FaultKind}
 use Rattle.ckc_source.specs.Code.{Program}
 use Rattle.ckc_source.specs.LaidOut.{AreBytes}
 use Rattle.ckc_source.specs.Source.{source, unchecked_since}
-use Rattle.ckc_build.specs.Meanings.{HasMeaning}
+use Rattle.ckc_build.specs.Meanings.{HasMeaning, IsWhollyChecked}
 use Rattle.ckc_build.specs.Built.{most_for_a_step}
 use Rattle.ckc_cli_commands.specs.declared.status.Status.{Status}
 use Rattle.ckc_cli_commands.specs.declared.status.Status.TheVariants as status
@@ -46,9 +46,11 @@ TookPart given left bytes = (got : List ℕ) × IsPrefix got bytes × (given ≡
 
 -- ---- what the meaning comes to
 
--- With this input the program comes to a step that has no meaning, in unchecked code or after a step in it.
-abbrev pub ComesToBeStuck : Program → List ℕ → Type 0
-ComesToBeStuck p given = (n : ℕ) × (standing_after p given n ≡ Stuck) × IsSome (unchecked_since p given n)
+-- With this input the program of a text, which is not wholly checked, comes to a step that has no meaning, in unchecked
+-- code or after a step in it.
+abbrev pub ComesToBeStuck : List ℕ → Program → List ℕ → Type 0
+ComesToBeStuck text p given =
+    (n : ℕ) × (standing_after p given n ≡ Stuck) × IsSome (unchecked_since p given n) × ¬ IsWhollyChecked text
 
 -- With this input the program comes to stand so, and by then has put what was put and taken what was taken.
 pub record ComesTo (p : Program) (stands : Standing) (old new : Option (List ℕ)) (given left : List ℕ) : Type 0 where
@@ -66,17 +68,17 @@ pub record ComesBy (p : Program) (old new : Option (List ℕ)) (given left : Lis
 -- The text has a meaning, which comes to stand so, with the bytes that were put and taken, or to be stuck.
 abbrev pub StandsAsMeant : Standing → World → World → List ℕ → Type 0
 StandsAsMeant stands before after text =
-    (p : Program) × HasMeaning text p × OverInput before after (λ given left. ComesToBeStuck p given ⊎ ComesTo p stands before.output.written after.output.written given left)
+    (p : Program) × HasMeaning text p × OverInput before after (λ given left. ComesToBeStuck text p given ⊎ ComesTo p stands before.output.written after.output.written given left)
 
 -- The text has a meaning, which comes to have put what was put and taken what was taken, and perhaps more, or to be
 -- stuck.
 abbrev pub GoesAsMeant : World → World → List ℕ → Type 0
 GoesAsMeant before after text =
-    (p : Program) × HasMeaning text p × OverInput before after (λ given left. ComesToBeStuck p given ⊎ ComesBy p before.output.written after.output.written given left)
+    (p : Program) × HasMeaning text p × OverInput before after (λ given left. ComesToBeStuck text p given ⊎ ComesBy p before.output.written after.output.written given left)
 
 -- The text has a meaning, which comes to be stuck.
 abbrev pub IsStuckAsMeant : World → World → List ℕ → Type 0
-IsStuckAsMeant before after text = (p : Program) × HasMeaning text p × OverInput before after (λ given left. ComesToBeStuck p given)
+IsStuckAsMeant before after text = (p : Program) × HasMeaning text p × OverInput before after (λ given left. ComesToBeStuck text p given)
 
 -- ---- in time
 

@@ -8,7 +8,8 @@ compile-requires-clause-small c = c.programs_fit.ensures c.args.text.now (progra
 pub returns-clause-answers : goal.returns-clause-answers
 returns-clause-answers c =
     built_of c.args.text.now (program_of c.args.p.now) c.in-Ok-write.image.items
-    (c.unchecked_code_is_to_blame.ensures.blamed c.args.text.now (program_of c.args.p.now) c.requires.means.answers) c.requires.means (
+    (c.unchecked_code_is_to_blame.ensures.blamed c.args.text.now (program_of c.args.p.now) c.requires.means.answers)
+    (c.unchecked_code_is_to_blame.ensures.never_stuck c.args.text.now (program_of c.args.p.now) c.requires.means.answers) c.requires.means (
       c.in-Ok.parts,
       c.in-Ok.ensures.follows,
       c.in-Ok.ensures.size,
