@@ -2,7 +2,6 @@
 use Rattle.std.proofs.Common.{◌≡◌, ◌∙◌, refl, sym, ap, subst, arith, ℕ, ◌+◌, ◌<◌, List, [], ◌∷◌, length}
 use Rattle.std.specs.Prelude.{◌^◌, ◌-◌, ◌≤◌, true, Option, None, Some, Ok, IfSome, IsSome}
 use Rattle.std.specs.List.{Contains, flat_map}
-use Rattle.ckc_base.specs.Outcomes.{Outcome}
 use Rattle.ckc_syntax.specs.declared.tree.Name.{Name}
 use Rattle.ckc_syntax.specs.declared.tree.Expr.{every_here-Expr}
 use Rattle.ckc_typed.specs.declared.typed.Note.{Note}
@@ -50,6 +49,7 @@ use Rattle.ckc_blame_sound.specs.Words.{HaveWords}
 use Rattle.ckc_blame_slots.specs.Cells.{AreSound, HaveOwnNames}
 use Rattle.ckc_blame_contained.specs.Elements.{NameIntegerMembers}
 use Rattle.ckc_blame_numbers.specs.Typed.{IsTyped, IsTypedIf}
+use Rattle.ckc_blame_numbers.proofs.Statements.{pair_same}
 use Rattle.ckc_blame_texts.specs.Judged.{IsJudged, globals_in}
 use Rattle.ckc_blame_texts.proofs.Members.{have_own_names}
 use Rattle.ckc_blame_pointers.specs.Covered.{DeclareLocals, DeclareOnes, IsSoundStore, IsCovered, IsInScope}
@@ -95,8 +95,8 @@ use Rattle.ckc_blame_steps.proofs.Stepping.{IsCallStep, call_step}
 use Rattle.ckc_blame_steps.proofs.Strings.{returned_strings}
 use Rattle.ckc_blame_steps.proofs.Words.{gives_word, give_words}
 
-none_there : (here there : Here) (y : NotedExpr) → ◌≡◌ {A = Outcome (Option NotedExpr × Here)} (Ok (None, here)) (Ok (Some y, there)) → ⊥
-none_there here there y e = absurd cc
+none_some : (y : NotedExpr) → ◌≡◌ {A = Option NotedExpr} None (Some y) → ⊥
+none_some y e = cc
 
 some_same : {x y : NotedExpr} → ◌≡◌ {A = Option NotedExpr} (Some x) (Some y) → y ≡ x
 some_same e = cc
@@ -203,7 +203,7 @@ module _ (text : List ℕ) (p : Typed) (a : IsAccepted text p) where
           by : (before after : Option NotedExpr) → maybe_judged s.frame before here ≡ Ok (after, c.behind) → IsTypedIf (globals_in p) s before → IfSome before IsChecked
               → callless_value before ≡ true → IfSome after (IsSpoken s)
           by None None judged typed checked callless = tt
-          by None (Some y) judged typed checked callless = absurd (none_there here c.behind y judged)
+          by None (Some y) judged typed checked callless = absurd (none_some y (pair_same None (Some y) here c.behind judged).0)
           by (Some x) None judged typed checked callless = tt
           by (Some x) (Some y) judged typed checked callless =
               let m = judged_as s.frame here x (Some y) c.behind c.counting judged in
@@ -299,7 +299,7 @@ module _ (text : List ℕ) (p : Typed) (a : IsAccepted text p) where
   }
 
   known : IsKnown p
-  unfolding j
+  unfolding j granted
   known = record {
     granted = granted;
     nested = typed_nested a.tokens a.spelled a.named a.typed a.has_tree a.has_names a.has_types;
@@ -310,6 +310,7 @@ module _ (text : List ℕ) (p : Typed) (a : IsAccepted text p) where
   }
 
   begins : Begins p known
+  unfolding known granted
   begins = record {
     given = given;
     small = small;
