@@ -1,12 +1,11 @@
 -- The grammar gives the bodies of a judged text if it gives the tree of its names, since it looks at no notes.
 use Rattle.std.proofs.Common.{◌≡◌, ◌∙◌, sym, ap, true}
-use Rattle.std.specs.List.{Contains}
 use Rattle.std.proofs.lemmas.List.Elements.{All-contains}
 use Rattle.std.proofs.lemmas.List.Sums.{AllPass-from_list_all}
 use Rattle.ckc_syntax.specs.Trees.{NamedTree}
 use Rattle.ckc_syntax.specs.declared.tree.Item.TheVariants as item
 use Rattle.ckc_typed.specs.declared.typed.Typed.{Typed}
-use Rattle.ckc_typed.specs.Trees.{NotedHead, NotedItem, NotedStmt}
+use Rattle.ckc_typed.specs.Trees.{NotedItem}
 use Rattle.ckc_typed_welltyped.specs.Productions.{given_head, given_item, given_stmt, given_tree}
 use Rattle.ckc_typed_welltyped.proofs.FormKept.{of_tree}
 use Rattle.ckc_bounds.specs.Phase.{bounding}

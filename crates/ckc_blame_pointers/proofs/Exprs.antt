@@ -55,7 +55,7 @@ use Rattle.ckc_blame_numbers.proofs.Exprs as numbers
 use Rattle.ckc_blame_numbers.proofs.Holding.{form_exact, form_exact_in, side_told}
 use Rattle.ckc_blame_numbers.proofs.Types.{sign_row, IsWide, number_wide, size_wide}
 use Rattle.ckc_blame_sound.specs.Bodies.{AreFresh}
-use Rattle.ckc_blame_pointers.specs.Covered.{DeclareLocals, DeclareOnes, IsSoundStore, IsElement, IsSingle, IsArrow, IsPointerArrow, IsAddressed, IsStaticInteger, IsStaticArray, IsStaticPointer, IsStaticBounded, IsStaticStructure, IsStructureTarget, IsPointerTarget, IsStructureElement, IsStructureNode, IsCoveredNode, IsCoveredExpr, AreCovered, IsCovered}
+use Rattle.ckc_blame_pointers.specs.Covered.{DeclareLocals, DeclareOnes, IsSoundStore, IsElement, IsSingle, IsArrow, IsPointerArrow, IsAddressed, IsStaticInteger, IsStaticArray, IsStaticPointer, IsStaticBounded, IsStaticStructure, IsStructureTarget, IsPointerTarget, IsStructureElement, IsStructureNode, IsCoveredNode, IsCoveredExpr, AreCovered}
 use Rattle.ckc_blame_pointers.specs.Meant.{IsNotStuck}
 use Rattle.ckc_blame_pointers.proofs.Claims.{weaker, holds_on, nothing_read}
 use Rattle.ckc_blame_numbers.proofs.Known.{form_known}

@@ -1,6 +1,6 @@
 -- What is known of each text that the phases accept.
 use Rattle.std.proofs.Common.{◌≡◌, ◌∙◌, refl, sym, ap, subst, arith, ℕ, ◌+◌, ◌<◌, List, [], ◌∷◌, length}
-use Rattle.std.specs.Prelude.{◌^◌, ◌-◌, ◌≤◌, true, Option, None, Some, Ok, IfSome, IsSome}
+use Rattle.std.specs.Prelude.{◌^◌, ◌-◌, ◌≤◌, true, Option, None, Some, Ok, IfSome}
 use Rattle.std.specs.List.{Contains, flat_map}
 use Rattle.ckc_syntax.specs.declared.tree.Name.{Name}
 use Rattle.ckc_syntax.specs.declared.tree.Expr.{every_here-Expr}
@@ -11,12 +11,11 @@ use Rattle.ckc_blame_facts.specs.Values.{HasFewValues}
 use Rattle.ckc_blame_facts.proofs.Modes.{step_spot, step_mode}
 use Rattle.ckc_blame_facts.proofs.Ones.{ones_declared}
 use Rattle.ckc_base.specs.declared.arithmetic.Mode.TheVariants.{Checked}
-use Rattle.ckc_base.specs.Traces.{Stuck}
 use Rattle.ckc_syntax_limits.specs.Small.{Small}
 use Rattle.ckc_typed.specs.declared.typed.Typed.{Typed}
 use Rattle.ckc_typed.specs.Statics.{strings_of_expr}
 use Rattle.ckc_typed.specs.Trees.{NotedExpr}
-use Rattle.ckc_typed_welltyped.specs.Productions.{callless_expr, callless_value, given_tree}
+use Rattle.ckc_typed_welltyped.specs.Productions.{callless_value, given_tree}
 use Rattle.ckc_typed_fit.proofs.FormKept.{form_kept}
 use Rattle.ckc_typed_fit.proofs.SmallKept.{small_kept}
 use Rattle.ckc_typed_wellformed.proofs.Derived.{tree_given}
@@ -28,8 +27,6 @@ use Rattle.ckc_source.specs.declared.stmt.Kept.{Kept}
 use Rattle.ckc_source.specs.declared.stmt.Spot.{Spot}
 use Rattle.ckc_source.specs.Code.{Code, Expr, Function, Call, Return}
 use Rattle.ckc_source.specs.Eval.{Store}
-use Rattle.ckc_source.specs.LaidOut.{IsLaidOut}
-use Rattle.ckc_source.specs.Source.{source, unchecked_since}
 use Rattle.ckc_source.specs.States.{State, Work}
 use Rattle.ckc_build_elaborate.specs.Elaborated.{elaborated}
 use Rattle.ckc_build_elaborate.specs.Shapes.{shapes_elaborated}
@@ -37,7 +34,6 @@ use Rattle.ckc_blame.specs.Blamed.{IsBlamed, IsNeverStuck}
 use Rattle.ckc_blame.specs.Checked.{WhollyChecked}
 use Rattle.ckc_blame_sound.specs.Bodies.{IsNextFresh}
 use Rattle.ckc_blame_sound.specs.Calls.{store_in, arguments_of}
-use Rattle.ckc_blame_sound.specs.Few.{AreFew}
 use Rattle.ckc_blame_sound.specs.Given.{AreGiven}
 use Rattle.ckc_blame_sound.specs.Safe.{AreSafe}
 use Rattle.ckc_blame_sound.specs.Settings.{Setting, IsFunction, AreStrings, setting_of}
@@ -48,13 +44,12 @@ use Rattle.ckc_blame_sound.specs.Steps.{IsStep, IsCondition}
 use Rattle.ckc_blame_sound.specs.Words.{HaveWords}
 use Rattle.ckc_blame_slots.specs.Cells.{AreSound, HaveOwnNames}
 use Rattle.ckc_blame_contained.specs.Elements.{NameIntegerMembers}
-use Rattle.ckc_blame_numbers.specs.Typed.{IsTyped, IsTypedIf}
+use Rattle.ckc_blame_numbers.specs.Typed.{IsTypedIf}
 use Rattle.ckc_blame_numbers.proofs.Statements.{pair_same}
 use Rattle.ckc_blame_texts.specs.Judged.{IsJudged, globals_in}
 use Rattle.ckc_blame_texts.proofs.Members.{have_own_names}
-use Rattle.ckc_blame_pointers.specs.Covered.{DeclareLocals, DeclareOnes, IsSoundStore, IsCovered, IsInScope}
+use Rattle.ckc_blame_pointers.specs.Covered.{DeclareOnes, IsSoundStore, IsCovered, IsInScope}
 use Rattle.ckc_blame_given.specs.Targets.{KeepRunsFree}
-use Rattle.ckc_blame_nested.specs.Nested.{AreNested}
 use Rattle.ckc_blame_nested.proofs.Whole.{typed_nested}
 use Rattle.ckc_blame_words.proofs.Whole.{literals_are_words}
 use Rattle.ckc_blame_walk.proofs.Allocated.{texts_allocate_sizes}
@@ -69,7 +64,7 @@ use Rattle.ckc_blame_facts.proofs.Checked.{condition_checked}
 use Rattle.ckc_blame_facts.proofs.Given.{texts_given}
 use Rattle.ckc_blame_facts.proofs.Judged.{condition_covered, judged_as}
 use Rattle.ckc_blame_facts.proofs.LaidOut.{programs_laid_out}
-use Rattle.ckc_blame_facts.proofs.Rooms.{texts_are_few, condition_places}
+use Rattle.ckc_blame_facts.proofs.Rooms.{condition_places}
 use Rattle.ckc_blame_facts.proofs.Runs.{runs_free}
 use Rattle.ckc_blame_facts.proofs.Scoped.{texts_are_safe}
 use Rattle.ckc_blame_facts.proofs.Small.{few_locals}
@@ -82,7 +77,7 @@ use Rattle.ckc_blame_steps.specs.Arguments.{GiveWords, literals_before, numbers_
 use Rattle.ckc_blame_steps.specs.Before.{Premises, IsCoveredThere, AreCoveredThere, IsCoveredIf}
 use Rattle.ckc_blame_steps.specs.Givable.{IsGivable, AreGivable}
 use Rattle.ckc_blame_steps.specs.Granted.{IsGranted}
-use Rattle.ckc_blame_steps.specs.Known.{IsKnown, Begins, ArgumentsGiveWords, ReturnsGiveWords}
+use Rattle.ckc_blame_steps.specs.Known.{IsKnown, Begins}
 use Rattle.ckc_blame_steps.specs.Results.{GivesWordIf, returned_by}
 use Rattle.ckc_blame_steps.specs.Rooms.{HasRoomFrom, HaveRoomEach}
 use Rattle.ckc_blame_steps.specs.Tests.{AreTestsCovered}
@@ -91,7 +86,7 @@ use Rattle.ckc_blame_steps.proofs.CoveredCalls.{arguments_there, returned_there}
 use Rattle.ckc_blame_steps.proofs.Declaring.{results_are_spared, steps_declare}
 use Rattle.ckc_blame_steps.proofs.Promised.{stuck_blamed, wholly_never}
 use Rattle.ckc_blame_steps.proofs.Rooms.{arguments_have_room, returned_has_room, steps_have_places, conditions_have_places}
-use Rattle.ckc_blame_steps.proofs.Stepping.{IsCallStep, call_step}
+use Rattle.ckc_blame_steps.proofs.Stepping.{call_step}
 use Rattle.ckc_blame_steps.proofs.Strings.{returned_strings}
 use Rattle.ckc_blame_steps.proofs.Words.{gives_word, give_words}
 
@@ -149,9 +144,6 @@ module _ (text : List ℕ) (p : Typed) (a : IsAccepted text p) where
   safe : AreSafe p
   unfolding j
   safe = texts_are_safe a.typed p a.has_bounds.1.0 j.has_bounds
-
-  nodes : AreFew p
-  nodes = texts_are_few p j small
 
   bodies : AreGiven p
   bodies = texts_given p j given
@@ -253,7 +245,7 @@ module _ (text : List ℕ) (p : Typed) (a : IsAccepted text p) where
     arguments spot target number es next f checked =
         let known = point_known p set s.frame.function f.here j h.stands.function word_variables f.judged.fresh f.judged.named in
         let called = call_step set f.here f.exits.ends spot target number es f.judged (word_there f.here f.judged.fresh) in
-        let there = arguments_there p j small words safe nodes set s.frame.function h.stands.function store f.here f.exits.ends spot target number es f.judged checked
+        let there = arguments_there p j small words safe set s.frame.function h.stands.function store f.here f.exits.ends spot target number es f.judged checked
         (premises set s.frame.function h.stands.function store f.here f.exits.ends (Call spot target number es) f.judged h.filled) in
         let room = arguments_have_room p set s.frame.function j small h.stands.function f.here f.exits.ends (Call spot target number es) f.judged in
         give_words (globals_in p) set s.frame.entry f.here s.next store known.agrees (locals_declared p set s.frame.function j h.stands.function) ready f.holds
@@ -265,7 +257,7 @@ module _ (text : List ℕ) (p : Typed) (a : IsAccepted text p) where
         → GivesWordIf set store f.here.at f.judged.literals (returned_by f.judged.before) (returned_by f.judged.after) (first_from f.here)
     returned spot e next f checked =
         by (returned_by f.judged.before) (returned_by f.judged.after) (λ y is. returned_strings set f.judged.literals f.judged.after f.judged.strings y is)
-        (returned_there p j small words safe nodes set s.frame.function h.stands.function store f.here f.exits.ends spot e f.judged checked
+        (returned_there p j small words safe set s.frame.function h.stands.function store f.here f.exits.ends spot e f.judged checked
         (premises set s.frame.function h.stands.function store f.here f.exits.ends (Return spot e) f.judged h.filled))
         (returned_has_room p set s.frame.function j small h.stands.function f.here f.exits.ends (Return spot e) f.judged)
       where
@@ -293,7 +285,7 @@ module _ (text : List ℕ) (p : Typed) (a : IsAccepted text p) where
     few = few;
     declares = λ s f is. locals_declared p s f j is;
     covered = λ s f here there step end store next is i mode ready filled.
-        act_covered p j small words safe nodes s f is store here there step i (step_mode s here there step i ∙ sym (step_spot s here there step i end) ∙ mode) (premises s f is store here there step i filled);
+        act_covered p j small words safe s f is store here there step i (step_mode s here there step i ∙ sym (step_spot s here there step i end) ∙ mode) (premises s f is store here there step i filled);
     declared = λ s f here there step d is i out. steps_declare p j few s f here there step d is i out;
     room = λ s f here there step is i. steps_have_places p s f j small is here there step i;
   }

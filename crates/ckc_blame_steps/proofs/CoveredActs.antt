@@ -1,5 +1,5 @@
 -- The statement of a checked step is covered once it is judged: each kind of statement.
-use Rattle.std.proofs.Common.{◌≡◌, ◌∙◌, refl, sym, ap, subst, true, false, List}
+use Rattle.std.proofs.Common.{◌≡◌, ◌∙◌, refl, sym, ap, subst, true, List}
 use Rattle.std.specs.Prelude.{◌-◌, not, Option, None, Some, IfSome, Ok}
 use Rattle.ckc_base.specs.declared.arithmetic.Mode.TheVariants.{Checked}
 use Rattle.ckc_base.specs.Outcomes.{unless}
@@ -26,7 +26,6 @@ use Rattle.ckc_bounds_statements.specs.Paths.{Here, value_judged, maybe_judged, 
 use Rattle.ckc_source.specs.Code.{Code, End, Function}
 use Rattle.ckc_source.specs.Eval.{Store}
 use Rattle.ckc_blame_sound.specs.Bodies.{globals_of_text}
-use Rattle.ckc_blame_sound.specs.Few.{AreFew}
 use Rattle.ckc_blame_sound.specs.Safe.{AreSafe}
 use Rattle.ckc_blame_sound.specs.Settings.{Setting, IsFunction}
 use Rattle.ckc_blame_sound.specs.Steps.{is_simple, IsStep}
@@ -108,7 +107,7 @@ module _ (s : Setting) (here there : Here) (step : Code → Code) (i : IsStep s 
 
 -- ---- a checked step
 
-module _ (p : Typed) (j : IsJudged p) (small : Small j.named.tree) (words : HaveWords p) (safe : AreSafe p) (few : AreFew p) (s : Setting) (f : Function) (function : IsFunction p s f) (store : Store) (here there : Here)
+module _ (p : Typed) (j : IsJudged p) (small : Small j.named.tree) (words : HaveWords p) (safe : AreSafe p) (s : Setting) (f : Function) (function : IsFunction p s f) (store : Store) (here there : Here)
     (step : Code → Code) (i : IsStep s here step there) (checked : mode_of (step End) ≡ Checked) (known : Premises p s store here i.before) where
   abbrev globals : Globals
   globals = globals_in p

@@ -18,7 +18,6 @@ use Rattle.ckc_source.specs.declared.stmt.Spot.{Spot}
 use Rattle.ckc_source.specs.Code.{Expr, Function, Call, Return}
 use Rattle.ckc_source.specs.Eval.{Store}
 use Rattle.ckc_blame_sound.specs.Calls.{arguments_of}
-use Rattle.ckc_blame_sound.specs.Few.{AreFew}
 use Rattle.ckc_blame_sound.specs.Safe.{AreSafe}
 use Rattle.ckc_blame_sound.specs.Settings.{Setting, IsFunction}
 use Rattle.ckc_blame_sound.specs.Steps.{IsStep}
@@ -72,7 +71,7 @@ returned_callless : (x : ActLayer) → IsGivenAct x → IfSome (returned_by_act 
 returned_callless (Act-F.Return e) h = h
 returned_callless x h = tt
 
-module _ (p : Typed) (j : IsJudged p) (small : Small j.named.tree) (words : HaveWords p) (safe : AreSafe p) (few : AreFew p) (s : Setting) (f : Function) (function : IsFunction p s f) (store : Store) (here there : Here) where
+module _ (p : Typed) (j : IsJudged p) (small : Small j.named.tree) (words : HaveWords p) (safe : AreSafe p) (s : Setting) (f : Function) (function : IsFunction p s f) (store : Store) (here there : Here) where
   -- ---- the arguments of a call
 
   module _ (sp : Spot) (target : Option Kept) (number : ℕ) (es : List Expr) (i : IsStep s here (Call sp target number es) there) (checked : sp.mode ≡ Checked) (known : Premises p s store here i.before) where
@@ -93,8 +92,8 @@ module _ (p : Typed) (j : IsJudged p) (small : Small j.named.tree) (words : Have
     arguments_there =
         let c = called in
         let layer : ActLayer = out-Act Name Note i.before.body in
-        let fit = value_fits (globals_in p) s here.seen layer c.call c.value (fits p j small words safe few s f function store here there (Call sp target number es) i checked known) in
-        let right = value_right layer c.call c.value (gives p j small words safe few s f function store here there (Call sp target number es) i checked known) in
+        let fit = value_fits (globals_in p) s here.seen layer c.call c.value (fits p j small words safe s f function store here there (Call sp target number es) i checked known) in
+        let right = value_right layer c.call c.value (gives p j small words safe s f function store here there (Call sp target number es) i checked known) in
         subst (λ (xs : List NotedExpr). AreCoveredThere p s store here xs (arguments_of i.after) here.next) (sym c.before)
         (subst (λ (ys : List NotedExpr). AreCoveredThere p s store here c.is.args ys here.next) (sym c.after)
         (parts_covered p j s f function store here known.told known.spoken c.call (name.Function c.function) c.is.args c.afters here.next fit c.is.node
@@ -114,9 +113,9 @@ module _ (p : Typed) (j : IsJudged p) (small : Small j.named.tree) (words : Have
         let r = returns.return_step s here there sp e i in
         let layer : ActLayer = out-Act Name Note i.before.body in
         let fit : IfSome r.value (IsFit (globals_in p) s here.seen) =
-        subst (λ o. IfSome o (IsFit (globals_in p) s here.seen)) r.before (returned_fits (globals_in p) s here.seen layer (fits p j small words safe few s f function store here there (Return sp e) i checked known)) in
+        subst (λ o. IfSome o (IsFit (globals_in p) s here.seen)) r.before (returned_fits (globals_in p) s here.seen layer (fits p j small words safe s f function store here there (Return sp e) i checked known)) in
         let given : IfSome r.value (λ (x : NotedExpr). callless_expr x ≡ true) =
-        subst (λ o. IfSome o (λ (x : NotedExpr). callless_expr x ≡ true)) r.before (returned_callless layer (gives p j small words safe few s f function store here there (Return sp e) i checked known)) in
+        subst (λ o. IfSome o (λ (x : NotedExpr). callless_expr x ≡ true)) r.before (returned_callless layer (gives p j small words safe s f function store here there (Return sp e) i checked known)) in
         subst (λ o. IsCoveredIf p s store here o (returned_by i.after) here.next) (sym r.before)
         (subst (λ o. IsCoveredIf p s store here r.value o here.next) (sym r.after)
-        (return_if p j small words safe few s f function store here there (Return sp e) i checked known r.value r.made fit given r.fits (judged_both r.value r.made r.judged)))
+        (return_if p j small words safe s f function store here there (Return sp e) i checked known r.value r.made fit given r.fits (judged_both r.value r.made r.judged)))

@@ -1,6 +1,6 @@
 -- The string literals of the parts of a statement that is a step by itself.
-use Rattle.std.proofs.Common.{◌≡◌, ◌∙◌, refl, sym, ap, subst, ℕ, ◌+◌, Bool, true, List, [], ◌∷◌, ◌++◌, map}
-use Rattle.std.specs.Prelude.{if◌then◌else◌, Option, Some}
+use Rattle.std.proofs.Common.{◌≡◌, refl, ap, subst, ℕ, ◌+◌, Bool, true, List, [], ◌∷◌, ◌++◌, map}
+use Rattle.std.specs.Prelude.{if◌then◌else◌, Some}
 use Rattle.std.specs.List.{flat_map}
 use Rattle.ckc_syntax.specs.declared.tree.Name.{Name}
 use Rattle.ckc_syntax.specs.declared.tree.Init.TheVariants as init

@@ -1,17 +1,9 @@
 -- What is asked of the statement of a checked step before it is judged, and what is said of the arguments of a call and
 -- of what is returned once they are.
-use Rattle.std.specs.Prelude.{◌≡◌, ℕ, ◌<◌, true, false, List, [], ◌∷◌, Option, None, Some, Ok}
-use Rattle.std.specs.List.{Contains}
-use Rattle.ckc_syntax.specs.declared.tree.Name.{Name}
-use Rattle.ckc_syntax.specs.declared.tree.Node.{Node-F, out-Node}
-use Rattle.ckc_syntax.specs.declared.tree.Expr.{Expr-F, every-Expr}
-use Rattle.ckc_typed.specs.declared.typed.Note.{Note}
+use Rattle.std.specs.Prelude.{◌≡◌, ℕ, true, false, List, [], ◌∷◌, Option, None, Some, Ok}
 use Rattle.ckc_typed.specs.declared.typed.Typed.{Typed}
-use Rattle.ckc_typed.specs.Constants.{size_of}
 use Rattle.ckc_typed.specs.Conversions.{is_allocation}
-use Rattle.ckc_typed.specs.Trees.{NotedLimits, NotedNode, NotedExpr, NotedLayer, NotedStmt}
-use Rattle.ckc_typed.specs.Types.{type_written}
-use Rattle.ckc_typed_welltyped.specs.Expressions.{AnyLimits, AnyNode}
+use Rattle.ckc_typed.specs.Trees.{NotedExpr, NotedStmt}
 use Rattle.ckc_typed_welltyped.specs.Productions.{callless_expr, given_stmt}
 use Rattle.ckc_bounds_views.specs.Parts.{fresh_behind}
 use Rattle.ckc_bounds_views.specs.Views.{view}
@@ -19,7 +11,6 @@ use Rattle.ckc_bounds_statements.specs.Paths.{Here}
 use Rattle.ckc_source.specs.Eval.{Store}
 use Rattle.ckc_blame_sound.specs.Settings.{Setting}
 use Rattle.ckc_blame_sound.specs.Sized.{HasOnlySized}
-use Rattle.ckc_blame_sound.specs.Words.{exprs_in}
 use Rattle.ckc_blame_numbers.specs.Typed.{IsTyped}
 use Rattle.ckc_blame_pointers.specs.Covered.{IsCovered}
 use Rattle.ckc_blame_texts.specs.Judged.{globals_in}

@@ -14,7 +14,6 @@ ghost use Rattle.ckc_source.specs.Code.{Code, End, Expr, Function, Call, Return}
 ghost use Rattle.ckc_source.specs.Eval.{Store};
 ghost use Rattle.ckc_source.specs.Steps.{spot_in};
 ghost use Rattle.ckc_blame_sound.specs.Calls.{arguments_of};
-ghost use Rattle.ckc_blame_sound.specs.Few.{AreFew};
 ghost use Rattle.ckc_blame_sound.specs.Safe.{AreSafe};
 ghost use Rattle.ckc_blame_sound.specs.Settings.{Setting, IsFunction};
 ghost use Rattle.ckc_blame_sound.specs.Steps.{IsStep};
@@ -30,18 +29,18 @@ ghost use Rattle.ckc_blame_steps.specs.Results.{returned_by};
 pub fn checked_steps_are_covered()
     ensures step { (p : Typed) (s : Setting) (f : Function) (store : Store) (here there : Here)
         (step : Code → Code) (end : Spot) (j : IsJudged p) → Small j.named.tree → HaveWords p
-        → AreSafe p → AreFew p → IsFunction p s f → (i : IsStep s here step there)
+        → AreSafe p → IsFunction p s f → (i : IsStep s here step there)
         → (spot_in end (step End)).mode ≡ Checked → Premises p s store here i.before
         → IsCoveredAct s store here.seen (out-Act Name Note i.after.body) }
     ensures arguments { (p : Typed) (s : Setting) (f : Function) (store : Store)
         (here there : Here) (spot : Spot) (target : Option Kept) (number : ℕ) (es : List Expr)
-        (j : IsJudged p) → Small j.named.tree → HaveWords p → AreSafe p → AreFew p
+        (j : IsJudged p) → Small j.named.tree → HaveWords p → AreSafe p
         → IsFunction p s f → (i : IsStep s here (Call spot target number es) there)
         → spot.mode ≡ Checked → Premises p s store here i.before
         → AreCoveredThere p s store here (arguments_of i.before) (arguments_of i.after) here.next }
     ensures returned { (p : Typed) (s : Setting) (f : Function) (store : Store)
         (here there : Here) (spot : Spot) (e : Expr) (j : IsJudged p) → Small j.named.tree
-        → HaveWords p → AreSafe p → AreFew p → IsFunction p s f
+        → HaveWords p → AreSafe p → IsFunction p s f
         → (i : IsStep s here (Return spot e) there) → spot.mode ≡ Checked
         → Premises p s store here i.before
         → IsCoveredIf p s store here (returned_by i.before) (returned_by i.after) here.next }

@@ -1,10 +1,9 @@
 -- What the bodies of the functions of a judged text allocate has a size.
-use Rattle.std.proofs.Common.{◌≡◌, ◌∙◌, inr, refl, sym, ap, subst, Bool, true, false, List, [], ◌∷◌, ◌++◌, map, rules, arith}
+use Rattle.std.proofs.Common.{◌≡◌, ◌∙◌, inr, sym, ap, subst, Bool, true, false, List, [], ◌∷◌, ◌++◌, map, rules, arith}
 use Rattle.std.specs.Prelude.{All, ◌<◌, Option, None, Some, unwrap_or, IfSome}
-use Rattle.std.specs.List.{AllByRecursion, Contains, flat_map, list_all}
+use Rattle.std.specs.List.{AllByRecursion, flat_map, list_all}
 use Rattle.std.specs.Option.{option_map}
-use Rattle.std.proofs.lemmas.Bool.{and_parts}
-use Rattle.std.proofs.lemmas.List.Elements.{All-nil, All-cons, All-append, All-head, All-tail, All-contains}
+use Rattle.std.proofs.lemmas.List.Elements.{All-nil, All-cons, All-append, All-contains}
 use Rattle.ckc_base.specs.declared.arithmetic.Mode.{Mode}
 use Rattle.ckc_base.specs.declared.arithmetic.Mode.TheVariants.{Unchecked}
 use Rattle.ckc_types.specs.declared.types.CType.{CType}
@@ -24,18 +23,17 @@ use Rattle.ckc_typed.specs.declared.typed.Note.{Note}
 use Rattle.ckc_typed.specs.declared.typed.Typed.{Typed}
 use Rattle.ckc_typed.specs.Layouts.{structs_of}
 use Rattle.ckc_typed.specs.Texts.{globals_of}
-use Rattle.ckc_typed.specs.Trees.{Item, Tree, NotedAct, NotedDecl, NotedExpr, NotedHead, NotedInit, NotedItem, NotedLayer, NotedStmt}
+use Rattle.ckc_typed.specs.Trees.{Item, Tree, NotedAct, NotedExpr, NotedInit, NotedItem, NotedLayer, NotedStmt}
 use Rattle.ckc_typed.specs.Walk.{pragma_after}
-use Rattle.ckc_typed_fit.specs.Tests.{Tests, Walked, type_passes, expr_passes, value_passes, init_passes, decl_passes, head_passes, item_passes, items_pass, pass_in_turn, part_passes, names_declared}
+use Rattle.ckc_typed_fit.specs.Tests.{Tests, Walked, type_passes, expr_passes, value_passes, init_passes, head_passes, item_passes, items_pass, pass_in_turn, names_declared}
 use Rattle.ckc_typed_fit.proofs.Found.{tags_have_bodies}
 use Rattle.ckc_typed_welltyped.specs.Declarations.{WellTypedInit}
 use Rattle.ckc_typed_welltyped.specs.Expressions.{WellTypedExpr, IsNoted, HasType}
-use Rattle.ckc_typed_welltyped.specs.Noteless.{bare_expr, bare_init, bare_decl, bare_stmt, bare_head, bare_item, without_notes}
+use Rattle.ckc_typed_welltyped.specs.Noteless.{bare_expr, bare_init, bare_head, bare_item, without_notes}
 use Rattle.ckc_typed_welltyped.specs.Productions.{given_item, given_tree}
 use Rattle.ckc_typed_welltyped.specs.Statements.{IsCondition, act_rows, WellTypedStmt}
-use Rattle.ckc_typed_welltyped.specs.Texts.{WellTyped, WellTypedItem, WellTypedItems}
+use Rattle.ckc_typed_welltyped.specs.Texts.{WellTypedItem, WellTypedItems}
 use Rattle.ckc_typed_welltyped.proofs.ByParts.{stmt_by_parts}
-use Rattle.ckc_bounds.specs.Phase.{bounding}
 use Rattle.ckc_bounds_known.proofs.Reaching.{and_cases}
 use Rattle.ckc_blame_sound.specs.Sized.{IsSizedNode, IsSizedPart, IsSized, HasOnlySized, AllocateSizes}
 use Rattle.ckc_blame_sound.specs.Words.{exprs_of_act, exprs_of_stmt, exprs_in}

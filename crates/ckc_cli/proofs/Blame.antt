@@ -3,7 +3,6 @@ use Rattle.std.proofs.Common.{◌≡◌, ℕ, List, [], ◌++◌, Option, sym, s
 use Rattle.std.specs.Prelude.{IsSome}
 use Rattle.ckc_base.specs.declared.places.Pos.{Pos}
 use Rattle.ckc_source.specs.Code.{Program}
-use Rattle.ckc_source.specs.Source.{unchecked_since}
 use Rattle.ckc_typed.specs.declared.typed.Typed.{Typed}
 use Rattle.ckc_interp.specs.declared.seen.Seen.TheVariants as seen
 use Rattle.ckc_blame.specs.Blamed.{IsBlamed, IsNeverStuck}
