@@ -20,7 +20,7 @@ use Rattle.ckc_blame_sound.specs.Judged.{JudgedWork}
 use Rattle.ckc_blame_sound.specs.Calls.{store_in, arguments_of, head_of, ArePassed, Waits, AreWaiting}
 use Rattle.ckc_blame_sound.specs.Slots.{AreFilled}
 use Rattle.ckc_blame_sound.specs.Sound.{Sound}
-use Rattle.ckc_blame_slots.specs.Cells.{AreSound}
+use Rattle.ckc_blame_sound.specs.Cells.{AreSound}
 use Rattle.ckc_blame_control.specs.Ready.{IsReady, Faces}
 use Rattle.ckc_blame_control.specs.Kept.{KeepRanges, IsBack, inside}
 use Rattle.ckc_blame_control.proofs.Kept.{waiting_kept}

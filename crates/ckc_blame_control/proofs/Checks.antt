@@ -40,9 +40,9 @@ use Rattle.ckc_blame_sound.proofs.Given.{given_inside, given_are}
 use Rattle.ckc_blame_sound.specs.Bodies.{globals_of_text}
 use Rattle.ckc_blame_sound.specs.Steps.{is_simple, IsStep, IsCondition}
 use Rattle.ckc_blame_sound.proofs.Words.{exprs_inside, exprs_are}
-use Rattle.ckc_blame_numbers.proofs.Statements.{made_of, pair_same, passes}
+use Rattle.ckc_blame_sound.proofs.Statements.{made_of, pair_same, passes}
 use Rattle.ckc_blame_control.proofs.Typed.{by_parts, words_in}
-use Rattle.ckc_blame_numbers.proofs.Stepping.{ActLayer, act_back, viewed, judged_is, parted, code_is, out_call, out_return, out_check, out_bundle, first_step}
+use Rattle.ckc_blame_sound.proofs.Stepping.{ActLayer, act_back, viewed, judged_is, parted, code_is, out_call, out_return, out_check, out_bundle, first_step}
 
 -- An expression is a condition at a point, and control goes from its true side to another point.
 pub record Tests (s : Setting) (mode : Mode) (here : Here) (e : Expr) (there : Here) : Type 0 where

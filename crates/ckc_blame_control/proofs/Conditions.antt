@@ -22,7 +22,7 @@ use Rattle.ckc_blame_sound.specs.Judged.{Exits, ending, Branches, Turns, IsLoop,
 use Rattle.ckc_blame_sound.specs.Calls.{store_in}
 use Rattle.ckc_blame_sound.specs.Sound.{Sound}
 use Rattle.ckc_blame_sound.proofs.Kept.{point_kept}
-use Rattle.ckc_blame_runs.specs.Moves.{IsSoundMove}
+use Rattle.ckc_blame_sound.specs.Moves.{IsSoundMove}
 use Rattle.ckc_blame_control.specs.Ready.{IsReady, Begins, Faces}
 use Rattle.ckc_blame_control.specs.Decided.{LeadsTo, IsDecided}
 use Rattle.ckc_blame_control.proofs.Settled.{stays, ready_begins}

@@ -25,11 +25,11 @@ use Rattle.ckc_blame_sound.specs.Judged.{JudgedWork}
 use Rattle.ckc_blame_sound.specs.Calls.{store_in, Waits, AreWaiting}
 use Rattle.ckc_blame_sound.specs.Slots.{AreFilled}
 use Rattle.ckc_blame_sound.specs.Sound.{Sound}
-use Rattle.ckc_blame_slots.specs.Cells.{AreSound}
-use Rattle.ckc_blame_slots.specs.Limited.{store_with}
-use Rattle.ckc_blame_slots.specs.Writes.{AreCellWrites}
-use Rattle.ckc_blame_slots.proofs.Written.{all_keep}
-use Rattle.ckc_blame_slots.proofs.Fresh.{true_before}
+use Rattle.ckc_blame_sound.specs.Cells.{AreSound}
+use Rattle.ckc_blame_sound.specs.Limited.{store_with}
+use Rattle.ckc_blame_sound.specs.Writes.{AreCellWrites}
+use Rattle.ckc_blame_sound.proofs.Written.{all_keep}
+use Rattle.ckc_blame_sound.proofs.Fresh.{true_before}
 use Rattle.ckc_source.specs.Steps.{Write, all_written}
 use Rattle.ckc_blame_control.specs.Ready.{IsReady, Faces}
 use Rattle.ckc_blame_control.specs.Kept.{KeepRanges, IsSameCall}

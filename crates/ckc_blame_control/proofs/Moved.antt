@@ -15,7 +15,7 @@ use Rattle.ckc_source.specs.Steps.{and_moves, at_work, returns, works, source_st
 use Rattle.ckc_build_elaborate.specs.Elaborated.{elaborated}
 use Rattle.ckc_blame_sound.specs.Calls.{store_in}
 use Rattle.ckc_blame_sound.specs.Sound.{Sound}
-use Rattle.ckc_blame_runs.specs.Moves.{IsSoundMove}
+use Rattle.ckc_blame_sound.specs.Moves.{IsSoundMove}
 use Rattle.ckc_blame_control.specs.Ready.{IsReady}
 
 pub ended : (n : ℕ) → Ended n ≢ Stuck

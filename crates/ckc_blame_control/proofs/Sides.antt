@@ -19,8 +19,8 @@ use Rattle.ckc_blame_sound.specs.Values.{AreTrue}
 use Rattle.ckc_blame_sound.specs.Points.{HoldsAt}
 use Rattle.ckc_blame_sound.specs.Steps.{IsCondition}
 use Rattle.ckc_blame_sound.proofs.Kept.{point_kept}
-use Rattle.ckc_blame_numbers.proofs.Statements.{made_of, pair_same}
-use Rattle.ckc_blame_texts.proofs.SameViews.{same_view}
+use Rattle.ckc_blame_sound.proofs.Statements.{made_of, pair_same}
+use Rattle.ckc_blame_sound.proofs.SameViews.{same_view}
 use Rattle.ckc_blame_control.specs.Decided.{LeadsTo, HasSides}
 
 module _ (s : Setting) (store : Store) (entry : List ℕ) where

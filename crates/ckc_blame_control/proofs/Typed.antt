@@ -28,12 +28,12 @@ use Rattle.ckc_blame_sound.specs.Values.{NamesIntegers}
 use Rattle.ckc_blame_sound.specs.Words.{HasWords, HasWordsInit, HasWordsSides, HasWordsAct, exprs_of_act, exprs_in, HasOnlyWords, HaveWords}
 use Rattle.ckc_blame_sound.proofs.Words.{exprs_inside, exprs_are}
 use Rattle.ckc_blame_sound.specs.Bodies.{globals_of_text, IsInBody, IsTestInBody, IsNextFresh, AreFresh}
-use Rattle.ckc_blame_numbers.specs.Typed.{IsTypedIf, IsTypedStmt}
-use Rattle.ckc_blame_numbers.proofs.Stepping.{ActLayer, viewed, act_back}
-use Rattle.ckc_blame_texts.specs.Judged.{IsJudged, globals_in}
-use Rattle.ckc_blame_texts.specs.Numbered.{IsKnownIn}
-use Rattle.ckc_blame_texts.proofs.Typed.{statements_are_typed, conditions_are_typed}
-use Rattle.ckc_blame_texts.proofs.Frames.{first_at, frames_agree, variables_have_types, locals_counted}
+use Rattle.ckc_blame_sound.specs.Typed.{IsTypedIf, IsTypedStmt}
+use Rattle.ckc_blame_sound.proofs.Stepping.{ActLayer, viewed, act_back}
+use Rattle.ckc_blame_sound.specs.JudgedTexts.{IsJudged, globals_in}
+use Rattle.ckc_blame_sound.specs.Numbered.{IsKnownIn}
+use Rattle.ckc_blame_sound.proofs.TypedBodies.{statements_are_typed, conditions_are_typed}
+use Rattle.ckc_blame_sound.proofs.Frames.{first_at, frames_agree, variables_have_types, locals_counted}
 use Rattle.ckc_blame_control.specs.Known.{IsKnownPoint}
 
 -- ---- what stands in the body of a function is typed

@@ -9,7 +9,7 @@ use Rattle.ckc_source.specs.Steps.{source_step, spot_in, spot_at, spot_of}
 use Rattle.ckc_build_elaborate.specs.Elaborated.{elaborated}
 use Rattle.ckc_blame_sound.specs.Sound.{Sound}
 use Rattle.ckc_blame_sound.specs.Calls.{store_in}
-use Rattle.ckc_blame_runs.specs.Moves.{IsSoundMove, StaysSound}
+use Rattle.ckc_blame_sound.specs.Moves.{IsSoundMove, StaysSound}
 use Rattle.ckc_blame_control.specs.Ready.{is_step}
 use Rattle.ckc_blame_control.specs.Whole.{condition_of, KeepSound}
 use Rattle.ckc_blame_control.specs.Decided.{IsDecided}

@@ -6,7 +6,7 @@ use Rattle.ckc_bounds_statements.specs.Paths.{Here}
 use Rattle.ckc_blame_sound.specs.Settings.{Setting}
 use Rattle.ckc_blame_sound.specs.Values.{NamesIntegers}
 use Rattle.ckc_blame_sound.specs.Bodies.{AreFresh}
-use Rattle.ckc_blame_numbers.specs.Typed.{Agrees}
+use Rattle.ckc_blame_sound.specs.Typed.{Agrees}
 
 -- The frame agrees with what the text and the function declare, the locals from the next fresh one on are no integers,
 -- and it has a word as its number; each fact names the number zero and integer locals alone.

@@ -8,7 +8,7 @@ use Rattle.ckc_source.specs.Steps.{source_step, spot_of}
 use Rattle.ckc_build_elaborate.specs.Elaborated.{elaborated}
 use Rattle.ckc_blame_sound.specs.Calls.{store_in}
 use Rattle.ckc_blame_sound.specs.Sound.{Sound}
-use Rattle.ckc_blame_runs.specs.Moves.{IsSoundMove}
+use Rattle.ckc_blame_sound.specs.Moves.{IsSoundMove}
 use Rattle.ckc_blame_control.specs.Decided.{IsDecided}
 
 -- the condition that the first step of some code evaluates, if it is an `if`, a loop or a dynamic check

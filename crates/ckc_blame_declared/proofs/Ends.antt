@@ -36,7 +36,7 @@ use Rattle.ckc_bounds_points.specs.Shown.{is_within}
 use Rattle.ckc_bounds_declared.specs.declared.limits.Holder.{Holder}
 use Rattle.ckc_bounds_declared.specs.declared.limits.Holder.TheVariants as holder
 use Rattle.ckc_bounds_declared.specs.Written.{own, variable_for, amount_with, amount_form, counted, is_checked, local_base, is_element, array_base, named_base, bound_with, bound, node_pieces, known_between, takes_ends, bounds_written, takes_bounds_kind, takes_bounds, bounds_of_kind, bounds_by_type, place_of_limits, bounds_taken, bounds_declared}
-use Rattle.ckc_blame_slots.proofs.Same.{same_equal}
+use Rattle.ckc_blame_sound.proofs.Same.{same_equal}
 
 -- A local of a frame is a pointer to the elements of a type.
 pub record IsLike (frame : Frame) (t : CType) (k : ℕ) : Type 0 where

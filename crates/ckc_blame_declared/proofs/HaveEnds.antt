@@ -21,8 +21,8 @@ use Rattle.ckc_source.specs.Code.{Function}
 use Rattle.ckc_build_values.specs.Ends.{integer_in_variable}
 use Rattle.ckc_build_values.specs.Kinds.{integer_of, size_behind}
 use Rattle.ckc_blame_sound.specs.Settings.{Setting, IsFunction, frame_of_text, setting_of}
-use Rattle.ckc_blame_contained.specs.Ends.{IsCounted, HasElements, IsBase, IsEnd, AreEnds, HasEnds, HaveEnds}
-use Rattle.ckc_blame_texts.specs.Judged.{IsJudged}
+use Rattle.ckc_blame_sound.specs.Ends.{IsCounted, HasElements, IsBase, IsEnd, AreEnds, HasEnds, HaveEnds}
+use Rattle.ckc_blame_sound.specs.JudgedTexts.{IsJudged}
 use Rattle.ckc_blame_declared.proofs.Ends as declared
 use Rattle.ckc_blame_declared.proofs.Locals.{IsThere, bounds_known, declared_there, local_there, local_is, variable_there}
 

@@ -27,8 +27,8 @@ use Rattle.ckc_bounds_statements.specs.Paths.{path}
 use Rattle.ckc_source.specs.Code.{Function}
 use Rattle.ckc_build_values.specs.Kinds.{size_behind}
 use Rattle.ckc_blame_sound.specs.Settings.{Setting, IsFunction, frame_of_text, setting_of}
-use Rattle.ckc_blame_contained.specs.Passed.{IsResultBase, IsResultEnd, IsResult}
-use Rattle.ckc_blame_texts.specs.Judged.{IsJudged}
+use Rattle.ckc_blame_sound.specs.Passed.{IsResultBase, IsResultEnd, IsResult}
+use Rattle.ckc_blame_sound.specs.JudgedTexts.{IsJudged}
 use Rattle.ckc_blame_declared.proofs.Ends.{IsFrom, IsInteger, IsEnd, AreKnown, declared_is}
 use Rattle.ckc_blame_declared.proofs.HaveEnds.{counted, like}
 use Rattle.ckc_blame_declared.proofs.Locals.{known, bounds_known, declared_there}

@@ -43,12 +43,12 @@ use Rattle.ckc_bounds_statements.specs.DeclBounds.{decl_bounds}
 use Rattle.ckc_bounds.specs.Declarations.{member_holder}
 use Rattle.ckc_bounds.specs.Frames.{text_frame}
 use Rattle.ckc_bounds.specs.Texts.{members_judged, item_judged, items_judged}
-use Rattle.ckc_blame_contained.specs.Elements.{NameIntegerMembers}
-use Rattle.ckc_blame_texts.specs.Judged.{IsJudged}
-use Rattle.ckc_blame_texts.proofs.Bounded.{is_bounded, anything}
-use Rattle.ckc_blame_texts.proofs.Every.{LimitsLayer}
-use Rattle.ckc_blame_texts.proofs.Members.{members_are}
-use Rattle.ckc_blame_texts.proofs.Amounts.{limits_made, node_made, limits_out, layer_is, variable_bare, counted_is}
+use Rattle.ckc_blame_sound.specs.Elements.{NameIntegerMembers}
+use Rattle.ckc_blame_sound.specs.JudgedTexts.{IsJudged}
+use Rattle.ckc_blame_sound.proofs.Bounded.{is_bounded, anything}
+use Rattle.ckc_blame_sound.proofs.Every.{LimitsLayer}
+use Rattle.ckc_blame_sound.proofs.Members.{members_are}
+use Rattle.ckc_blame_sound.proofs.Amounts.{limits_made, node_made, limits_out, layer_is, variable_bare, counted_is}
 
 -- ---- whether an expression is a constant, whatever the sizes of types are
 

@@ -27,12 +27,12 @@ use Rattle.ckc_bounds_declared.specs.declared.limits.Holder.TheVariants as holde
 use Rattle.ckc_bounds.specs.Declarations.{few_of, first_of, known_or_not, local_made, with_all, types_in, declared_in, head_bounds}
 use Rattle.ckc_bounds.specs.Frames.{all_of, first_fresh, fresh_needed, function_frame, locals_frame, nameless}
 use Rattle.ckc_blame_sound.specs.Settings.{frame_of_text, setting_of}
-use Rattle.ckc_blame_texts.specs.Judged.{IsJudged}
-use Rattle.ckc_blame_texts.specs.Numbered.{AreLocals}
-use Rattle.ckc_blame_texts.proofs.Frames.{first_at, first_keeps, types_of, types_declared, all_types, declared_types, local_named, setting_types, variables_moved}
-use Rattle.ckc_blame_texts.proofs.Functions.{numbered}
-use Rattle.ckc_blame_texts.proofs.Lists.{found, more_at}
-use Rattle.ckc_blame_texts.proofs.Locals.{names_declared, variables_declared}
+use Rattle.ckc_blame_sound.specs.JudgedTexts.{IsJudged}
+use Rattle.ckc_blame_sound.specs.Numbered.{AreLocals}
+use Rattle.ckc_blame_sound.proofs.Frames.{first_at, first_keeps, types_of, types_declared, all_types, declared_types, local_named, setting_types, variables_moved}
+use Rattle.ckc_blame_sound.proofs.Functions.{numbered}
+use Rattle.ckc_blame_sound.proofs.Lists.{found, more_at}
+use Rattle.ckc_blame_sound.proofs.Locals.{names_declared, variables_declared}
 use Rattle.ckc_blame_declared.proofs.Ends.{AreKnown, declared_is}
 
 -- ---- lists

@@ -40,7 +40,7 @@ use Rattle.ckc_source.specs.declared.expr.Count.{Count}
 use Rattle.ckc_build_values.specs.Kinds.{count_of_kind}
 use Rattle.ckc_build_values.specs.Members.{count_by}
 use Rattle.ckc_blame_sound.specs.Settings.{Setting, IsFunction, setting_of}
-use Rattle.ckc_blame_contained.specs.Memory.{AreOwn}
+use Rattle.ckc_blame_sound.specs.Memory.{AreOwn}
 use Rattle.ckc_blame_declared.proofs.Ends.{there_is}
 use Rattle.ckc_blame_declared.proofs.Locals.{known}
 

@@ -25,13 +25,13 @@ use Rattle.ckc_bounds.specs.Frames.{all_of}
 use Rattle.ckc_bounds.specs.Texts.{members_judged, object_judged, body_judged, head_kept, item_judged, items_judged}
 use Rattle.ckc_source.specs.Code.{Function}
 use Rattle.ckc_blame_sound.specs.Settings.{Setting, IsFunction, frame_of_text, setting_of}
-use Rattle.ckc_blame_contained.specs.Passed.{AreParameters}
-use Rattle.ckc_blame_texts.specs.Judged.{IsJudged}
-use Rattle.ckc_blame_texts.proofs.Bounded.{is_bounded, anything}
-use Rattle.ckc_blame_texts.proofs.Frames.{first_at, first_keeps, all_types, locals_counted}
-use Rattle.ckc_blame_texts.proofs.Functions.{numbered}
-use Rattle.ckc_blame_texts.proofs.Lists.{more_at, seam}
-use Rattle.ckc_blame_texts.proofs.Locals.{names_declared}
+use Rattle.ckc_blame_sound.specs.Passed.{AreParameters}
+use Rattle.ckc_blame_sound.specs.JudgedTexts.{IsJudged}
+use Rattle.ckc_blame_sound.proofs.Bounded.{is_bounded, anything}
+use Rattle.ckc_blame_sound.proofs.Frames.{first_at, first_keeps, all_types, locals_counted}
+use Rattle.ckc_blame_sound.proofs.Functions.{numbered}
+use Rattle.ckc_blame_sound.proofs.Lists.{more_at, seam}
+use Rattle.ckc_blame_sound.proofs.Locals.{names_declared}
 use Rattle.ckc_blame_declared.proofs.Heads.{parameter_names}
 use Rattle.ckc_blame_declared.proofs.Locals.{contains_at, some_at, name_at, from_zero, local_there}
 use Rattle.ckc_blame_declared.proofs.More.{KnowsAs, declared_stays}

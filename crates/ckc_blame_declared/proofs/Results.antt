@@ -52,7 +52,7 @@ use Rattle.ckc_build_values.specs.Kinds.{count_of_kind, size_behind}
 use Rattle.ckc_build_results.specs.Results.{own_end, plus, less, shifted, end_named, pointer_form, bound_form, outer_form, limits_if, limits_form, limits_of_count, result_limits}
 use Rattle.ckc_build_results.specs.Results as read
 use Rattle.ckc_blame_sound.specs.Settings.{Setting, IsFunction, frame_of_text, setting_of}
-use Rattle.ckc_blame_contained.specs.Passed.{result_base, result_end, result_between}
+use Rattle.ckc_blame_sound.specs.Passed.{result_base, result_end, result_between}
 use Rattle.ckc_blame_declared.proofs.Ends.{there_is}
 use Rattle.ckc_blame_declared.proofs.Locals.{known}
 

@@ -14,11 +14,11 @@ ghost use Rattle.ckc_source.specs.declared.expr.Count.{Count};
 ghost use Rattle.ckc_build_values.specs.Kinds.{size_behind};
 ghost use Rattle.ckc_build_values.specs.Members.{count_by};
 ghost use Rattle.ckc_blame_sound.specs.Settings.{Setting, IsFunction};
-ghost use Rattle.ckc_blame_contained.specs.Elements.{NameIntegerMembers};
-ghost use Rattle.ckc_blame_contained.specs.Ends.{HaveEnds};
-ghost use Rattle.ckc_blame_contained.specs.Memory.{AreOwn};
-ghost use Rattle.ckc_blame_contained.specs.Passed.{AreParameters, IsResult, result_between};
-ghost use Rattle.ckc_blame_texts.specs.Judged.{IsJudged};
+ghost use Rattle.ckc_blame_sound.specs.Elements.{NameIntegerMembers};
+ghost use Rattle.ckc_blame_sound.specs.Ends.{HaveEnds};
+ghost use Rattle.ckc_blame_sound.specs.Memory.{AreOwn};
+ghost use Rattle.ckc_blame_sound.specs.Passed.{AreParameters, IsResult, result_between};
+ghost use Rattle.ckc_blame_sound.specs.JudgedTexts.{IsJudged};
 
 /// The bounds of each local of a judged text lie from local pointers to elements of the same size and static arrays, as
 /// far as integer locals say, which a program reads in their types. No integer has bounds.

@@ -45,16 +45,16 @@ use Rattle.ckc_build_elaborate.specs.Steps.{memory, target_form, target_of}
 use Rattle.ckc_blame_sound.specs.Bodies.{AreFresh}
 use Rattle.ckc_blame_sound.specs.Points.{HoldsAt}
 use Rattle.ckc_blame_sound.specs.Settings.{Setting, AreStrings}
-use Rattle.ckc_blame_slots.specs.Cells.{IsPart}
-use Rattle.ckc_blame_numbers.specs.Typed.{HasRow, IsTyped, Agrees}
-use Rattle.ckc_blame_numbers.proofs.Judging.{judged_typed}
-use Rattle.ckc_blame_texts.proofs.SameViews.{same_view}
+use Rattle.ckc_blame_sound.specs.Cells.{IsPart}
+use Rattle.ckc_blame_sound.specs.Typed.{HasRow, IsTyped, Agrees}
+use Rattle.ckc_blame_sound.proofs.Judging.{judged_typed}
+use Rattle.ckc_blame_sound.proofs.SameViews.{same_view}
 use Rattle.ckc_blame_pointers.specs.Covered.{DeclareLocals, IsInScope, IsSoundStore, IsCovered}
 use Rattle.ckc_blame_pointers.proofs.Inside.{one_part}
 use Rattle.ckc_blame_pointers.proofs.Members.{member_behind}
 use Rattle.ckc_blame_pointers.proofs.Strings.{strings_in_node}
 use Rattle.ckc_blame_pointers.proofs.Structures.{IsWholeElement}
-use Rattle.ckc_blame_texts.proofs.Accesses.{scalar_part}
+use Rattle.ckc_blame_sound.proofs.Accesses.{scalar_part}
 use Rattle.ckc_blame_given.specs.Planned.{IsTarget, IsLocalTarget}
 use Rattle.ckc_blame_given.specs.Targets.{KeepRunsFree, IsStaticTarget, IsThrough, IsMemberNamed, IsCoveredPlace, IsCoveredTarget, pointed_by, placed_by, begin_in, begin_of, LiesIn, GoesThere, ComesTo, IsAimed}
 use Rattle.ckc_blame_given.proofs.Hits.{IsHit}

@@ -17,8 +17,8 @@ use Rattle.ckc_bounds_known.proofs.Reaching.{and_cases}
 use Rattle.ckc_bounds_ranges.specs.Bundles.{local_target, Mention, limits_mention, node_mention, expr_mention, mention_of_node, mention, is_call, is_in_the_way, may_follow, names_earlier, target_behind, target_in, and_rest, all_follow}
 use Rattle.ckc_bounds_stores.specs.Targets.{local_in, local_of}
 use Rattle.ckc_bounds_stores.specs.Stores.{Placed, with_store, stores_of, numbered}
-use Rattle.ckc_blame_numbers.proofs.Types.{some_is, none_is_some}
-use Rattle.ckc_blame_contained.proofs.Tests.{left_of, right_of}
+use Rattle.ckc_blame_sound.proofs.Types.{some_is, none_is_some}
+use Rattle.ckc_blame_sound.proofs.Tests.{left_of, right_of}
 use Rattle.ckc_blame_given.specs.Written.{AreOne}
 use Rattle.ckc_blame_given.proofs.Named.{node_back, holds_of, names_local, mentioned_node, mention_is}
 

@@ -18,8 +18,8 @@ use Rattle.ckc_source.specs.Steps.{Write}
 use Rattle.ckc_build_values.specs.Kinds.{width_of}
 use Rattle.ckc_blame_sound.specs.Settings.{Setting}
 use Rattle.ckc_blame_sound.specs.Valuations.{Valuation}
-use Rattle.ckc_blame_contained.specs.Given.{IsGiven, IsAssigned, StayTrue}
-use Rattle.ckc_blame_contained.proofs.Faults.{Good, unless_none}
+use Rattle.ckc_blame_sound.specs.GivenValues.{IsGiven, IsAssigned, StayTrue}
+use Rattle.ckc_blame_sound.proofs.Faults.{Good, unless_none}
 use Rattle.ckc_blame_given.specs.Written.{IsLocalWritten, IsWritten, AreWritten}
 use Rattle.ckc_blame_given.proofs.Apart.{IsAfter, AreApart}
 use Rattle.ckc_blame_given.proofs.Written.{put_in, locals_after, none_put, length_put}

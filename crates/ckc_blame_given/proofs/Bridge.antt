@@ -35,15 +35,15 @@ use Rattle.ckc_blame_sound.specs.Values.{value, number_of, IsWordOf}
 use Rattle.ckc_blame_sound.specs.Points.{AreBounded, HoldsAt}
 use Rattle.ckc_blame_sound.specs.Bodies.{AreFresh}
 use Rattle.ckc_blame_sound.proofs.Flow.{variable_value, integer_value}
-use Rattle.ckc_blame_numbers.specs.Typed.{IsTyped, Agrees}
-use Rattle.ckc_blame_numbers.proofs.Exprs as numbers
-use Rattle.ckc_blame_numbers.proofs.Holding.{form_exact_in}
-use Rattle.ckc_blame_numbers.proofs.Judging.{judged_typed}
+use Rattle.ckc_blame_sound.specs.Typed.{IsTyped, Agrees}
+use Rattle.ckc_blame_sound.proofs.Exprs as numbers
+use Rattle.ckc_blame_sound.proofs.Holding.{form_exact_in}
+use Rattle.ckc_blame_sound.proofs.Judging.{judged_typed}
 use Rattle.ckc_blame_sound.specs.Valuations as contained
 use Rattle.ckc_blame_sound.specs.Valuations.{form_address, AreFacts, IsValuationOf, AreNumbersOf}
-use Rattle.ckc_blame_contained.specs.Containment.{IsReadWithin}
-use Rattle.ckc_blame_contained.specs.Given.{memory_of}
-use Rattle.ckc_blame_texts.proofs.SameViews.{same_view}
+use Rattle.ckc_blame_sound.specs.Containment.{IsReadWithin}
+use Rattle.ckc_blame_sound.specs.GivenValues.{memory_of}
+use Rattle.ckc_blame_sound.proofs.SameViews.{same_view}
 use Rattle.ckc_blame_pointers.specs.Valuations.{Valuation, Fits, Extends, AreNumbers, address_in, address_by, IsAtPlace, IsReadIn, IsInRange, BaseBetween, RangeBetween}
 use Rattle.ckc_blame_pointers.specs.Covered.{DeclareLocals, IsSoundStore, IsCovered}
 use Rattle.ckc_blame_pointers.specs.Meant.{IsNotStuck, HasPlace, IsMeant}

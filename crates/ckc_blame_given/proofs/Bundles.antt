@@ -29,10 +29,10 @@ use Rattle.ckc_bounds_stores.specs.Stores.{Store, with_store, stores_of, numbere
 use Rattle.ckc_bounds_stores.specs.Targets.{local_in, local_of}
 use Rattle.ckc_build_values.specs.Names.{address_of}
 use Rattle.ckc_blame_sound.specs.Settings.{Setting}
-use Rattle.ckc_blame_numbers.specs.Typed.{IsRow, HasRow, IsTyped}
-use Rattle.ckc_blame_slots.proofs.Ranges.{contains_at}
-use Rattle.ckc_blame_contained.proofs.Shapes.{contained_stands}
-use Rattle.ckc_blame_contained.proofs.Tests.{right_of}
+use Rattle.ckc_blame_sound.specs.Typed.{IsRow, HasRow, IsTyped}
+use Rattle.ckc_blame_sound.proofs.Ranges.{contains_at}
+use Rattle.ckc_blame_sound.proofs.Shapes.{contained_stands}
+use Rattle.ckc_blame_sound.proofs.Tests.{right_of}
 use Rattle.ckc_blame_given.specs.Targets.{pointed_by, placed_by, begin_in, begin_of}
 use Rattle.ckc_blame_given.proofs.Places.{member_struct}
 use Rattle.ckc_blame_given.specs.Together.{AreMembersAt, AreLocals, AreTogether}

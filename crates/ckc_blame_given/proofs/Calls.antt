@@ -18,9 +18,9 @@ use Rattle.ckc_bounds_stores.specs.declared.values.Numbered.{Numbered}
 use Rattle.ckc_bounds_stores.specs.Values.{narrow, range_received, has_element}
 use Rattle.ckc_source.specs.Eval.{Store}
 use Rattle.ckc_blame_sound.specs.Settings.{Setting}
-use Rattle.ckc_blame_numbers.proofs.Types.{none_is_some}
+use Rattle.ckc_blame_sound.proofs.Types.{none_is_some}
 use Rattle.ckc_blame_sound.specs.Valuations.{Valuation, AreNumbersOf}
-use Rattle.ckc_blame_contained.specs.Given.{memory_of}
+use Rattle.ckc_blame_sound.specs.GivenValues.{memory_of}
 use Rattle.ckc_blame_given.specs.Written.{IsReceived}
 use Rattle.ckc_blame_given.proofs.Named.{node_back}
 use Rattle.ckc_blame_given.proofs.Given.{view_is, no_place, received_bare, ranged_bare}

@@ -28,7 +28,7 @@ use Rattle.ckc_bounds_views.specs.Places.{pointer_place}
 use Rattle.ckc_bounds_views.specs.Views.{node_view, view}
 use Rattle.ckc_build_values.specs.Kinds.{pointee_of, size_behind}
 use Rattle.ckc_blame_sound.proofs.Facts.{one_of}
-use Rattle.ckc_blame_slots.proofs.Same.{same_equal}
+use Rattle.ckc_blame_sound.proofs.Same.{same_equal}
 use Rattle.ckc_blame_pointers.proofs.Strings.{char_type, string_out, string_row}
 use Rattle.ckc_blame_given.proofs.Looser.{IsLooser}
 use Rattle.ckc_blame_given.proofs.Views.{viewed_layer, view_is}

@@ -30,12 +30,12 @@ use Rattle.ckc_blame_sound.specs.Points.{IsReadable, AreBounded, HoldsAt}
 use Rattle.ckc_bounds_ranges.specs.Rows.{range_by}
 use Rattle.ckc_blame_sound.specs.Sound.{IsPlaced}
 use Rattle.ckc_blame_sound.proofs.Flow.{facts_assigned_hold, integer_value}
-use Rattle.ckc_blame_numbers.proofs.Statements.{made_of, pair_same}
+use Rattle.ckc_blame_sound.proofs.Statements.{made_of, pair_same}
 use Rattle.ckc_blame_sound.specs.Valuations.{Valuation, AreFacts, IsValuationOf}
-use Rattle.ckc_blame_contained.specs.Ends.{HaveEnds}
-use Rattle.ckc_blame_contained.specs.Given.{memory_of, IsFrom, IsBegun, OthersStay, StayTrue}
-use Rattle.ckc_blame_contained.proofs.Declared.{own_readable, bounded_after, widened_after}
-use Rattle.ckc_blame_contained.proofs.Faults.{one_wide}
+use Rattle.ckc_blame_sound.specs.Ends.{HaveEnds}
+use Rattle.ckc_blame_sound.specs.GivenValues.{memory_of, IsFrom, IsBegun, OthersStay, StayTrue}
+use Rattle.ckc_blame_sound.proofs.Declared.{own_readable, bounded_after, widened_after}
+use Rattle.ckc_blame_sound.proofs.Faults.{one_wide}
 use Rattle.ckc_blame_given.specs.Written.{IsStart, IsDeclared}
 use Rattle.ckc_blame_given.proofs.Facts.{word_put, form_kept}
 use Rattle.ckc_blame_given.proofs.Given.{zero_kept, kept_word, from_kept}

@@ -29,8 +29,8 @@ use Rattle.ckc_blame_sound.specs.Settings.{Setting}
 use Rattle.ckc_blame_sound.specs.Values.{value, value_in, number_of, AreTrue, HoldWords, IsWordOf}
 use Rattle.ckc_blame_sound.proofs.Flow.{facts_assigned_hold, integer_value, variable_value}
 use Rattle.ckc_blame_sound.specs.Valuations.{Valuation, AreFacts, IsValuationOf}
-use Rattle.ckc_blame_contained.specs.Elements.{number_kept}
-use Rattle.ckc_blame_contained.proofs.Faults.{one_wide}
+use Rattle.ckc_blame_sound.specs.Elements.{number_kept}
+use Rattle.ckc_blame_sound.proofs.Faults.{one_wide}
 use Rattle.ckc_blame_given.specs.Written.{IsReceived, IsWritten, AreWritten}
 use Rattle.ckc_blame_given.proofs.Named.{names_local, IsNamedLocal, typed_named, form_named}
 use Rattle.ckc_blame_given.proofs.Apart.{IsAfter, AreApart}

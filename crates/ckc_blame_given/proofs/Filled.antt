@@ -30,19 +30,19 @@ use Rattle.ckc_build_values.specs.Kinds.{width_of, pointee_of}
 use Rattle.ckc_build_values.specs.Members.{offset_of}
 use Rattle.ckc_blame_sound.specs.Settings.{Setting}
 use Rattle.ckc_blame_sound.specs.Slots.{AreFilled}
-use Rattle.ckc_blame_slots.specs.Cells.{AreSound, HaveOwnNames}
-use Rattle.ckc_blame_slots.specs.Limited.{AreSlotParts, IsCountSpared, store_with}
-use Rattle.ckc_blame_slots.specs.Writes.{AreCellWrites, IsCellWrite, AreElsewhere, IsElsewhere}
-use Rattle.ckc_blame_slots.proofs.Apart.{AreLaid, behind, placed_at, three}
-use Rattle.ckc_blame_slots.proofs.Filled.{filled_after}
-use Rattle.ckc_blame_slots.proofs.Fresh.{get_before}
-use Rattle.ckc_blame_slots.proofs.Places.{element_between}
-use Rattle.ckc_blame_slots.proofs.Written.{KeepsAll, all_keep, laid}
-use Rattle.ckc_blame_contained.specs.Elements.{IsStructure, NameIntegerMembers}
-use Rattle.ckc_blame_contained.specs.Given.{memory_of, IsFrom}
+use Rattle.ckc_blame_sound.specs.Cells.{AreSound, HaveOwnNames}
+use Rattle.ckc_blame_sound.specs.Limited.{AreSlotParts, IsCountSpared, store_with}
+use Rattle.ckc_blame_sound.specs.Writes.{AreCellWrites, IsCellWrite, AreElsewhere, IsElsewhere}
+use Rattle.ckc_blame_sound.proofs.Apart.{AreLaid, behind, placed_at, three}
+use Rattle.ckc_blame_sound.proofs.Filled.{filled_after}
+use Rattle.ckc_blame_sound.proofs.Fresh.{get_before}
+use Rattle.ckc_blame_sound.proofs.Places.{element_between}
+use Rattle.ckc_blame_sound.proofs.Written.{KeepsAll, all_keep, laid}
+use Rattle.ckc_blame_sound.specs.Elements.{IsStructure, NameIntegerMembers}
+use Rattle.ckc_blame_sound.specs.GivenValues.{memory_of, IsFrom}
 use Rattle.ckc_blame_sound.specs.Valuations.{Valuation, AreFacts}
-use Rattle.ckc_blame_contained.proofs.Alone.{element_filled}
-use Rattle.ckc_blame_contained.proofs.Spared.{members_filled}
+use Rattle.ckc_blame_sound.proofs.Alone.{element_filled}
+use Rattle.ckc_blame_sound.proofs.Spared.{members_filled}
 use Rattle.ckc_blame_given.specs.Planned.{IsPartTarget, IsMemberTarget, IsMemoryTarget, IsTarget, IsLocalTarget, IsPlanned, ArePlanned}
 use Rattle.ckc_blame_given.specs.Targets.{begin_in, begin_of, LiesIn}
 use Rattle.ckc_blame_given.specs.Together.{HaveSmallNames, AreMembersAt, AreLocals, AreTogether, AreIn}

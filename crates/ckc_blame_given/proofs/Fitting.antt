@@ -40,12 +40,12 @@ use Rattle.ckc_source.specs.Code.{Function}
 use Rattle.ckc_blame_sound.specs.Bodies.{globals_of_text, IsInBody}
 use Rattle.ckc_blame_sound.specs.Settings.{Setting, IsFunction, frame_of_text, setting_of}
 use Rattle.ckc_blame_sound.proofs.Facts.{one_of}
-use Rattle.ckc_blame_numbers.proofs.Types.{no_pointer}
-use Rattle.ckc_blame_texts.specs.Judged.{IsJudged, globals_in}
-use Rattle.ckc_blame_texts.proofs.Frames.{types_declared, declared_types, named_type, statics_named, variables_have, variables_have_types, locals_counted}
-use Rattle.ckc_blame_texts.proofs.Functions.{numbered as numbered_names}
-use Rattle.ckc_blame_texts.proofs.Kept.{same_fold}
-use Rattle.ckc_blame_texts.proofs.SameViews.{same_view}
+use Rattle.ckc_blame_sound.proofs.Types.{no_pointer}
+use Rattle.ckc_blame_sound.specs.JudgedTexts.{IsJudged, globals_in}
+use Rattle.ckc_blame_sound.proofs.Frames.{types_declared, declared_types, named_type, statics_named, variables_have, variables_have_types, locals_counted}
+use Rattle.ckc_blame_sound.proofs.Functions.{numbered as numbered_names}
+use Rattle.ckc_blame_sound.proofs.KeptTrees.{same_fold}
+use Rattle.ckc_blame_sound.proofs.SameViews.{same_view}
 use Rattle.ckc_blame_given.specs.Written.{IsFitting}
 use Rattle.ckc_blame_given.specs.Stored.{IsAssignJudged, next_fresh, AreAssignsJudged}
 use Rattle.ckc_blame_given.proofs.Named.{node_back}

@@ -29,15 +29,15 @@ use Rattle.ckc_build_values.specs.Kinds.{size_behind, pointee_of}
 use Rattle.ckc_blame_sound.specs.Settings.{Setting}
 use Rattle.ckc_blame_sound.specs.Values.{number_of, IsNumberOf}
 use Rattle.ckc_blame_sound.proofs.Typed.{number_in_type}
-use Rattle.ckc_blame_numbers.specs.Typed.{IsRow, HasRow, IsTyped}
-use Rattle.ckc_blame_numbers.specs.Exact.{IsExactBy}
-use Rattle.ckc_blame_numbers.proofs.Types.{no_pointer}
-use Rattle.ckc_blame_numbers.proofs.Sums.{byte_exact, word_exact}
+use Rattle.ckc_blame_sound.specs.Typed.{IsRow, HasRow, IsTyped}
+use Rattle.ckc_blame_sound.specs.Exact.{IsExactBy}
+use Rattle.ckc_blame_sound.proofs.Types.{no_pointer}
+use Rattle.ckc_blame_sound.proofs.Sums.{byte_exact, word_exact}
 use Rattle.ckc_blame_sound.specs.Valuations.{Valuation, form_address, AreFacts}
-use Rattle.ckc_blame_contained.specs.Containment.{IsReadWithin, IsRanged}
-use Rattle.ckc_blame_contained.specs.Elements.{number_kept}
-use Rattle.ckc_blame_contained.specs.Given.{memory_of, IsNew, IsFrom}
-use Rattle.ckc_blame_contained.specs.Passed.{IsNewArgument}
+use Rattle.ckc_blame_sound.specs.Containment.{IsReadWithin, IsRanged}
+use Rattle.ckc_blame_sound.specs.Elements.{number_kept}
+use Rattle.ckc_blame_sound.specs.GivenValues.{memory_of, IsNew, IsFrom}
+use Rattle.ckc_blame_sound.specs.Passed.{IsNewArgument}
 use Rattle.ckc_blame_given.specs.Gives.{Gives}
 use Rattle.ckc_blame_given.proofs.Converted.{Becomes, becomes, element_looser}
 use Rattle.ckc_blame_given.proofs.Looser.{read_looser}

@@ -29,11 +29,11 @@ use Rattle.ckc_source.specs.Steps.{Write}
 use Rattle.ckc_build_values.specs.Kinds.{width_of}
 use Rattle.ckc_blame_sound.specs.Settings.{Setting}
 use Rattle.ckc_blame_sound.specs.Values.{IsWordOf}
-use Rattle.ckc_blame_numbers.proofs.Types.{none_is_some, wide_word, byte_word}
+use Rattle.ckc_blame_sound.proofs.Types.{none_is_some, wide_word, byte_word}
 use Rattle.ckc_blame_sound.specs.Valuations.{Valuation}
-use Rattle.ckc_blame_contained.specs.Containment.{Memory, IsReadWithin, IsRanged}
-use Rattle.ckc_blame_contained.specs.Given.{memory_of, IsFrom, IsGiven, StayTrue}
-use Rattle.ckc_blame_contained.proofs.Kept.{reads_stay}
+use Rattle.ckc_blame_sound.specs.Containment.{Memory, IsReadWithin, IsRanged}
+use Rattle.ckc_blame_sound.specs.GivenValues.{memory_of, IsFrom, IsGiven, StayTrue}
+use Rattle.ckc_blame_sound.proofs.KeptBounds.{reads_stay}
 use Rattle.ckc_blame_given.specs.Written.{IsReceived, IsLocalWritten}
 
 -- ---- what is no pointer

@@ -32,7 +32,7 @@ use Rattle.ckc_build_values.specs.Kinds.{through_kind, pointee_of, size_behind}
 use Rattle.ckc_blame_sound.specs.Bodies.{AreFresh}
 use Rattle.ckc_blame_sound.specs.Points.{HoldsAt}
 use Rattle.ckc_blame_sound.specs.Settings.{Setting}
-use Rattle.ckc_blame_slots.specs.Cells.{IsReached}
+use Rattle.ckc_blame_sound.specs.Cells.{IsReached}
 use Rattle.ckc_blame_pointers.specs.Covered.{DeclareOnes, IsSoundStore}
 use Rattle.ckc_blame_pointers.specs.Meant.{IsNotStuck}
 use Rattle.ckc_blame_pointers.specs.Valuations.{Valuation, HasEnds}

@@ -14,10 +14,10 @@ use Rattle.ckc_source.specs.declared.outcome.Value.{Value}
 use Rattle.ckc_source.specs.declared.program.Shape.{Shape}
 use Rattle.ckc_source.specs.Blocks.{Block}
 use Rattle.ckc_source.specs.Runs.{is_true}
-use Rattle.ckc_blame_slots.proofs.Filled.{same_reads}
+use Rattle.ckc_blame_sound.proofs.Filled.{same_reads}
 use Rattle.ckc_blame_sound.specs.Valuations.{Valuation, form_address}
-use Rattle.ckc_blame_contained.specs.Containment.{Memory, IsReadBetween, IsReadWithin}
-use Rattle.ckc_blame_contained.specs.Given.{IsFrom}
+use Rattle.ckc_blame_sound.specs.Containment.{Memory, IsReadBetween, IsReadWithin}
+use Rattle.ckc_blame_sound.specs.GivenValues.{IsFrom}
 
 module _ (shapes : List Shape) (bs cs : List Block) (truths : (to : Pointee) (i low high : ℕ) → is_true shapes cs to i low high ≡ is_true shapes bs to i low high)
     (frame : Frame) (to : Pointee) (v : Valuation) (n : ℕ) where

@@ -10,8 +10,8 @@ use Rattle.ckc_source.specs.declared.outcome.Place.TheVariants as place
 use Rattle.ckc_source.specs.Blocks.{Block}
 use Rattle.ckc_source.specs.Eval.{Store}
 use Rattle.ckc_blame_sound.specs.Settings.{Setting}
-use Rattle.ckc_blame_slots.specs.Writes.{IsCellWrite}
-use Rattle.ckc_blame_slots.proofs.Fresh.{get_before, cell_before}
+use Rattle.ckc_blame_sound.specs.Writes.{IsCellWrite}
+use Rattle.ckc_blame_sound.proofs.Fresh.{get_before, cell_before}
 use Rattle.ckc_blame_given.specs.Planned.{IsTarget}
 use Rattle.ckc_blame_given.specs.Targets.{begin_of, LiesIn, GoesThere}
 

@@ -14,7 +14,7 @@ use Rattle.ckc_source.specs.Blocks.{Block, end_of}
 use Rattle.ckc_source.specs.Eval.{plain, ranged, reads_within, reads}
 use Rattle.ckc_source.specs.Runs.{is_within, is_in_member, member_runs, is_in, is_true}
 use Rattle.ckc_blame_sound.specs.Valuations.{Valuation, form_address}
-use Rattle.ckc_blame_contained.specs.Containment.{Memory, IsReadWithin}
+use Rattle.ckc_blame_sound.specs.Containment.{Memory, IsReadWithin}
 
 -- What one kind of pointer may point to, another one may too.
 pub record IsLooser (to other : Pointee) : Type 0 where

@@ -26,14 +26,14 @@ use Rattle.ckc_build_values.specs.Kinds.{width_of}
 use Rattle.ckc_build_values.specs.Members.{offset_of}
 use Rattle.ckc_blame_sound.specs.Settings.{Setting}
 use Rattle.ckc_blame_sound.specs.Values.{number_of}
-use Rattle.ckc_blame_slots.specs.Cells.{AreSound, HaveOwnNames}
-use Rattle.ckc_blame_slots.specs.Writes.{AreElsewhere, IsElsewhere}
-use Rattle.ckc_blame_contained.specs.Elements.{IsStructure, number_kept, AreTargetsWritten, IsTargetWritten, AreWrittenOnce, IsLast}
-use Rattle.ckc_blame_contained.specs.Given.{memory_of, IsFrom}
+use Rattle.ckc_blame_sound.specs.Cells.{AreSound, HaveOwnNames}
+use Rattle.ckc_blame_sound.specs.Writes.{AreElsewhere, IsElsewhere}
+use Rattle.ckc_blame_sound.specs.Elements.{IsStructure, number_kept, AreTargetsWritten, IsTargetWritten, AreWrittenOnce, IsLast}
+use Rattle.ckc_blame_sound.specs.GivenValues.{memory_of, IsFrom}
 use Rattle.ckc_blame_sound.specs.Valuations.{Valuation, AreFacts}
-use Rattle.ckc_blame_contained.proofs.Placed.{members_differ}
-use Rattle.ckc_blame_contained.proofs.Shapes.{HasMember, member_there}
-use Rattle.ckc_blame_contained.proofs.Tests.{left_of, right_of}
+use Rattle.ckc_blame_sound.proofs.Placed.{members_differ}
+use Rattle.ckc_blame_sound.proofs.Shapes.{HasMember, member_there}
+use Rattle.ckc_blame_sound.proofs.Tests.{left_of, right_of}
 use Rattle.ckc_blame_given.specs.Together.{HaveSmallNames}
 use Rattle.ckc_blame_given.proofs.Runs.{cancel}
 

@@ -26,7 +26,7 @@ use Rattle.ckc_bounds_views.specs.declared.forms.Step.{Step}
 use Rattle.ckc_bounds_views.specs.Parts.{LimitsView, NodeView, View, NodeOfViews}
 use Rattle.ckc_bounds_views.specs.Integers.{step_of, form_after, form_of_node, constant_or}
 use Rattle.ckc_bounds_views.specs.Views.{limits_view, node_view, expr_view, view_of_limits, view_of_node, view}
-use Rattle.ckc_blame_contained.proofs.Tests.{left_of, right_of}
+use Rattle.ckc_blame_sound.proofs.Tests.{left_of, right_of}
 
 -- whether a test holds of what there may be
 abbrev pub holds_of : {T : Type 0} → (T → Bool) → Option T → Bool

@@ -28,7 +28,7 @@ use Rattle.ckc_bounds_views.specs.declared.variables.Own.{Own}
 use Rattle.ckc_bounds_views.specs.Parts.{LimitsView, NodeView, View, NodeOfViews, capped, next_behind, fresh_behind}
 use Rattle.ckc_bounds_views.specs.Ranges.{range_of_name, range_of_operand, range_of_unary, range_of_node, range_of_address, own_numbers, pointer_range}
 use Rattle.ckc_bounds_views.specs.Views.{limits_view, node_view, expr_view, view_of_limits, view_of_node, view}
-use Rattle.ckc_blame_contained.specs.Containment.{IsNarrowed}
+use Rattle.ckc_blame_sound.specs.Containment.{IsNarrowed}
 use Rattle.ckc_blame_pointers.proofs.Unwidened.{fresh_same, node_fresh_same}
 
 -- a range and itself

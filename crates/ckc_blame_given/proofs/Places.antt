@@ -48,14 +48,14 @@ use Rattle.ckc_build_elaborate.specs.Objects.{objects_elaborated}
 use Rattle.ckc_build_elaborate.specs.Shapes.{shapes_elaborated}
 use Rattle.ckc_blame_sound.specs.Settings.{Setting}
 use Rattle.ckc_blame_sound.specs.Sound.{IsPlaced}
-use Rattle.ckc_blame_slots.specs.Cells.{IsPart, IsCell}
-use Rattle.ckc_blame_slots.specs.Writes.{IsCellWrite}
-use Rattle.ckc_blame_slots.proofs.Aimed.{target_there, ranged_write, named_write}
-use Rattle.ckc_blame_slots.proofs.Filled.{part_place}
-use Rattle.ckc_blame_slots.proofs.Objects.{object_at, are_members}
-use Rattle.ckc_blame_slots.proofs.Ranges.{some_of, contains_at, true_cell}
-use Rattle.ckc_blame_slots.proofs.Same.{same_equal}
-use Rattle.ckc_blame_contained.specs.Elements.{AreCounted}
+use Rattle.ckc_blame_sound.specs.Cells.{IsPart, IsCell}
+use Rattle.ckc_blame_sound.specs.Writes.{IsCellWrite}
+use Rattle.ckc_blame_sound.proofs.Aimed.{target_there, ranged_write, named_write}
+use Rattle.ckc_blame_sound.proofs.Filled.{part_place}
+use Rattle.ckc_blame_sound.proofs.Objects.{object_at, are_members}
+use Rattle.ckc_blame_sound.proofs.Ranges.{some_of, contains_at, true_cell}
+use Rattle.ckc_blame_sound.proofs.Same.{same_equal}
+use Rattle.ckc_blame_sound.specs.Elements.{AreCounted}
 use Rattle.ckc_blame_pointers.specs.Covered.{IsSoundStore}
 use Rattle.ckc_blame_pointers.proofs.Structures.{IsWholeElement, whole_element}
 use Rattle.ckc_blame_pointers.proofs.Truths.{either}

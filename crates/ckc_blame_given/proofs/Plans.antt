@@ -14,9 +14,9 @@ use Rattle.ckc_source.specs.Eval.{given, evaluated}
 use Rattle.ckc_source.specs.Runs.{is_true}
 use Rattle.ckc_source.specs.States.{State}
 use Rattle.ckc_source.specs.Steps.{store_of, aimed, allowed, Drawn, allocated, drawn, Planned, and_then_written, planned}
-use Rattle.ckc_blame_slots.proofs.Fresh.{true_before}
-use Rattle.ckc_blame_numbers.proofs.Claims.{given_is}
-use Rattle.ckc_blame_contained.specs.Given.{StayTrue}
+use Rattle.ckc_blame_sound.proofs.Fresh.{true_before}
+use Rattle.ckc_blame_sound.proofs.Claims.{given_is}
+use Rattle.ckc_blame_sound.specs.GivenValues.{StayTrue}
 
 -- a state with other blocks, and another place for the next one
 abbrev with_memory : State → List Block → ℕ → State

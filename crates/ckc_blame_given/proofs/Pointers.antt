@@ -34,7 +34,7 @@ use Rattle.ckc_build_values.specs.Expressions.{Part, part_of}
 use Rattle.ckc_blame_sound.specs.Bodies.{AreFresh}
 use Rattle.ckc_blame_sound.specs.Points.{HoldsAt}
 use Rattle.ckc_blame_sound.specs.Settings.{Setting, AreStrings}
-use Rattle.ckc_blame_numbers.specs.Typed.{IsRow, HasRow, IsTyped, Agrees}
+use Rattle.ckc_blame_sound.specs.Typed.{IsRow, HasRow, IsTyped, Agrees}
 use Rattle.ckc_blame_pointers.specs.Covered.{DeclareLocals, IsSoundStore, IsCoveredExpr, IsCovered}
 use Rattle.ckc_blame_pointers.specs.Meant.{IsNotStuck}
 use Rattle.ckc_blame_pointers.proofs.Binary.{ExprClaims}
@@ -42,7 +42,7 @@ use Rattle.ckc_blame_pointers.proofs.Elements.{IsRanged, ranged_pointer}
 use Rattle.ckc_blame_pointers.proofs.Induction.{expr_claims}
 use Rattle.ckc_blame_pointers.proofs.Inside.{IsJudged, judged_is, one_part, two_parts, parts_every, node_every, PartsEvery}
 use Rattle.ckc_blame_pointers.proofs.Numbers.{nothing_behind, same_number}
-use Rattle.ckc_blame_numbers.proofs.Claims.{plain_is}
+use Rattle.ckc_blame_sound.proofs.Claims.{plain_is}
 use Rattle.ckc_source.specs.Words.{exact, elements_behind}
 use Rattle.ckc_blame_pointers.proofs.Strings.{first_strings, later_strings}
 use Rattle.ckc_blame_pointers.proofs.Sums.{fresh_on}

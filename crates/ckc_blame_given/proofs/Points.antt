@@ -20,10 +20,10 @@ use Rattle.ckc_blame_sound.specs.Values.{AreTrue, HoldWords}
 use Rattle.ckc_blame_sound.specs.Points.{AreBounded, HoldsAt}
 use Rattle.ckc_blame_sound.specs.Sound.{IsPlaced}
 use Rattle.ckc_blame_sound.specs.Valuations.{Valuation, AreFacts, IsValuationOf}
-use Rattle.ckc_blame_contained.specs.Ends.{HaveEnds}
-use Rattle.ckc_blame_contained.specs.Given.{IsAssigned, AreAssigned, StayTrue}
-use Rattle.ckc_blame_contained.proofs.Faults.{Good, good}
-use Rattle.ckc_blame_contained.proofs.Locals.{bounded_after, widened_after}
+use Rattle.ckc_blame_sound.specs.Ends.{HaveEnds}
+use Rattle.ckc_blame_sound.specs.GivenValues.{IsAssigned, AreAssigned, StayTrue}
+use Rattle.ckc_blame_sound.proofs.Faults.{Good, good}
+use Rattle.ckc_blame_sound.proofs.ContainedLocals.{bounded_after, widened_after}
 use Rattle.ckc_blame_given.specs.Planned.{IsMemoryTarget, IsPartTarget, IsTarget, IsPlanned, ArePlanned}
 use Rattle.ckc_blame_given.specs.Written.{IsFitting, IsNoLocal, IsWritten, AreWritten}
 use Rattle.ckc_blame_given.proofs.Apart.{IsAfter, AreApart}

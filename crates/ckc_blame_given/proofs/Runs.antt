@@ -38,25 +38,25 @@ use Rattle.ckc_build_values.specs.Members.{offset_of, count_by, integer_in_membe
 use Rattle.ckc_build_elaborate.specs.Shapes.{is_bare, names}
 use Rattle.ckc_blame_sound.specs.Settings.{Setting}
 use Rattle.ckc_blame_sound.specs.Slots.{Slot, slot_of_member, slots_in, slots_of, IsFilled, AreFilled}
-use Rattle.ckc_blame_slots.specs.Cells.{AreSound, HaveOwnNames, IsPart}
-use Rattle.ckc_blame_slots.specs.Limited.{AreSlotParts, AreSparedOrFilled, IsCountPart, IsCountSpared, IsSpared, store_with}
-use Rattle.ckc_blame_slots.specs.Writes.{AreCellWrites, AreElsewhere, IsElsewhere}
-use Rattle.ckc_blame_slots.proofs.Apart.{elements_apart}
-use Rattle.ckc_blame_slots.proofs.Filled.{filled_after, filled_by}
-use Rattle.ckc_blame_slots.proofs.Objects.{element_at}
-use Rattle.ckc_blame_slots.proofs.Ranges.{contains_at}
-use Rattle.ckc_blame_slots.proofs.Written.{all_keep, laid}
-use Rattle.ckc_blame_contained.specs.Containment.{IsReadBetween}
-use Rattle.ckc_blame_contained.specs.Elements.{AreCounted, IsStructure, NameIntegerMembers}
-use Rattle.ckc_blame_contained.specs.Given.{memory_of, IsFrom}
-use Rattle.ckc_blame_contained.specs.Memory.{IsMemberGiven}
+use Rattle.ckc_blame_sound.specs.Cells.{AreSound, HaveOwnNames, IsPart}
+use Rattle.ckc_blame_sound.specs.Limited.{AreSlotParts, AreSparedOrFilled, IsCountPart, IsCountSpared, IsSpared, store_with}
+use Rattle.ckc_blame_sound.specs.Writes.{AreCellWrites, AreElsewhere, IsElsewhere}
+use Rattle.ckc_blame_sound.proofs.Apart.{elements_apart}
+use Rattle.ckc_blame_sound.proofs.Filled.{filled_after, filled_by}
+use Rattle.ckc_blame_sound.proofs.Objects.{element_at}
+use Rattle.ckc_blame_sound.proofs.Ranges.{contains_at}
+use Rattle.ckc_blame_sound.proofs.Written.{all_keep, laid}
+use Rattle.ckc_blame_sound.specs.Containment.{IsReadBetween}
+use Rattle.ckc_blame_sound.specs.Elements.{AreCounted, IsStructure, NameIntegerMembers}
+use Rattle.ckc_blame_sound.specs.GivenValues.{memory_of, IsFrom}
+use Rattle.ckc_blame_sound.specs.Memory.{IsMemberGiven}
 use Rattle.ckc_blame_sound.specs.Valuations.{Valuation, AreFacts}
-use Rattle.ckc_blame_contained.proofs.Faults.{good}
-use Rattle.ckc_blame_contained.proofs.Memory.{memory_read, member_counted}
-use Rattle.ckc_blame_contained.proofs.Placed.{member_part, members_differ, member_read}
-use Rattle.ckc_blame_contained.proofs.Shapes.{HasMember, IsSlotOf, contained_stands, member_there, member_slots, named_there, same_member}
-use Rattle.ckc_blame_contained.proofs.Spared.{pair_known}
-use Rattle.ckc_blame_contained.proofs.Tests.{right_of}
+use Rattle.ckc_blame_sound.proofs.Faults.{good}
+use Rattle.ckc_blame_sound.proofs.Memory.{memory_read, member_counted}
+use Rattle.ckc_blame_sound.proofs.Placed.{member_part, members_differ, member_read}
+use Rattle.ckc_blame_sound.proofs.Shapes.{HasMember, IsSlotOf, contained_stands, member_there, member_slots, named_there, same_member}
+use Rattle.ckc_blame_sound.proofs.Spared.{pair_known}
+use Rattle.ckc_blame_sound.proofs.Tests.{right_of}
 use Rattle.ckc_blame_given.specs.Planned.{IsRunTarget}
 
 pub cancel : (n a b : ℕ) → n + a ≡ n + b → a ≡ b

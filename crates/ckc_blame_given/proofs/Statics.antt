@@ -25,12 +25,12 @@ use Rattle.ckc_build_values.specs.Names.{address_of, address_in, count_of_static
 use Rattle.ckc_build_values.specs.Places.{object_place}
 use Rattle.ckc_build_elaborate.specs.Objects.{object_elaborated, objects_elaborated, run_in}
 use Rattle.ckc_blame_sound.specs.Settings.{Setting}
-use Rattle.ckc_blame_slots.specs.Cells.{IsPart, IsCell}
-use Rattle.ckc_blame_slots.proofs.Objects.{beside_at, object_at, object_cell}
-use Rattle.ckc_blame_contained.specs.Elements.{AreCounted}
+use Rattle.ckc_blame_sound.specs.Cells.{IsPart, IsCell}
+use Rattle.ckc_blame_sound.proofs.Objects.{beside_at, object_at, object_cell}
+use Rattle.ckc_blame_sound.specs.Elements.{AreCounted}
 use Rattle.ckc_blame_pointers.specs.Covered.{IsSoundStore}
 use Rattle.ckc_blame_pointers.proofs.Structures.{IsWholeElement}
-use Rattle.ckc_blame_texts.proofs.Accesses.{scalar_part}
+use Rattle.ckc_blame_sound.proofs.Accesses.{scalar_part}
 use Rattle.ckc_blame_given.specs.Planned.{IsPartTarget}
 use Rattle.ckc_blame_given.specs.Targets.{IsStaticObject, ComesTo}
 use Rattle.ckc_blame_given.proofs.Places.{Goes, IsIn, Lies, struct_target, named_goes}

@@ -17,8 +17,8 @@ use Rattle.ckc_bounds_views.specs.Views.{view}
 use Rattle.ckc_bounds_stores.specs.Stores.{stores_of, stored, passed as passed_stores}
 use Rattle.ckc_bounds_statements.specs.Paths.{Here, Path, ActPath, expr_judged, value_judged, sides_judged, stated, stores_judged, behind_stores, assign_judged, act_judged, act_part, parts_judged, is_good, bundle_judged, act_path, stmt_path, path_of_act, path}
 use Rattle.ckc_blame_sound.specs.Settings.{Setting}
-use Rattle.ckc_blame_numbers.proofs.Statements.{made_of, pair_same}
-use Rattle.ckc_blame_numbers.proofs.Stepping.{ActLayer, viewed, act_back, judged_is, out_bundle}
+use Rattle.ckc_blame_sound.proofs.Statements.{made_of, pair_same}
+use Rattle.ckc_blame_sound.proofs.Stepping.{ActLayer, viewed, act_back, judged_is, out_bundle}
 use Rattle.ckc_blame_given.specs.Written.{AreOne}
 use Rattle.ckc_blame_given.specs.Stored.{IsAssignJudged, next_fresh, AreAssignsJudged, AreStored}
 use Rattle.ckc_blame_given.proofs.Declared.{ok_is, passed}

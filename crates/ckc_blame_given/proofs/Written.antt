@@ -8,7 +8,7 @@ use Rattle.ckc_source.specs.declared.outcome.Place.TheVariants as place
 use Rattle.ckc_source.specs.Blocks.{Block, stored}
 use Rattle.ckc_source.specs.States.{State}
 use Rattle.ckc_source.specs.Steps.{Write, with_blocks, writes, all_written}
-use Rattle.ckc_blame_numbers.proofs.Claims.{given_is}
+use Rattle.ckc_blame_sound.proofs.Claims.{given_is}
 use Rattle.ckc_blame_given.specs.Written.{IsNoLocal}
 
 -- the locals after a write

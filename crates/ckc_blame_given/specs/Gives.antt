@@ -15,8 +15,8 @@ use Rattle.ckc_build_values.specs.Kinds.{integer_of, size_behind}
 use Rattle.ckc_blame_sound.specs.Settings.{Setting}
 use Rattle.ckc_blame_sound.specs.Values.{number_of, IsWordOf}
 use Rattle.ckc_blame_sound.specs.Valuations.{Valuation, form_address, AreFacts, IsValuationOf, AreNumbersOf}
-use Rattle.ckc_blame_contained.specs.Containment.{IsReadWithin}
-use Rattle.ckc_blame_contained.specs.Given.{memory_of}
+use Rattle.ckc_blame_sound.specs.Containment.{IsReadWithin}
+use Rattle.ckc_blame_sound.specs.GivenValues.{memory_of}
 
 -- A valuation says the same as an earlier one of the values with numbers below the first of some, and of the variables up
 -- to a number.

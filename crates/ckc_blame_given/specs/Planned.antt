@@ -28,10 +28,10 @@ use Rattle.ckc_build_values.specs.Names.{count_of_static}
 use Rattle.ckc_build_elaborate.specs.Shapes.{is_run}
 use Rattle.ckc_blame_sound.specs.Settings.{Setting}
 use Rattle.ckc_blame_sound.specs.Values.{number_of}
-use Rattle.ckc_blame_slots.specs.Writes.{IsCellWrite}
+use Rattle.ckc_blame_sound.specs.Writes.{IsCellWrite}
 use Rattle.ckc_blame_sound.specs.Valuations.{Valuation, AreFacts}
-use Rattle.ckc_blame_contained.specs.Given.{memory_of, IsFrom}
-use Rattle.ckc_blame_contained.specs.Elements.{number_kept, AreCounted}
+use Rattle.ckc_blame_sound.specs.GivenValues.{memory_of, IsFrom}
+use Rattle.ckc_blame_sound.specs.Elements.{number_kept, AreCounted}
 
 -- The member m of the element of a block that begins at an address is a target of the type of the member.
 pub record IsMemberTarget (s : Setting) (p : Placed) (b : Block) (begin : ℕ) (m : Member) (to : Place) : Type 0 where

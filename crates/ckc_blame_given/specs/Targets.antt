@@ -27,8 +27,8 @@ use Rattle.ckc_source.specs.Steps.{allowed}
 use Rattle.ckc_build_values.specs.Members.{offset_of}
 use Rattle.ckc_build_values.specs.Names.{address_of, count_of_static}
 use Rattle.ckc_blame_sound.specs.Settings.{Setting}
-use Rattle.ckc_blame_slots.specs.Writes.{IsCellWrite}
-use Rattle.ckc_blame_contained.specs.Elements.{AreCounted}
+use Rattle.ckc_blame_sound.specs.Writes.{IsCellWrite}
+use Rattle.ckc_blame_sound.specs.Elements.{AreCounted}
 use Rattle.ckc_blame_pointers.specs.Covered.{DeclareOnes, IsInScope, IsCovered}
 pub use Rattle.ckc_blame_pointers.specs.Covered.{KeepRunsFree}
 use Rattle.ckc_blame_given.specs.Planned.{IsTarget}

@@ -25,8 +25,8 @@ use Rattle.ckc_build_values.specs.Kinds.{width_of}
 use Rattle.ckc_blame_sound.specs.Settings.{Setting}
 use Rattle.ckc_blame_sound.specs.Values.{number_of}
 use Rattle.ckc_blame_sound.specs.Valuations.{Valuation, AreFacts}
-use Rattle.ckc_blame_contained.specs.Given.{memory_of, IsFrom, IsUnnamed}
-use Rattle.ckc_blame_contained.specs.Elements.{number_kept}
+use Rattle.ckc_blame_sound.specs.GivenValues.{memory_of, IsFrom, IsUnnamed}
+use Rattle.ckc_blame_sound.specs.Elements.{number_kept}
 
 -- Assignments are judged as one: a single one, or those of a bundle.
 abbrev pub AreOne : List NotedStmt → Type 0

@@ -43,7 +43,7 @@ use Rattle.ckc_blame_pointers.proofs.Claims.{IsOfLocal, Placed, SideGoes, stays,
 use Rattle.ckc_blame_pointers.proofs.Moving.{with_address, address_added, address_kept, at_base}
 use Rattle.ckc_blame_pointers.proofs.Later.{extends_less, extends_on, still_fits, next_more, base_wider, range_wider}
 use Rattle.ckc_blame_pointers.proofs.Unwidened.{right_fresh_is}
-use Rattle.ckc_blame_numbers.proofs.Types.{word_wide}
+use Rattle.ckc_blame_sound.proofs.Types.{word_wide}
 use Rattle.ckc_blame_pointers.proofs.Binary.{ExprClaims}
 use Rattle.ckc_blame_pointers.proofs.Nodes.{node_fresh, NodeClaims, narrow}
 use Rattle.ckc_blame_pointers.proofs.Rows.{pointer_word}

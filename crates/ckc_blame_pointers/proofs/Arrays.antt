@@ -44,14 +44,14 @@ use Rattle.ckc_build_elaborate.specs.Objects.{object_elaborated, objects_elabora
 use Rattle.ckc_blame_sound.specs.Settings.{Setting}
 use Rattle.ckc_blame_sound.specs.Sound.{AreObjects, IsTerminated, IsPlaced}
 use Rattle.ckc_blame_sound.specs.Points.{HoldsAt}
-use Rattle.ckc_blame_slots.proofs.Apart.{placed_at}
+use Rattle.ckc_blame_sound.proofs.Apart.{placed_at}
 use Rattle.ckc_blame_pointers.specs.Valuations.{Valuation, Fits, address_by}
 use Rattle.ckc_blame_pointers.specs.Covered.{IsSoundStore, IsStaticArray}
 use Rattle.ckc_blame_pointers.specs.Meant.{IsNotStuck}
 use Rattle.ckc_blame_pointers.proofs.Claims.{SideGoes, stays, nothing_read, still_placed, placed_as}
 use Rattle.ckc_blame_pointers.proofs.Moving.{at_base}
 use Rattle.ckc_blame_pointers.proofs.Nodes.{node_fresh, NodeClaims, narrow}
-use Rattle.ckc_blame_numbers.proofs.Types.{some_is}
+use Rattle.ckc_blame_sound.proofs.Types.{some_is}
 use Rattle.ckc_blame_pointers.proofs.Rows.{pointer_word}
 use Rattle.ckc_blame_pointers.proofs.Widening.{any_at, within_tests}
 

@@ -26,7 +26,7 @@ use Rattle.ckc_source.specs.Words.{truth}
 use Rattle.ckc_build_values.specs.Operators.{is_signed_at, of_operands}
 use Rattle.ckc_blame_sound.specs.Settings.{Setting}
 use Rattle.ckc_blame_sound.specs.Points.{AreBounded, HoldsAt}
-use Rattle.ckc_blame_numbers.proofs.Types.{no_pointer, word_wide}
+use Rattle.ckc_blame_sound.proofs.Types.{no_pointer, word_wide}
 use Rattle.ckc_blame_pointers.specs.Meant.{IsNotStuck}
 use Rattle.ckc_blame_pointers.proofs.Claims.{SideGoes, Claims, weaker, goes_on, both_go_on, stays}
 use Rattle.ckc_blame_pointers.proofs.Nodes.{NodeClaims, integer_claims}

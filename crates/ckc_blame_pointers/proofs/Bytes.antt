@@ -32,7 +32,7 @@ use Rattle.ckc_build_values.specs.Operators.{elements_in}
 use Rattle.ckc_blame_sound.specs.Settings.{Setting}
 use Rattle.ckc_blame_sound.specs.Values.{number_of}
 use Rattle.ckc_blame_sound.specs.Points.{HoldsAt}
-use Rattle.ckc_blame_texts.proofs.Sizes.{sizes_are_small}
+use Rattle.ckc_blame_sound.proofs.Sizes.{sizes_are_small}
 use Rattle.ckc_blame_pointers.specs.Meant.{IsNotStuck}
 use Rattle.ckc_blame_pointers.specs.Valuations.{Valuation, Fits}
 use Rattle.ckc_blame_pointers.proofs.Binary.{ExprClaims}

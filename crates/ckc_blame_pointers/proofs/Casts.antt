@@ -40,9 +40,9 @@ use Rattle.ckc_blame_sound.specs.Values.{number_of, IsNumberOf}
 use Rattle.ckc_blame_sound.specs.Bodies.{AreFresh}
 use Rattle.ckc_blame_sound.specs.Points.{HoldsAt}
 use Rattle.ckc_blame_sound.proofs.Flow.{word_lies}
-use Rattle.ckc_blame_numbers.proofs.Claims.{plain_is}
-use Rattle.ckc_blame_numbers.proofs.Types.{word_wide}
-use Rattle.ckc_blame_slots.proofs.Same.{same_equal}
+use Rattle.ckc_blame_sound.proofs.Claims.{plain_is}
+use Rattle.ckc_blame_sound.proofs.Types.{word_wide}
+use Rattle.ckc_blame_sound.proofs.Same.{same_equal}
 use Rattle.ckc_blame_pointers.specs.Covered.{IsSoundStore}
 use Rattle.ckc_blame_pointers.specs.Meant.{IsNotStuck}
 use Rattle.ckc_blame_pointers.specs.Valuations.{Valuation, Fits, IsInRange}

@@ -22,7 +22,7 @@ use Rattle.ckc_build_values.specs.Names.{address_in, address_of}
 use Rattle.ckc_build_values.specs.Places.{Place, object_place, member_place, read_at}
 use Rattle.ckc_blame_sound.specs.Settings.{Setting}
 use Rattle.ckc_blame_sound.specs.Points.{HoldsAt}
-use Rattle.ckc_blame_numbers.proofs.Types.{no_pointer}
+use Rattle.ckc_blame_sound.proofs.Types.{no_pointer}
 use Rattle.ckc_blame_pointers.specs.Covered.{IsIntegerMember, IsPointerMember, IsStaticStructure, IsSoundStore}
 use Rattle.ckc_blame_pointers.specs.Meant.{IsNotStuck}
 use Rattle.ckc_blame_pointers.proofs.Arrays.{object_at}

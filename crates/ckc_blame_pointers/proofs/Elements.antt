@@ -27,11 +27,11 @@ use Rattle.ckc_source.specs.Code.{Expr, Load}
 use Rattle.ckc_source.specs.Eval.{Store, plain, given, element, place_in, loads, evaluated}
 use Rattle.ckc_build_values.specs.Kinds.{width_of, through_kind, pointee_of, size_behind}
 use Rattle.ckc_blame_sound.specs.Settings.{Setting}
-use Rattle.ckc_blame_slots.specs.Cells.{IsPart}
+use Rattle.ckc_blame_sound.specs.Cells.{IsPart}
 use Rattle.ckc_blame_sound.specs.Values.{value, IsWordOf}
 use Rattle.ckc_blame_sound.specs.Points.{AreBounded, HoldsAt}
-use Rattle.ckc_blame_numbers.proofs.Types.{no_pointer}
-use Rattle.ckc_blame_numbers.specs.Typed.{Agrees}
+use Rattle.ckc_blame_sound.proofs.Types.{no_pointer}
+use Rattle.ckc_blame_sound.specs.Typed.{Agrees}
 use Rattle.ckc_typed.specs.declared.environment.Globals.{Globals}
 use Rattle.ckc_source.specs.Words.{exact, elements_behind}
 use Rattle.ckc_blame_sound.specs.Bodies.{AreFresh}
@@ -45,7 +45,7 @@ use Rattle.ckc_blame_pointers.proofs.Numbers.{nothing_behind}
 use Rattle.ckc_blame_pointers.proofs.Moving.{sum_at, sum_base}
 use Rattle.ckc_blame_pointers.proofs.Later.{extends_self, still_fits}
 use Rattle.ckc_blame_pointers.proofs.Sums.{IsIndex}
-use Rattle.ckc_blame_numbers.proofs.Claims.{plain_is}
+use Rattle.ckc_blame_sound.proofs.Claims.{plain_is}
 use Rattle.ckc_source.specs.declared.expr.Integer.TheVariants.{Int}
 use Rattle.ckc_bounds_points.specs.Forms.{sum_of_forms}
 use Rattle.ckc_blame_pointers.proofs.Wider.{place_widens}

@@ -50,15 +50,15 @@ use Rattle.ckc_build_values.specs.Operators.{of_operands, elements_in}
 use Rattle.ckc_blame_sound.specs.Settings.{Setting, AreStrings}
 use Rattle.ckc_blame_sound.specs.Values.{AreTrue}
 use Rattle.ckc_blame_sound.specs.Points.{HoldsAt}
-use Rattle.ckc_blame_numbers.specs.Typed.{IsRow, HasRow, IsTyped, Agrees}
-use Rattle.ckc_blame_numbers.proofs.Exprs as numbers
-use Rattle.ckc_blame_numbers.proofs.Holding.{form_exact, form_exact_in, side_told}
-use Rattle.ckc_blame_numbers.proofs.Types.{sign_row, IsWide, number_wide, size_wide}
+use Rattle.ckc_blame_sound.specs.Typed.{IsRow, HasRow, IsTyped, Agrees}
+use Rattle.ckc_blame_sound.proofs.Exprs as numbers
+use Rattle.ckc_blame_sound.proofs.Holding.{form_exact, form_exact_in, side_told}
+use Rattle.ckc_blame_sound.proofs.Types.{sign_row, IsWide, number_wide, size_wide}
 use Rattle.ckc_blame_sound.specs.Bodies.{AreFresh}
 use Rattle.ckc_blame_pointers.specs.Covered.{DeclareLocals, DeclareOnes, IsSoundStore, IsElement, IsSingle, IsArrow, IsPointerArrow, IsAddressed, IsStaticInteger, IsStaticArray, IsStaticPointer, IsStaticBounded, IsStaticStructure, IsStructureTarget, IsPointerTarget, IsStructureElement, IsStructureNode, IsCoveredNode, IsCoveredExpr, AreCovered}
 use Rattle.ckc_blame_pointers.specs.Meant.{IsNotStuck}
 use Rattle.ckc_blame_pointers.proofs.Claims.{weaker, holds_on, nothing_read}
-use Rattle.ckc_blame_numbers.proofs.Known.{form_known}
+use Rattle.ckc_blame_sound.proofs.Known.{form_known}
 use Rattle.ckc_blame_pointers.proofs.Inside.{EveryNode, PartsEvery, one_part, two_parts, three_parts, LimitsEvery, limits_every, limits_layer, not_false, limits_part, tested_parts, no_ends, no_amount, some_there}
 use Rattle.ckc_blame_pointers.proofs.Nodes.{node_fresh, NodeClaims}
 use Rattle.ckc_blame_pointers.proofs.Binary.{ExprClaims, other_claims, unequal_claims, and_claims, or_claims}
@@ -67,7 +67,7 @@ use Rattle.ckc_blame_pointers.proofs.Later.{next_more, next_both, left_room, rig
 use Rattle.ckc_blame_pointers.proofs.Unwidened.{fresh_same, right_fresh_is}
 use Rattle.ckc_blame_pointers.proofs.Elements.{IsRanged, ranged_pointer, target_aims, element_aims, element_claims, narrow_there}
 use Rattle.ckc_blame_pointers.proofs.Loads.{integer_part, no_count}
-use Rattle.ckc_blame_slots.specs.Cells.{IsPart}
+use Rattle.ckc_blame_sound.specs.Cells.{IsPart}
 use Rattle.ckc_blame_pointers.proofs.Addresses.{address_row, target_claims, index_claims}
 use Rattle.ckc_blame_pointers.proofs.Rows.{counted_pointer}
 use Rattle.ckc_blame_pointers.proofs.Arrows.{arrow_node}

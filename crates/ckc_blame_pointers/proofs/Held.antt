@@ -50,9 +50,9 @@ use Rattle.ckc_blame_sound.specs.Values.{IsNumberOf, IsWordOf}
 use Rattle.ckc_blame_sound.specs.Points.{HoldsAt}
 use Rattle.ckc_blame_sound.specs.Slots.{Slot, slot_by, slot_of_member, slots_in, slots_of}
 use Rattle.ckc_blame_sound.proofs.Flow.{word_lies}
-use Rattle.ckc_blame_numbers.proofs.Types.{word_wide}
-use Rattle.ckc_blame_slots.specs.Cells.{IsPart}
-use Rattle.ckc_blame_slots.proofs.Ranges.{contains_at}
+use Rattle.ckc_blame_sound.proofs.Types.{word_wide}
+use Rattle.ckc_blame_sound.specs.Cells.{IsPart}
+use Rattle.ckc_blame_sound.proofs.Ranges.{contains_at}
 use Rattle.ckc_blame_pointers.specs.Valuations.{Valuation, Fits, RangeBetween, IsInRange}
 use Rattle.ckc_blame_pointers.specs.Covered.{NamesInteger, IsPointerMember, IsSoundStore}
 use Rattle.ckc_blame_pointers.specs.Meant.{IsNotStuck}

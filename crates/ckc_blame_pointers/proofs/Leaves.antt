@@ -40,8 +40,8 @@ use Rattle.ckc_build_values.specs.Expressions.{local_in}
 use Rattle.ckc_blame_sound.specs.Settings.{Setting}
 use Rattle.ckc_blame_sound.specs.Values.{IsWordOf}
 use Rattle.ckc_blame_sound.specs.Points.{HoldsAt}
-use Rattle.ckc_blame_numbers.specs.Typed.{Agrees}
-use Rattle.ckc_blame_numbers.proofs.Types.{some_is, no_pointer, wide_word, byte_word, sign_row}
+use Rattle.ckc_blame_sound.specs.Typed.{Agrees}
+use Rattle.ckc_blame_sound.proofs.Types.{some_is, no_pointer, wide_word, byte_word, sign_row}
 use Rattle.ckc_blame_pointers.specs.Valuations.{IsReadIn}
 use Rattle.ckc_blame_pointers.specs.Covered.{DeclareLocals, IsInScope}
 use Rattle.ckc_blame_pointers.specs.Meant.{IsNotStuck}
@@ -50,7 +50,7 @@ use Rattle.ckc_blame_pointers.proofs.Moving.{at_base}
 use Rattle.ckc_blame_pointers.proofs.Nodes.{node_fresh, NodeClaims, narrow, integer_claims, quiet_claims, local_between, local_readable, LocalComes, local_comes}
 use Rattle.ckc_blame_pointers.proofs.Rows.{IsSmall, operation_word, Wide, wide_small, int_row, arithmetic_wide}
 use Rattle.ckc_blame_pointers.proofs.Binary.{ExprClaims, small_value, flag_small}
-use Rattle.ckc_blame_numbers.proofs.Nodes.{not_side}
+use Rattle.ckc_blame_sound.proofs.IntegerNodes.{not_side}
 
 zero_word : (t : CType) → IsWordOf t 0
 zero_word t = by (is_char t)

@@ -26,7 +26,7 @@ use Rattle.ckc_build_values.specs.Kinds.{pointee_of, size_behind}
 use Rattle.ckc_build_values.specs.Names.{address_of, bytes_in, bytes_of}
 use Rattle.ckc_blame_sound.specs.Settings.{Setting}
 use Rattle.ckc_blame_sound.specs.Points.{HoldsAt}
-use Rattle.ckc_blame_numbers.proofs.Types.{some_is}
+use Rattle.ckc_blame_sound.proofs.Types.{some_is}
 use Rattle.ckc_blame_pointers.specs.Covered.{IsSoundStore, IsLiteral}
 use Rattle.ckc_blame_pointers.specs.Meant.{IsNotStuck}
 use Rattle.ckc_blame_pointers.proofs.Arrays.{size_is, array_true, address_small}

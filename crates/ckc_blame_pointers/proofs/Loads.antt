@@ -30,12 +30,12 @@ use Rattle.ckc_build_values.specs.Kinds.{width_of, through_kind, pointee_of, siz
 use Rattle.ckc_build_elaborate.specs.Shapes.{shapes_elaborated}
 use Rattle.ckc_blame_sound.specs.Settings.{Setting}
 use Rattle.ckc_blame_sound.specs.Values.{IsWordOf}
-use Rattle.ckc_blame_slots.specs.Cells.{IsPart, IsPartIn, IsCell, HaveOwnNames, IsReached, AreSound}
-use Rattle.ckc_blame_slots.proofs.Apart.{cell_there, cell_address}
-use Rattle.ckc_blame_slots.proofs.Objects.{are_members}
-use Rattle.ckc_blame_slots.proofs.Ranges.{true_cell}
-use Rattle.ckc_blame_slots.proofs.Reached.{array_reached, terminated_reached, place_is}
-use Rattle.ckc_blame_slots.proofs.Stores.{load_goes}
+use Rattle.ckc_blame_sound.specs.Cells.{IsPart, IsPartIn, IsCell, HaveOwnNames, IsReached, AreSound}
+use Rattle.ckc_blame_sound.proofs.Apart.{cell_there, cell_address}
+use Rattle.ckc_blame_sound.proofs.Objects.{are_members}
+use Rattle.ckc_blame_sound.proofs.Ranges.{true_cell}
+use Rattle.ckc_blame_sound.proofs.Reached.{array_reached, terminated_reached, place_is}
+use Rattle.ckc_blame_sound.proofs.Stores.{load_goes}
 use Rattle.ckc_blame_pointers.specs.Meant.{IsNotStuck}
 
 -- ---- the words that memory holds

@@ -10,8 +10,8 @@ use Rattle.ckc_typed.specs.Layouts.{member_number}
 use Rattle.ckc_typed.specs.Operands.{member_in, dot_type}
 use Rattle.ckc_build_values.specs.Kinds.{width_of, tag_in, tag_of}
 use Rattle.ckc_build_values.specs.Members.{offset_of}
-use Rattle.ckc_blame_slots.specs.Cells.{IsPart, IsPartIn}
-use Rattle.ckc_blame_texts.proofs.Accesses.{member_part}
+use Rattle.ckc_blame_sound.specs.Cells.{IsPart, IsPartIn}
+use Rattle.ckc_blame_sound.proofs.Accesses.{member_part}
 
 struct_form : (tag : ℕ) → out-CType (ctype.Struct tag) ≡ CType-F.Struct tag
 struct_form tag = search (rules, the_lemmas)

@@ -38,7 +38,7 @@ use Rattle.ckc_blame_sound.specs.Settings.{Setting}
 use Rattle.ckc_blame_sound.specs.Values.{IsWordOf}
 use Rattle.ckc_blame_sound.specs.Points.{IsReadable, IsBounded, AreBounded, HoldsAt}
 use Rattle.ckc_typed.specs.declared.environment.Globals.{Globals}
-use Rattle.ckc_blame_numbers.specs.Typed.{Agrees}
+use Rattle.ckc_blame_sound.specs.Typed.{Agrees}
 use Rattle.ckc_blame_pointers.specs.Valuations.{Valuation, Fits, address_by, HasEnds, IsTrueBetween, IsInRange, IsReadIn, BaseBetween, RangeBetween}
 use Rattle.ckc_blame_pointers.specs.Covered.{IsLocalBase, IsLocalForm, DeclareLocals, IsInScope}
 use Rattle.ckc_blame_pointers.specs.Meant.{IsNotStuck}

@@ -42,8 +42,8 @@ use Rattle.ckc_bounds_views.specs.Views.{node_view, view, view_of_limits, view_o
 use Rattle.ckc_bounds_statements.specs.Paths.{Here}
 use Rattle.ckc_source.specs.Eval.{Store}
 use Rattle.ckc_blame_sound.specs.Settings.{Setting}
-use Rattle.ckc_blame_numbers.specs.Typed.{IsRow, HasRow, IsTyped, Agrees}
-use Rattle.ckc_blame_numbers.proofs.Types.{some_is, no_pointer, number_wide, size_wide, sign_row, arithmetic_row, wide_type}
+use Rattle.ckc_blame_sound.specs.Typed.{IsRow, HasRow, IsTyped, Agrees}
+use Rattle.ckc_blame_sound.proofs.Types.{some_is, no_pointer, number_wide, size_wide, sign_row, arithmetic_row, wide_type}
 use Rattle.ckc_blame_pointers.specs.Covered.{DeclareOnes, IsStaticInteger, IsStaticArray, IsStaticPointer, IsStaticBounded, IsStaticStructure, IsIntegerMember, IsPointerMember, IsArrow, IsPointerArrow, IsCoveredUnary, IsCoveredNode, IsCoveredExpr, AreCovered}
 use Rattle.ckc_blame_pointers.proofs.Addresses.{address_row}
 use Rattle.ckc_blame_pointers.proofs.Arrows.{arrow_node}

@@ -24,7 +24,7 @@ use Rattle.ckc_build_values.specs.Kinds.{pointee_of, size_behind}
 use Rattle.ckc_blame_sound.specs.Settings.{Setting}
 use Rattle.ckc_blame_sound.specs.Values.{value}
 use Rattle.ckc_blame_sound.specs.Points.{IsReadable, IsBounded, HoldsAt}
-use Rattle.ckc_blame_numbers.specs.Typed.{Agrees}
+use Rattle.ckc_blame_sound.specs.Typed.{Agrees}
 use Rattle.ckc_blame_pointers.specs.Valuations.{Valuation}
 use Rattle.ckc_blame_pointers.specs.Covered.{IsLocalForm, DeclareLocals, DeclareOnes}
 use Rattle.ckc_blame_pointers.proofs.Reading.{Ranged, Reads, reads_gives, ok_gives, end_is, range_local}

@@ -39,11 +39,11 @@ use Rattle.ckc_build_values.specs.Places.{Place, read_at}
 use Rattle.ckc_blame_sound.specs.Settings.{Setting}
 use Rattle.ckc_blame_sound.specs.Points.{AreBounded, HoldsAt}
 use Rattle.ckc_blame_sound.specs.Slots.{Slot, AreFilled, slot_by, slot_of_member, slots_in, slots_of}
-use Rattle.ckc_blame_numbers.proofs.Types.{word_wide}
-use Rattle.ckc_blame_slots.specs.Cells.{IsReached}
-use Rattle.ckc_blame_slots.proofs.Ranges.{contains_at}
-use Rattle.ckc_blame_texts.proofs.Accesses.{scalar_part}
-use Rattle.ckc_blame_texts.proofs.Lists.{all_by}
+use Rattle.ckc_blame_sound.proofs.Types.{word_wide}
+use Rattle.ckc_blame_sound.specs.Cells.{IsReached}
+use Rattle.ckc_blame_sound.proofs.Ranges.{contains_at}
+use Rattle.ckc_blame_sound.proofs.Accesses.{scalar_part}
+use Rattle.ckc_blame_sound.proofs.Lists.{all_by}
 use Rattle.ckc_blame_pointers.specs.Covered.{KeepRunsFree, IsSoundStore}
 use Rattle.ckc_blame_pointers.specs.Meant.{IsNotStuck}
 use Rattle.ckc_blame_pointers.proofs.Arrays.{object_at}

@@ -42,7 +42,7 @@ use Rattle.ckc_build_values.specs.Places.{object_place, read_at}
 use Rattle.ckc_blame_sound.specs.Settings.{Setting}
 use Rattle.ckc_blame_sound.specs.Points.{HoldsAt}
 use Rattle.ckc_blame_sound.specs.Slots.{AreFilled, Slot, slot_by, slots_in, slots_of}
-use Rattle.ckc_blame_slots.proofs.Ranges.{contains_at}
+use Rattle.ckc_blame_sound.proofs.Ranges.{contains_at}
 use Rattle.ckc_blame_pointers.specs.Valuations.{Valuation, Fits, RangeBetween, IsInRange}
 use Rattle.ckc_blame_pointers.specs.Covered.{IsSoundStore, IsStaticPointer, IsCountedAs, IsStaticBounded}
 use Rattle.ckc_blame_pointers.specs.Meant.{IsNotStuck}
@@ -52,13 +52,13 @@ use Rattle.ckc_blame_pointers.proofs.Later.{zero_typed}
 use Rattle.ckc_blame_pointers.proofs.Nodes.{NodeClaims}
 use Rattle.ckc_blame_pointers.proofs.Reading.{Ranged}
 use Rattle.ckc_blame_pointers.proofs.Own.{fixed_reads, own_claims, own_between, own_range, constant_counts, kind_between, kind_range, kind_one, same_count}
-use Rattle.ckc_blame_slots.specs.Cells.{IsCell, IsPart}
-use Rattle.ckc_blame_slots.proofs.Apart.{cell_there, cell_address}
-use Rattle.ckc_blame_slots.proofs.Objects.{object_cell}
-use Rattle.ckc_blame_slots.proofs.Reached.{place_is}
-use Rattle.ckc_blame_slots.proofs.Stores.{load_goes}
-use Rattle.ckc_blame_texts.proofs.Accesses.{scalar_part}
-use Rattle.ckc_blame_numbers.proofs.Types.{word_wide}
+use Rattle.ckc_blame_sound.specs.Cells.{IsCell, IsPart}
+use Rattle.ckc_blame_sound.proofs.Apart.{cell_there, cell_address}
+use Rattle.ckc_blame_sound.proofs.Objects.{object_cell}
+use Rattle.ckc_blame_sound.proofs.Reached.{place_is}
+use Rattle.ckc_blame_sound.proofs.Stores.{load_goes}
+use Rattle.ckc_blame_sound.proofs.Accesses.{scalar_part}
+use Rattle.ckc_blame_sound.proofs.Types.{word_wide}
 use Rattle.ckc_blame_pointers.proofs.Loads.{loaded_in, word_loaded}
 use Rattle.ckc_blame_pointers.proofs.Scalars.{pointer_scalar}
 

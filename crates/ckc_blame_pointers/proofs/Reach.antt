@@ -21,10 +21,10 @@ use Rattle.ckc_build_values.specs.Members.{offset_of}
 use Rattle.ckc_build_values.specs.Places.{Place, member_place, read_at, address_at}
 use Rattle.ckc_typed.specs.declared.typed.Typed.{Typed}
 use Rattle.ckc_blame_sound.specs.Values.{IsWordOf}
-use Rattle.ckc_blame_slots.specs.Cells.{IsPart, IsCell, AreSound}
-use Rattle.ckc_blame_slots.proofs.Apart.{cell_there, cell_address}
-use Rattle.ckc_blame_slots.proofs.Reached.{place_is}
-use Rattle.ckc_blame_slots.proofs.Stores.{load_goes}
+use Rattle.ckc_blame_sound.specs.Cells.{IsPart, IsCell, AreSound}
+use Rattle.ckc_blame_sound.proofs.Apart.{cell_there, cell_address}
+use Rattle.ckc_blame_sound.proofs.Reached.{place_is}
+use Rattle.ckc_blame_sound.proofs.Stores.{load_goes}
 use Rattle.ckc_blame_pointers.specs.Meant.{IsNotStuck}
 use Rattle.ckc_blame_pointers.proofs.Loads.{loaded_in, word_loaded}
 use Rattle.ckc_blame_pointers.proofs.Structures.{IsWholeElement, IsStructureAt}

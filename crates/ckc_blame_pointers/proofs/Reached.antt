@@ -21,12 +21,12 @@ use Rattle.ckc_build_values.specs.Kinds.{width_of}
 use Rattle.ckc_build_values.specs.Members.{offset_of}
 use Rattle.ckc_build_elaborate.specs.Shapes.{is_run, shapes_elaborated}
 use Rattle.ckc_blame_sound.specs.Sound.{IsPlaced}
-use Rattle.ckc_blame_slots.specs.Cells.{AreMembers, IsCell, IsReached}
-use Rattle.ckc_blame_slots.proofs.Objects.{made_shape, shapes_at, no_shapes, run_among}
-use Rattle.ckc_blame_slots.proofs.Places.{elements_between, fewer}
-use Rattle.ckc_blame_slots.proofs.Ranges.{Within, within, some_below, some_of, contains_at, scalar_part, true_cell}
-use Rattle.ckc_blame_slots.proofs.Same.{same_equal}
-use Rattle.ckc_blame_texts.proofs.Accesses as accesses
+use Rattle.ckc_blame_sound.specs.Cells.{AreMembers, IsCell, IsReached}
+use Rattle.ckc_blame_sound.proofs.Objects.{made_shape, shapes_at, no_shapes, run_among}
+use Rattle.ckc_blame_sound.proofs.Places.{elements_between, fewer}
+use Rattle.ckc_blame_sound.proofs.Ranges.{Within, within, some_below, some_of, contains_at, scalar_part, true_cell}
+use Rattle.ckc_blame_sound.proofs.Same.{same_equal}
+use Rattle.ckc_blame_sound.proofs.Accesses as accesses
 use Rattle.ckc_blame_pointers.proofs.Truths.{either}
 
 -- ---- the members that pointers with known limits may point to

@@ -22,7 +22,7 @@ use Rattle.ckc_build_values.specs.Kinds.{size_behind, count_of_kind}
 use Rattle.ckc_build_values.specs.Places.{element_place, read_at}
 use Rattle.ckc_blame_sound.specs.Settings.{Setting}
 use Rattle.ckc_blame_sound.specs.Points.{HoldsAt}
-use Rattle.ckc_blame_numbers.specs.Typed.{Agrees}
+use Rattle.ckc_blame_sound.specs.Typed.{Agrees}
 use Rattle.ckc_blame_sound.specs.Bodies.{AreFresh}
 use Rattle.ckc_blame_pointers.specs.Valuations.{address_by}
 use Rattle.ckc_blame_pointers.specs.Covered.{DeclareLocals, IsSoundStore, IsElement}

@@ -37,7 +37,7 @@ use Rattle.ckc_blame_sound.specs.Settings.{Setting}
 use Rattle.ckc_blame_sound.specs.Values.{value, number_of}
 use Rattle.ckc_blame_sound.specs.Points.{IsReadable, IsBounded, HoldsAt}
 use Rattle.ckc_blame_sound.proofs.Flow.{variable_value, integer_value}
-use Rattle.ckc_blame_numbers.specs.Typed.{Agrees}
+use Rattle.ckc_blame_sound.specs.Typed.{Agrees}
 use Rattle.ckc_blame_pointers.specs.Valuations.{Valuation, Fits, address_in, address_by}
 use Rattle.ckc_blame_pointers.specs.Covered.{IsIntegerLocal, IsLocalVariable, IsLocalBase, IsLocalForm, AreLocalBounds, DeclareLocals}
 use Rattle.ckc_blame_pointers.specs.Meant.{IsNotStuck}

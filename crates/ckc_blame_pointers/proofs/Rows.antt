@@ -21,7 +21,7 @@ use Rattle.ckc_source.specs.Eval.{Store, stops, plain, operates, evaluated}
 use Rattle.ckc_source.specs.Words.{truth, operator, computed, divides}
 use Rattle.ckc_build_values.specs.Operators.{is_signed_at, of_operands}
 use Rattle.ckc_blame_sound.specs.Values.{IsWordOf}
-use Rattle.ckc_blame_numbers.proofs.Types.{some_is, none_is_some, IsWide, wide_type, arithmetic_row, wide_word}
+use Rattle.ckc_blame_sound.proofs.Types.{some_is, none_is_some, IsWide, wide_type, arithmetic_row, wide_word}
 use Rattle.ckc_blame_pointers.specs.Meant.{IsNotStuck}
 use Rattle.ckc_blame_pointers.proofs.Claims.{both_go_on}
 

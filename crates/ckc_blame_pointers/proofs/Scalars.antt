@@ -20,8 +20,8 @@ use Rattle.ckc_typed.specs.Trees.{NotedExpr, NotedLayer}
 use Rattle.ckc_typed.specs.Types.{is_integer, is_integer_form, is_pointer, is_pointer_form, is_void, is_scalar, kind_of, is_object_type, kind_in, element_of}
 use Rattle.ckc_typed_welltyped.specs.Expressions.{AnyLimits, AnyNode}
 use Rattle.ckc_blame_sound.specs.Settings.{Setting}
-use Rattle.ckc_blame_numbers.specs.Typed.{IsRow, HasRow, IsTyped}
-use Rattle.ckc_blame_numbers.proofs.Types.{number_wide}
+use Rattle.ckc_blame_sound.specs.Typed.{IsRow, HasRow, IsTyped}
+use Rattle.ckc_blame_sound.proofs.Types.{number_wide}
 use Rattle.ckc_blame_pointers.specs.Covered.{IsThrough}
 use Rattle.ckc_blame_pointers.proofs.Truths.{either}
 

@@ -10,8 +10,8 @@ use Rattle.ckc_source.specs.declared.program.Shape.{Shape}
 use Rattle.ckc_source.specs.Blocks.{Block, end_of}
 use Rattle.ckc_source.specs.Runs.{is_within, is_in_block, is_at, is_in_some_element, is_in_member, member_runs, is_in, is_true}
 use Rattle.ckc_source.specs.Words.{elements_behind}
-use Rattle.ckc_blame_slots.proofs.Ranges.{Within, within, some_below}
-use Rattle.ckc_blame_contained.proofs.Narrower.{closer_true}
+use Rattle.ckc_blame_sound.proofs.Ranges.{Within, within, some_below}
+use Rattle.ckc_blame_sound.proofs.Narrower.{closer_true}
 use Rattle.ckc_blame_pointers.proofs.Numbers.{away}
 use Rattle.ckc_blame_pointers.proofs.Truths.{either}
 

@@ -19,7 +19,7 @@ use Rattle.ckc_source.specs.Runs.{is_true}
 use Rattle.ckc_build_values.specs.Kinds.{width_of, through_kind, pointee_of, size_behind}
 use Rattle.ckc_blame_sound.specs.Settings.{Setting}
 use Rattle.ckc_blame_sound.specs.Points.{AreBounded, HoldsAt}
-use Rattle.ckc_blame_slots.specs.Cells.{IsPart}
+use Rattle.ckc_blame_sound.specs.Cells.{IsPart}
 use Rattle.ckc_blame_pointers.proofs.Truths.{first_reached}
 use Rattle.ckc_blame_pointers.specs.Covered.{DeclareOnes, IsSoundStore}
 use Rattle.ckc_blame_pointers.specs.Meant.{IsNotStuck}

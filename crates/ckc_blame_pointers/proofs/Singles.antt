@@ -54,12 +54,12 @@ use Rattle.ckc_blame_sound.specs.Settings.{Setting}
 use Rattle.ckc_blame_sound.specs.Points.{HoldsAt}
 use Rattle.ckc_blame_sound.specs.Values.{IsNumberOf}
 use Rattle.ckc_blame_sound.specs.Sound.{IsPlaced}
-use Rattle.ckc_blame_slots.specs.Cells.{IsCell, IsPart}
-use Rattle.ckc_blame_slots.proofs.Apart.{placed_at, cell_address}
-use Rattle.ckc_blame_slots.proofs.Objects.{made_shape, shapes_at}
-use Rattle.ckc_blame_slots.proofs.Parts.{form_width, sized_form, part_lies}
-use Rattle.ckc_blame_slots.proofs.Places.{element_between}
-use Rattle.ckc_blame_slots.proofs.Reached.{place_is}
+use Rattle.ckc_blame_sound.specs.Cells.{IsCell, IsPart}
+use Rattle.ckc_blame_sound.proofs.Apart.{placed_at, cell_address}
+use Rattle.ckc_blame_sound.proofs.Objects.{made_shape, shapes_at}
+use Rattle.ckc_blame_sound.proofs.Parts.{form_width, sized_form, part_lies}
+use Rattle.ckc_blame_sound.proofs.Places.{element_between}
+use Rattle.ckc_blame_sound.proofs.Reached.{place_is}
 use Rattle.ckc_blame_pointers.specs.Covered.{IsFreeObject, IsScalarMember, IsSoundStore}
 use Rattle.ckc_blame_pointers.specs.Meant.{IsNotStuck}
 use Rattle.ckc_blame_pointers.proofs.Arrays.{type_same, object_at}

@@ -19,12 +19,12 @@ use Rattle.ckc_build_values.specs.Names.{address_of, array_in, array_of}
 use Rattle.ckc_build_values.specs.Places.{object_place, read_at}
 use Rattle.ckc_blame_sound.specs.Settings.{Setting}
 use Rattle.ckc_blame_sound.specs.Points.{HoldsAt}
-use Rattle.ckc_blame_numbers.proofs.Types.{no_pointer}
-use Rattle.ckc_blame_slots.specs.Cells.{IsCell, IsPart}
-use Rattle.ckc_blame_slots.proofs.Apart.{cell_there, cell_address}
-use Rattle.ckc_blame_slots.proofs.Objects.{object_cell}
-use Rattle.ckc_blame_slots.proofs.Reached.{place_is}
-use Rattle.ckc_blame_slots.proofs.Stores.{load_goes}
+use Rattle.ckc_blame_sound.proofs.Types.{no_pointer}
+use Rattle.ckc_blame_sound.specs.Cells.{IsCell, IsPart}
+use Rattle.ckc_blame_sound.proofs.Apart.{cell_there, cell_address}
+use Rattle.ckc_blame_sound.proofs.Objects.{object_cell}
+use Rattle.ckc_blame_sound.proofs.Reached.{place_is}
+use Rattle.ckc_blame_sound.proofs.Stores.{load_goes}
 use Rattle.ckc_blame_pointers.specs.Covered.{IsSoundStore, IsStaticInteger}
 use Rattle.ckc_blame_pointers.specs.Meant.{IsNotStuck}
 use Rattle.ckc_blame_pointers.proofs.Claims.{nothing_read}

@@ -15,11 +15,11 @@ use Rattle.ckc_source.specs.declared.program.Shape.{Shape}
 use Rattle.ckc_source.specs.Blocks.{Block, end_of}
 use Rattle.ckc_source.specs.Runs.{is_within, is_in_block, is_in_some_element, is_in_member, runs_of, runs_in, member_runs, is_in, is_true}
 use Rattle.ckc_blame_sound.specs.Sound.{IsPlaced}
-use Rattle.ckc_blame_slots.specs.Cells.{AreMembers, IsReached}
-use Rattle.ckc_blame_slots.proofs.Parts.{HasSize, sized_form, scalar_member}
-use Rattle.ckc_blame_slots.proofs.Places.{elements_between, fewer}
-use Rattle.ckc_blame_slots.proofs.Ranges.{Within, within, some_of, contains_at}
-use Rattle.ckc_blame_slots.proofs.Same.{same_equal}
+use Rattle.ckc_blame_sound.specs.Cells.{AreMembers, IsReached}
+use Rattle.ckc_blame_sound.proofs.Parts.{HasSize, sized_form, scalar_member}
+use Rattle.ckc_blame_sound.proofs.Places.{elements_between, fewer}
+use Rattle.ckc_blame_sound.proofs.Ranges.{Within, within, some_of, contains_at}
+use Rattle.ckc_blame_sound.proofs.Same.{same_equal}
 use Rattle.ckc_blame_pointers.proofs.Truths.{either}
 
 -- the element of a block of a type at an address

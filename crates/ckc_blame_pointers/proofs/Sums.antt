@@ -37,7 +37,7 @@ use Rattle.ckc_build_values.specs.Operators.{is_signed_at, shift, distance, of_o
 use Rattle.ckc_blame_sound.specs.Settings.{Setting}
 use Rattle.ckc_blame_sound.specs.Values.{number_of}
 use Rattle.ckc_blame_sound.specs.Points.{HoldsAt}
-use Rattle.ckc_blame_numbers.proofs.Types.{no_pointer}
+use Rattle.ckc_blame_sound.proofs.Types.{no_pointer}
 use Rattle.ckc_blame_sound.specs.Bodies.{AreFresh}
 use Rattle.ckc_blame_pointers.specs.Valuations.{Valuation, Fits, Extends, AreNumbers}
 use Rattle.ckc_blame_pointers.specs.Meant.{IsNotStuck}

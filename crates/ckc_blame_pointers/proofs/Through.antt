@@ -23,8 +23,8 @@ use Rattle.ckc_build_values.specs.Places.{element_place, target_place}
 use Rattle.ckc_blame_sound.specs.Settings.{Setting}
 use Rattle.ckc_blame_sound.specs.Points.{HoldsAt}
 use Rattle.ckc_blame_sound.specs.Bodies.{AreFresh}
-use Rattle.ckc_blame_slots.specs.Cells.{IsReached}
-use Rattle.ckc_blame_slots.proofs.Objects.{are_members}
+use Rattle.ckc_blame_sound.specs.Cells.{IsReached}
+use Rattle.ckc_blame_sound.proofs.Objects.{are_members}
 use Rattle.ckc_linear.specs.declared.forms.Form.{Form}
 use Rattle.ckc_blame_pointers.specs.Valuations.{Valuation, HasEnds}
 use Rattle.ckc_blame_pointers.specs.Covered.{DeclareOnes, IsThrough, IsSoundStore}

@@ -9,9 +9,9 @@ use Rattle.ckc_source.specs.declared.program.MemberRun.{MemberRun}
 use Rattle.ckc_source.specs.declared.program.Shape.{Shape}
 use Rattle.ckc_source.specs.Blocks.{Block, end_of}
 use Rattle.ckc_source.specs.Runs.{is_within, is_in_block, is_at, is_in_some_element, is_in_member, member_runs, is_in, is_true}
-use Rattle.ckc_blame_slots.specs.Cells.{IsReached}
-use Rattle.ckc_blame_slots.proofs.Reached.{itself_reached}
-use Rattle.ckc_blame_slots.proofs.Ranges.{within, some_below, some_of}
+use Rattle.ckc_blame_sound.specs.Cells.{IsReached}
+use Rattle.ckc_blame_sound.proofs.Reached.{itself_reached}
+use Rattle.ckc_blame_sound.proofs.Ranges.{within, some_below, some_of}
 use Rattle.std.proofs.lemmas.Bool.{and_parts}
 
 pub either : (a b : Bool) → (a || b) ≡ true → (a ≡ true) ⊎ (b ≡ true)

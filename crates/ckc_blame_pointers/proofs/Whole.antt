@@ -13,9 +13,9 @@ use Rattle.ckc_build_values.specs.Expressions.{expr_elaborated}
 use Rattle.ckc_blame_sound.specs.Settings.{Setting, AreStrings}
 use Rattle.ckc_blame_sound.specs.Values.{IsWordOf}
 use Rattle.ckc_blame_sound.specs.Points.{HoldsAt}
-use Rattle.ckc_blame_numbers.specs.Typed.{IsTyped, Agrees}
-use Rattle.ckc_blame_numbers.proofs.Exprs as numbers
-use Rattle.ckc_blame_numbers.proofs.Judging.{judged_typed}
+use Rattle.ckc_blame_sound.specs.Typed.{IsTyped, Agrees}
+use Rattle.ckc_blame_sound.proofs.Exprs as numbers
+use Rattle.ckc_blame_sound.proofs.Judging.{judged_typed}
 use Rattle.ckc_blame_pointers.specs.Valuations.{Valuation, Extends}
 use Rattle.ckc_blame_pointers.specs.Covered.{DeclareLocals, IsSoundStore, IsCovered}
 use Rattle.ckc_blame_sound.specs.Bodies.{AreFresh}
@@ -25,7 +25,7 @@ use Rattle.ckc_blame_pointers.proofs.Claims.{weaker}
 use Rattle.ckc_blame_pointers.proofs.Exprs.{point_of}
 use Rattle.ckc_blame_pointers.proofs.Induction.{expr_claims}
 use Rattle.ckc_blame_pointers.proofs.Later.{extends_self}
-use Rattle.ckc_blame_texts.proofs.SameViews.{same_view}
+use Rattle.ckc_blame_sound.proofs.SameViews.{same_view}
 
 module _ (globals : Globals) (s : Setting) (agrees : Agrees globals s) (declares : DeclareLocals s) (store : Store) (entry : List ℕ) (next : ℕ) (ready : IsSoundStore s store next) (here : Here) where
   meant : (e : NotedExpr) → IsTyped globals s e → HoldsAt s store entry here → (k : ℕ) (p : Value) → evaluated store (expr_elaborated s.text s.variables k e) ≡ Ok p

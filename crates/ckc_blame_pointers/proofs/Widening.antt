@@ -19,12 +19,12 @@ use Rattle.ckc_source.specs.LaidOut.{AreApart}
 use Rattle.ckc_source.specs.Runs.{is_within, is_in_block, is_in_member, member_runs, is_in, is_true}
 use Rattle.ckc_build_values.specs.Kinds.{width_of}
 use Rattle.ckc_blame_sound.specs.Sound.{IsTerminated, IsPlaced}
-use Rattle.ckc_blame_slots.specs.Cells.{AreSound}
-use Rattle.ckc_blame_slots.proofs.Apart.{base_from, placed_at}
-use Rattle.ckc_blame_slots.proofs.Parts.{Lies, part_lies}
-use Rattle.ckc_blame_slots.proofs.Places.{elements_between, fewer, element_between}
-use Rattle.ckc_blame_slots.proofs.Ranges.{Within, within, some_of}
-use Rattle.ckc_blame_slots.proofs.Same.{same_equal}
+use Rattle.ckc_blame_sound.specs.Cells.{AreSound}
+use Rattle.ckc_blame_sound.proofs.Apart.{base_from, placed_at}
+use Rattle.ckc_blame_sound.proofs.Parts.{Lies, part_lies}
+use Rattle.ckc_blame_sound.proofs.Places.{elements_between, fewer, element_between}
+use Rattle.ckc_blame_sound.proofs.Ranges.{Within, within, some_of}
+use Rattle.ckc_blame_sound.proofs.Same.{same_equal}
 use Rattle.ckc_blame_pointers.proofs.Loads.{integer_part}
 
 pub any_at : {X : Type 0} (p : X → Bool) (xs : List X) (k : ℕ) (x : X) → slice_get xs k ≡ Some x → p x ≡ true → list_any p xs ≡ true

@@ -37,7 +37,7 @@ use Rattle.ckc_build_values.specs.Ends.{end_at}
 use Rattle.ckc_blame_sound.specs.Settings.{Setting}
 use Rattle.ckc_blame_sound.specs.Values.{number_of}
 use Rattle.ckc_blame_sound.specs.Points.{IsReadable, IsBounded, AreBounded, HoldsAt}
-use Rattle.ckc_blame_numbers.specs.Typed.{Agrees}
+use Rattle.ckc_blame_sound.specs.Typed.{Agrees}
 use Rattle.ckc_blame_pointers.specs.Valuations.{Valuation, Fits, address_in, address_by}
 use Rattle.ckc_blame_pointers.specs.Covered.{IsLocalForm, DeclareLocals, IsSoundStore}
 use Rattle.ckc_blame_pointers.proofs.Numbers.{elements_twice}

@@ -48,7 +48,7 @@ use Rattle.ckc_build_elaborate.specs.Objects.{object_elaborated, objects_elabora
 use Rattle.ckc_build_elaborate.specs.Shapes.{shapes_elaborated}
 use Rattle.ckc_blame_sound.specs.Settings.{Setting}
 use Rattle.ckc_blame_sound.specs.Slots.{AreFilled}
-use Rattle.ckc_blame_slots.specs.Cells.{AreSound, HaveOwnNames}
+use Rattle.ckc_blame_sound.specs.Cells.{AreSound, HaveOwnNames}
 
 -- ---- memory
 

@@ -12,7 +12,7 @@ ghost use Rattle.ckc_source.specs.Eval.{Store, evaluated};
 ghost use Rattle.ckc_build_values.specs.Expressions.{expr_elaborated};
 ghost use Rattle.ckc_blame_sound.specs.Settings.{Setting, AreStrings};
 ghost use Rattle.ckc_blame_sound.specs.Points.{HoldsAt};
-ghost use Rattle.ckc_blame_numbers.specs.Typed.{IsTyped, Agrees};
+ghost use Rattle.ckc_blame_sound.specs.Typed.{IsTyped, Agrees};
 ghost use Rattle.ckc_blame_sound.specs.Bodies.{AreFresh};
 ghost use Rattle.ckc_blame_pointers.specs.Covered.{DeclareLocals, IsSoundStore, IsCovered};
 ghost use Rattle.ckc_blame_pointers.specs.Meant.{IsNotStuck, IsMeant};

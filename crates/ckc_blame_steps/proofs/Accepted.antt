@@ -6,10 +6,10 @@ use Rattle.ckc_syntax.specs.declared.tree.Name.{Name}
 use Rattle.ckc_syntax.specs.declared.tree.Expr.{every_here-Expr}
 use Rattle.ckc_typed.specs.declared.typed.Note.{Note}
 use Rattle.ckc_typed_welltyped.specs.Expressions.{AnyLimits, AnyNode}
-use Rattle.ckc_blame_facts.specs.Rooms.{HasPlaces}
-use Rattle.ckc_blame_facts.specs.Values.{HasFewValues}
-use Rattle.ckc_blame_facts.proofs.Modes.{step_spot, step_mode}
-use Rattle.ckc_blame_facts.proofs.Ones.{ones_declared}
+use Rattle.ckc_blame_steps.specs.ExpressionRooms.{HasPlaces}
+use Rattle.ckc_blame_steps.specs.Values.{HasFewValues}
+use Rattle.ckc_blame_steps.proofs.Modes.{step_spot, step_mode}
+use Rattle.ckc_blame_steps.proofs.Ones.{ones_declared}
 use Rattle.ckc_base.specs.declared.arithmetic.Mode.TheVariants.{Checked}
 use Rattle.ckc_syntax_limits.specs.Small.{Small}
 use Rattle.ckc_typed.specs.declared.typed.Typed.{Typed}
@@ -42,12 +42,12 @@ use Rattle.ckc_blame_sound.specs.Slots.{AreFilled}
 use Rattle.ckc_blame_sound.specs.Sound.{Sound}
 use Rattle.ckc_blame_sound.specs.Steps.{IsStep, IsCondition}
 use Rattle.ckc_blame_sound.specs.Words.{HaveWords}
-use Rattle.ckc_blame_slots.specs.Cells.{AreSound, HaveOwnNames}
-use Rattle.ckc_blame_contained.specs.Elements.{NameIntegerMembers}
-use Rattle.ckc_blame_numbers.specs.Typed.{IsTypedIf}
-use Rattle.ckc_blame_numbers.proofs.Statements.{pair_same}
-use Rattle.ckc_blame_texts.specs.Judged.{IsJudged, globals_in}
-use Rattle.ckc_blame_texts.proofs.Members.{have_own_names}
+use Rattle.ckc_blame_sound.specs.Cells.{AreSound, HaveOwnNames}
+use Rattle.ckc_blame_sound.specs.Elements.{NameIntegerMembers}
+use Rattle.ckc_blame_sound.specs.Typed.{IsTypedIf}
+use Rattle.ckc_blame_sound.proofs.Statements.{pair_same}
+use Rattle.ckc_blame_sound.specs.JudgedTexts.{IsJudged, globals_in}
+use Rattle.ckc_blame_sound.proofs.Members.{have_own_names}
 use Rattle.ckc_blame_pointers.specs.Covered.{DeclareOnes, IsSoundStore, IsCovered, IsInScope}
 use Rattle.ckc_blame_given.specs.Targets.{KeepRunsFree}
 use Rattle.ckc_blame_nested.proofs.Whole.{typed_nested}
@@ -58,20 +58,20 @@ use Rattle.ckc_blame_walk.proofs.NamedStatics.{members_named}
 use Rattle.ckc_blame_declared.proofs.Integers.{members_count_integers}
 use Rattle.ckc_blame_control.specs.Ready.{Faces}
 use Rattle.ckc_blame_control.proofs.Typed.{condition_typed, point_known}
-use Rattle.ckc_blame_facts.specs.Checked.{IsChecked}
-use Rattle.ckc_blame_facts.specs.Told.{IsTold, IsSpoken}
-use Rattle.ckc_blame_facts.proofs.Checked.{condition_checked}
-use Rattle.ckc_blame_facts.proofs.Given.{texts_given}
-use Rattle.ckc_blame_facts.proofs.Judged.{condition_covered, judged_as}
-use Rattle.ckc_blame_facts.proofs.LaidOut.{programs_laid_out}
-use Rattle.ckc_blame_facts.proofs.Rooms.{condition_places}
-use Rattle.ckc_blame_facts.proofs.Runs.{runs_free}
-use Rattle.ckc_blame_facts.proofs.Scoped.{texts_are_safe}
-use Rattle.ckc_blame_facts.proofs.Small.{few_locals}
-use Rattle.ckc_blame_facts.proofs.SmallNames.{names_small}
-use Rattle.ckc_blame_facts.proofs.Spoken.{checked_spoken}
-use Rattle.ckc_blame_facts.proofs.Texts.{texts_are_told}
-use Rattle.ckc_blame_facts.proofs.Variables.{locals_declared, step_scope, test_scope}
+use Rattle.ckc_blame_steps.specs.Checked.{IsChecked}
+use Rattle.ckc_blame_steps.specs.Told.{IsTold, IsSpoken}
+use Rattle.ckc_blame_steps.proofs.Checked.{condition_checked}
+use Rattle.ckc_blame_steps.proofs.GivenBodies.{texts_given}
+use Rattle.ckc_blame_steps.proofs.Judged.{condition_covered, judged_as}
+use Rattle.ckc_blame_steps.proofs.LaidOut.{programs_laid_out}
+use Rattle.ckc_blame_steps.proofs.ExpressionRooms.{condition_places}
+use Rattle.ckc_blame_steps.proofs.Runs.{runs_free}
+use Rattle.ckc_blame_steps.proofs.Scoped.{texts_are_safe}
+use Rattle.ckc_blame_steps.proofs.Small.{few_locals}
+use Rattle.ckc_blame_steps.proofs.SmallNames.{names_small}
+use Rattle.ckc_blame_steps.proofs.Spoken.{checked_spoken}
+use Rattle.ckc_blame_steps.proofs.Texts.{texts_are_told}
+use Rattle.ckc_blame_steps.proofs.Variables.{locals_declared, step_scope, test_scope}
 use Rattle.ckc_blame_steps.specs.Accepted.{IsAccepted}
 use Rattle.ckc_blame_steps.specs.Arguments.{GiveWords, literals_before, numbers_behind}
 use Rattle.ckc_blame_steps.specs.Before.{Premises, IsCoveredThere, AreCoveredThere, IsCoveredIf}

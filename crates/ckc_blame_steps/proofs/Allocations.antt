@@ -52,21 +52,21 @@ use Rattle.ckc_blame_sound.specs.Settings.{Setting, AreStrings, IsFunction, sett
 use Rattle.ckc_blame_sound.specs.Values.{NamesIntegers, IsNumberOf, number_of}
 use Rattle.ckc_blame_sound.specs.Valuations.{Valuation, AreFacts, IsValuationOf, form_address}
 use Rattle.ckc_blame_sound.proofs.Flow.{word_lies}
-use Rattle.ckc_blame_numbers.specs.Typed.{IsTyped, Agrees}
-use Rattle.ckc_blame_numbers.proofs.Types.{word_wide}
-use Rattle.ckc_blame_numbers.proofs.Words.{signed_is}
-use Rattle.ckc_blame_slots.specs.Cells.{IsMade}
-use Rattle.ckc_blame_slots.specs.Limited.{AreSlotParts}
-use Rattle.ckc_blame_slots.proofs.Fresh.{sound_with}
-use Rattle.ckc_blame_slots.proofs.Made.{made_filled}
-use Rattle.ckc_blame_slots.proofs.Same.{same_equal}
-use Rattle.ckc_blame_texts.specs.Judged.{IsJudged, globals_in}
-use Rattle.ckc_blame_texts.proofs.Frames.{frames_agree}
-use Rattle.ckc_blame_texts.proofs.SameViews.{same_view}
-use Rattle.ckc_blame_contained.specs.Containment.{IsNarrowed, IsRanged, IsReadWithin, HasElement}
-use Rattle.ckc_blame_contained.specs.Elements.{number_kept}
-use Rattle.ckc_blame_contained.specs.Given.{memory_of}
-use Rattle.ckc_blame_contained.proofs.Agree.{facts_agree}
+use Rattle.ckc_blame_sound.specs.Typed.{IsTyped, Agrees}
+use Rattle.ckc_blame_sound.proofs.Types.{word_wide}
+use Rattle.ckc_blame_sound.proofs.IntegerWords.{signed_is}
+use Rattle.ckc_blame_sound.specs.Cells.{IsMade}
+use Rattle.ckc_blame_sound.specs.Limited.{AreSlotParts}
+use Rattle.ckc_blame_sound.proofs.Fresh.{sound_with}
+use Rattle.ckc_blame_sound.proofs.Made.{made_filled}
+use Rattle.ckc_blame_sound.proofs.Same.{same_equal}
+use Rattle.ckc_blame_sound.specs.JudgedTexts.{IsJudged, globals_in}
+use Rattle.ckc_blame_sound.proofs.Frames.{frames_agree}
+use Rattle.ckc_blame_sound.proofs.SameViews.{same_view}
+use Rattle.ckc_blame_sound.specs.Containment.{IsNarrowed, IsRanged, IsReadWithin, HasElement}
+use Rattle.ckc_blame_sound.specs.Elements.{number_kept}
+use Rattle.ckc_blame_sound.specs.GivenValues.{memory_of}
+use Rattle.ckc_blame_sound.proofs.Agree.{facts_agree}
 use Rattle.ckc_blame_control.proofs.Kept.{holds_kept, blocks_keep_ranges}
 use Rattle.ckc_blame_pointers.specs.Covered.{DeclareLocals, IsCovered}
 use Rattle.ckc_blame_pointers.specs.Meant.{IsNotStuck}

@@ -31,10 +31,10 @@ use Rattle.ckc_blame_sound.specs.Bodies.{AreFresh}
 use Rattle.ckc_blame_sound.specs.Points.{HoldsAt}
 use Rattle.ckc_blame_sound.proofs.Strings.{strings_in_front}
 use Rattle.ckc_blame_sound.specs.Settings.{Setting, AreStrings}
-use Rattle.ckc_blame_numbers.specs.Typed.{HasRow, IsTyped, Agrees}
-use Rattle.ckc_blame_numbers.proofs.Judging.{judged_typed}
-use Rattle.ckc_blame_numbers.proofs.Statements.{made_of}
-use Rattle.ckc_blame_texts.proofs.SameViews.{same_view}
+use Rattle.ckc_blame_sound.specs.Typed.{HasRow, IsTyped, Agrees}
+use Rattle.ckc_blame_sound.proofs.Judging.{judged_typed}
+use Rattle.ckc_blame_sound.proofs.Statements.{made_of}
+use Rattle.ckc_blame_sound.proofs.SameViews.{same_view}
 use Rattle.ckc_blame_pointers.specs.Covered.{DeclareLocals, IsSoundStore, IsCovered}
 use Rattle.ckc_blame_pointers.specs.Meant.{IsNotStuck, IsMeant}
 use Rattle.ckc_blame_pointers.proofs.Inside.{Every, EveryNode, node_every}

@@ -16,7 +16,7 @@ use Rattle.ckc_build_values.specs.Expressions.{literals_of}
 use Rattle.ckc_build_elaborate.specs.Steps.{Destination, spot, destination_of, right_of, called, assigned, assigned_form}
 use Rattle.ckc_build_elaborate.specs.Statements.{act_code, stmt_elaborated}
 use Rattle.ckc_blame_sound.specs.Settings.{Setting, AreStrings}
-use Rattle.ckc_blame_numbers.proofs.Stepping.{parted, code_is, first_step}
+use Rattle.ckc_blame_sound.proofs.Stepping.{parted, code_is, first_step}
 use Rattle.ckc_blame_steps.specs.Granted.{IsCoveredCall, IsCoveredValue, IsCoveredRight}
 use Rattle.ckc_blame_steps.specs.Plans.{BecomesSides}
 use Rattle.ckc_blame_steps.proofs.Strings.{sides_strings}

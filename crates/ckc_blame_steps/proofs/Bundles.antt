@@ -40,11 +40,11 @@ use Rattle.ckc_blame_sound.specs.Settings.{Setting, AreStrings}
 use Rattle.ckc_blame_sound.specs.Sound.{Sound}
 use Rattle.ckc_blame_sound.specs.Steps.{IsStep}
 use Rattle.ckc_blame_sound.proofs.Strings.{strings_in_front, strings_after}
-use Rattle.ckc_blame_runs.specs.Moves.{IsSoundMove}
-use Rattle.ckc_blame_numbers.specs.Typed.{IsTyped, AreTypedSides, IsTypedAct}
-use Rattle.ckc_blame_numbers.proofs.Stepping.{ActLayer, act_back, parted, code_is, first_step}
-use Rattle.ckc_blame_numbers.proofs.Judging.{judged_typed}
-use Rattle.ckc_blame_texts.specs.Judged.{globals_in}
+use Rattle.ckc_blame_sound.specs.Moves.{IsSoundMove}
+use Rattle.ckc_blame_sound.specs.Typed.{IsTyped, AreTypedSides, IsTypedAct}
+use Rattle.ckc_blame_sound.proofs.Stepping.{ActLayer, act_back, parted, code_is, first_step}
+use Rattle.ckc_blame_sound.proofs.Judging.{judged_typed}
+use Rattle.ckc_blame_sound.specs.JudgedTexts.{globals_in}
 use Rattle.ckc_blame_given.specs.Together.{AreTogether}
 use Rattle.ckc_blame_given.proofs.Bundles.{bundle_together}
 use Rattle.ckc_blame_control.specs.Ready.{Faces}

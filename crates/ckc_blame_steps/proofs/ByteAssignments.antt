@@ -31,12 +31,12 @@ use Rattle.ckc_blame_sound.specs.Calls.{store_in}
 use Rattle.ckc_blame_sound.specs.Settings.{Setting, IsFunction}
 use Rattle.ckc_blame_sound.specs.Sound.{Sound}
 use Rattle.ckc_blame_sound.specs.Valuations.{Valuation}
-use Rattle.ckc_blame_runs.specs.Moves.{IsSoundMove}
-use Rattle.ckc_blame_numbers.proofs.Judging.{judged_typed}
-use Rattle.ckc_blame_numbers.proofs.Stepping.{parted, code_is, first_step}
-use Rattle.ckc_blame_texts.specs.Judged.{globals_in}
-use Rattle.ckc_blame_texts.proofs.Frames.{frames_agree}
-use Rattle.ckc_blame_texts.proofs.SameViews.{same_view}
+use Rattle.ckc_blame_sound.specs.Moves.{IsSoundMove}
+use Rattle.ckc_blame_sound.proofs.Judging.{judged_typed}
+use Rattle.ckc_blame_sound.proofs.Stepping.{parted, code_is, first_step}
+use Rattle.ckc_blame_sound.specs.JudgedTexts.{globals_in}
+use Rattle.ckc_blame_sound.proofs.Frames.{frames_agree}
+use Rattle.ckc_blame_sound.proofs.SameViews.{same_view}
 use Rattle.ckc_blame_control.specs.Ready.{Faces}
 use Rattle.ckc_blame_control.proofs.Moved.{stopped}
 use Rattle.ckc_blame_given.specs.Planned.{IsPlanned, ArePlanned}

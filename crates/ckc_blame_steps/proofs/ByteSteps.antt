@@ -24,10 +24,10 @@ use Rattle.ckc_blame_sound.specs.Calls.{store_in}
 use Rattle.ckc_blame_sound.specs.Settings.{Setting}
 use Rattle.ckc_blame_sound.specs.Sound.{Sound}
 use Rattle.ckc_blame_sound.specs.Valuations.{Valuation}
-use Rattle.ckc_blame_runs.specs.Moves.{IsSoundMove}
-use Rattle.ckc_blame_numbers.specs.Typed.{IsTyped, IsTypedInit, IsTypedAct}
-use Rattle.ckc_blame_numbers.proofs.Judging.{judged_typed}
-use Rattle.ckc_blame_texts.specs.Judged.{globals_in}
+use Rattle.ckc_blame_sound.specs.Moves.{IsSoundMove}
+use Rattle.ckc_blame_sound.specs.Typed.{IsTyped, IsTypedInit, IsTypedAct}
+use Rattle.ckc_blame_sound.proofs.Judging.{judged_typed}
+use Rattle.ckc_blame_sound.specs.JudgedTexts.{globals_in}
 use Rattle.ckc_blame_control.specs.Ready.{Faces}
 use Rattle.ckc_blame_control.proofs.Faced.{faces_get}
 use Rattle.ckc_blame_control.proofs.Moved.{move_by, stands_ready}

@@ -27,8 +27,8 @@ use Rattle.ckc_blame_sound.specs.Bodies.{AreFresh}
 use Rattle.ckc_blame_sound.specs.Settings.{Setting}
 use Rattle.ckc_blame_sound.specs.Values.{value, IsNumberOf}
 use Rattle.ckc_blame_sound.specs.Valuations.{Valuation, IsValuationOf, AreNumbersOf}
-use Rattle.ckc_blame_numbers.specs.Typed.{IsRow, HasRow, IsTyped}
-use Rattle.ckc_blame_texts.specs.Judged.{globals_in}
+use Rattle.ckc_blame_sound.specs.Typed.{IsRow, HasRow, IsTyped}
+use Rattle.ckc_blame_sound.specs.JudgedTexts.{globals_in}
 use Rattle.ckc_blame_pointers.proofs.Later.{zero_typed}
 use Rattle.ckc_blame_steps.proofs.Origins.{is_bundled, is_ending}
 use Rattle.ckc_blame_steps.proofs.Own.{own_valuation, own_values}

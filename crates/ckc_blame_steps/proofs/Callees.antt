@@ -19,9 +19,9 @@ use Rattle.ckc_build_elaborate.specs.Names.{number_of, params_of}
 use Rattle.ckc_build_elaborate.specs.Objects.{count_declared}
 use Rattle.ckc_blame_sound.specs.Settings.{setting_of}
 use Rattle.ckc_blame_sound.proofs.Strings.{NumbersStrings, numbers_first, numbers_later}
-use Rattle.ckc_blame_texts.specs.Judged.{IsJudged}
-use Rattle.ckc_blame_texts.proofs.Literals.{text_strings}
-use Rattle.ckc_blame_facts.proofs.Callees.{first_in, later_in, head_is}
+use Rattle.ckc_blame_sound.specs.JudgedTexts.{IsJudged}
+use Rattle.ckc_blame_sound.proofs.Literals.{text_strings}
+use Rattle.ckc_blame_steps.proofs.CalledHeads.{first_in, later_in, head_is}
 use Rattle.ckc_blame_steps.specs.Callees.{HaveCallees}
 
 -- a function of some items with this signature, at the number that its name has

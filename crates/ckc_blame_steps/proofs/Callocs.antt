@@ -26,9 +26,9 @@ use Rattle.ckc_bounds_views.specs.Parts.{View, capped, next_behind, with_last}
 use Rattle.ckc_bounds_views.specs.Ranges.{pointer_range, range_of_allocation}
 use Rattle.ckc_bounds_views.specs.Views.{node_view, expr_view, view}
 use Rattle.ckc_blame_sound.specs.Settings.{Setting}
-use Rattle.ckc_blame_numbers.specs.Typed.{IsRow, HasRow, IsTyped}
-use Rattle.ckc_blame_texts.proofs.SameViews.{same_view}
-use Rattle.ckc_blame_texts.proofs.Every.{NodeParts, node_hold, inside}
+use Rattle.ckc_blame_sound.specs.Typed.{IsRow, HasRow, IsTyped}
+use Rattle.ckc_blame_sound.proofs.SameViews.{same_view}
+use Rattle.ckc_blame_sound.proofs.Every.{NodeParts, node_hold, inside}
 use Rattle.ckc_blame_given.proofs.Views.{node_back, node_in, viewed_layer, view_is, allocates_is}
 use Rattle.ckc_blame_steps.specs.Plans.{counted_in}
 

@@ -19,8 +19,8 @@ use Rattle.ckc_bounds_views.specs.Ranges.{pointer_range}
 use Rattle.ckc_bounds_views.specs.Views.{node_view, view}
 use Rattle.ckc_bounds_statements.specs.Paths.{Here, value_judged}
 use Rattle.ckc_bounds_views.specs.Parts.{fresh_behind}
-use Rattle.ckc_blame_numbers.proofs.Statements.{made_of, pair_same}
-use Rattle.ckc_blame_texts.proofs.Kept.{same_fold}
+use Rattle.ckc_blame_sound.proofs.Statements.{made_of, pair_same}
+use Rattle.ckc_blame_sound.proofs.KeptTrees.{same_fold}
 use Rattle.ckc_blame_given.proofs.Views.{node_back, viewed_layer, node_in, view_is}
 
 -- ---- what a node calls

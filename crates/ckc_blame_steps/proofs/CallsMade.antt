@@ -13,7 +13,7 @@ use Rattle.ckc_bounds_views.specs.Judged.{all_judged, by_fault, expr_made}
 use Rattle.ckc_bounds_views.specs.Parts.{View, NodeView}
 use Rattle.ckc_bounds_views.specs.Ranges.{pointer_range}
 use Rattle.ckc_bounds_views.specs.Views.{node_view, view}
-use Rattle.ckc_blame_numbers.proofs.Statements.{made_of}
+use Rattle.ckc_blame_sound.proofs.Statements.{made_of}
 use Rattle.ckc_blame_given.proofs.Views.{node_in, viewed_layer, view_is}
 use Rattle.ckc_blame_steps.proofs.Calls.{no_refusal}
 

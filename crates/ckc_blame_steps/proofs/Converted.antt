@@ -19,8 +19,8 @@ use Rattle.ckc_source.specs.declared.outcome.Value.{Value}
 use Rattle.ckc_build_values.specs.Kinds.{pointee_of}
 use Rattle.ckc_build_values.specs.Operators.{converted}
 use Rattle.ckc_blame_sound.proofs.Facts.{one_of}
-use Rattle.ckc_blame_slots.proofs.Same.{same_equal}
-use Rattle.ckc_blame_numbers.proofs.Types.{no_pointer}
+use Rattle.ckc_blame_sound.proofs.Same.{same_equal}
+use Rattle.ckc_blame_sound.proofs.Types.{no_pointer}
 use Rattle.ckc_blame_given.proofs.Looser.{IsLooser}
 use Rattle.ckc_blame_given.proofs.Converted.{allowed_keep, element_looser}
 

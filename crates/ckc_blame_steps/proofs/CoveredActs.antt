@@ -30,17 +30,17 @@ use Rattle.ckc_blame_sound.specs.Safe.{AreSafe}
 use Rattle.ckc_blame_sound.specs.Settings.{Setting, IsFunction}
 use Rattle.ckc_blame_sound.specs.Steps.{is_simple, IsStep}
 use Rattle.ckc_blame_sound.specs.Words.{HaveWords, exprs_in}
-use Rattle.ckc_blame_numbers.proofs.Statements.{made_of, pair_same, passes}
-use Rattle.ckc_blame_numbers.proofs.Stepping.{ActLayer, viewed, judged_is, out_return, out_check}
-use Rattle.ckc_blame_texts.specs.Judged.{IsJudged, globals_in}
+use Rattle.ckc_blame_sound.proofs.Statements.{made_of, pair_same, passes}
+use Rattle.ckc_blame_sound.proofs.Stepping.{ActLayer, viewed, judged_is, out_return, out_check}
+use Rattle.ckc_blame_sound.specs.JudgedTexts.{IsJudged, globals_in}
 use Rattle.ckc_blame_control.proofs.Typed.{by_parts, statement_typed}
-use Rattle.ckc_blame_facts.specs.Checked.{mode_of}
-use Rattle.ckc_blame_facts.specs.Pointees.{AreFine}
-use Rattle.ckc_blame_facts.proofs.Checked.{step_checked}
-use Rattle.ckc_blame_facts.proofs.DeclaredTypes.{names_fine, scalar_parts}
-use Rattle.ckc_blame_facts.proofs.Pointees.{object_fine}
-use Rattle.ckc_blame_facts.proofs.Pointees.{typed_fine}
-use Rattle.ckc_blame_facts.proofs.Rooms.{step_places}
+use Rattle.ckc_blame_steps.specs.Checked.{mode_of}
+use Rattle.ckc_blame_steps.specs.Pointees.{AreFine}
+use Rattle.ckc_blame_steps.proofs.Checked.{step_checked}
+use Rattle.ckc_blame_steps.proofs.DeclaredTypes.{names_fine, scalar_parts}
+use Rattle.ckc_blame_steps.proofs.Pointees.{object_fine}
+use Rattle.ckc_blame_steps.proofs.Pointees.{typed_fine}
+use Rattle.ckc_blame_steps.proofs.ExpressionRooms.{step_places}
 use Rattle.ckc_blame_given.specs.Stored.{IsAssignJudged, AreAssignsJudged}
 use Rattle.ckc_blame_given.proofs.Stored.{assignment_stored, bundle_stored}
 use Rattle.ckc_blame_steps.specs.Before.{Premises, IsCoveredIf}

@@ -22,9 +22,9 @@ use Rattle.ckc_blame_sound.specs.Safe.{AreSafe}
 use Rattle.ckc_blame_sound.specs.Settings.{Setting, IsFunction}
 use Rattle.ckc_blame_sound.specs.Steps.{IsStep}
 use Rattle.ckc_blame_sound.specs.Words.{HaveWords}
-use Rattle.ckc_blame_numbers.proofs.Stepping.{ActLayer}
-use Rattle.ckc_blame_texts.specs.Judged.{IsJudged, globals_in}
-use Rattle.ckc_blame_facts.proofs.Small.{few_locals}
+use Rattle.ckc_blame_sound.proofs.Stepping.{ActLayer}
+use Rattle.ckc_blame_sound.specs.JudgedTexts.{IsJudged, globals_in}
+use Rattle.ckc_blame_steps.proofs.Small.{few_locals}
 use Rattle.ckc_blame_steps.specs.Before.{Premises, AreCoveredThere, IsCoveredIf}
 use Rattle.ckc_blame_steps.specs.Results.{value_of_init, value_of_act, returned_by_act, returned_by}
 use Rattle.ckc_blame_steps.proofs.CoveredActs.{JudgedIf, fits, gives, return_if}

@@ -24,11 +24,11 @@ use Rattle.ckc_bounds_statements.specs.Paths.{Here}
 use Rattle.ckc_source.specs.Code.{Function}
 use Rattle.ckc_source.specs.Eval.{Store}
 use Rattle.ckc_blame_sound.specs.Settings.{Setting, IsFunction}
-use Rattle.ckc_blame_numbers.proofs.Stepping.{ActLayer}
-use Rattle.ckc_blame_texts.specs.Judged.{IsJudged, globals_in}
-use Rattle.ckc_blame_facts.specs.Pointees.{AreFine, IsFine}
-use Rattle.ckc_blame_facts.specs.Told.{IsTold}
-use Rattle.ckc_blame_facts.proofs.Pointees.{typed_fine}
+use Rattle.ckc_blame_sound.proofs.Stepping.{ActLayer}
+use Rattle.ckc_blame_sound.specs.JudgedTexts.{IsJudged, globals_in}
+use Rattle.ckc_blame_steps.specs.Pointees.{AreFine, IsFine}
+use Rattle.ckc_blame_steps.specs.Told.{IsTold}
+use Rattle.ckc_blame_steps.proofs.Pointees.{typed_fine}
 use Rattle.ckc_blame_given.specs.Stored.{IsAssignJudged, next_fresh, AreAssignsJudged}
 use Rattle.ckc_blame_given.specs.Targets.{IsCoveredTarget}
 use Rattle.ckc_blame_given.specs.Written.{AreOne}

@@ -36,21 +36,21 @@ use Rattle.ckc_blame_sound.specs.Sized.{IsSizedNode, IsSizedPart, IsSized}
 use Rattle.ckc_blame_sound.specs.Settings.{Setting, IsFunction}
 use Rattle.ckc_blame_sound.specs.Scopes.{HasAmong, NamesSeen}
 use Rattle.ckc_blame_sound.proofs.Facts.{one_of}
-use Rattle.ckc_blame_slots.proofs.Same.{same_equal}
-use Rattle.ckc_blame_numbers.specs.Typed.{IsRow, HasRow, IsTyped}
-use Rattle.ckc_blame_numbers.proofs.Judging.{IsGood, Gives, expr_judged, outline}
-use Rattle.ckc_blame_numbers.proofs.Statements.{made_of}
+use Rattle.ckc_blame_sound.proofs.Same.{same_equal}
+use Rattle.ckc_blame_sound.specs.Typed.{IsRow, HasRow, IsTyped}
+use Rattle.ckc_blame_sound.proofs.Judging.{IsGood, Gives, expr_judged, outline}
+use Rattle.ckc_blame_sound.proofs.Statements.{made_of}
 use Rattle.ckc_blame_pointers.specs.Covered.{IsCoveredNode, IsCoveredExpr, IsCovered}
-use Rattle.ckc_blame_texts.specs.Judged.{IsJudged, globals_in}
-use Rattle.ckc_blame_texts.proofs.Every.{ExprLayer, EachLimits, EachExpr}
-use Rattle.ckc_blame_facts.specs.Checked.{IsCheckedPart, IsChecked}
-use Rattle.ckc_blame_facts.specs.Pointees.{IsFine}
-use Rattle.ckc_blame_facts.specs.Told.{IsTold}
-use Rattle.ckc_blame_facts.specs.Values.{HasFewValues, HaveFewValues}
-use Rattle.ckc_blame_facts.proofs.CalledNames.{IsCallable, called_callable}
-use Rattle.ckc_blame_facts.proofs.Down.{AllDown, Down, each_parts}
-use Rattle.ckc_blame_facts.proofs.Judged.{judged_covered}
-use Rattle.ckc_blame_facts.proofs.Pointees.{fine_integer}
+use Rattle.ckc_blame_sound.specs.JudgedTexts.{IsJudged, globals_in}
+use Rattle.ckc_blame_sound.proofs.Every.{ExprLayer, EachLimits, EachExpr}
+use Rattle.ckc_blame_steps.specs.Checked.{IsCheckedPart, IsChecked}
+use Rattle.ckc_blame_steps.specs.Pointees.{IsFine}
+use Rattle.ckc_blame_steps.specs.Told.{IsTold}
+use Rattle.ckc_blame_steps.specs.Values.{HasFewValues, HaveFewValues}
+use Rattle.ckc_blame_steps.proofs.CalledNames.{IsCallable, called_callable}
+use Rattle.ckc_blame_steps.proofs.Down.{AllDown, Down, each_parts}
+use Rattle.ckc_blame_steps.proofs.Judged.{judged_covered}
+use Rattle.ckc_blame_steps.proofs.Pointees.{fine_integer}
 use Rattle.ckc_blame_given.specs.Targets.{IsCoveredTarget}
 use Rattle.ckc_blame_given.proofs.Views.{node_back}
 use Rattle.ckc_blame_steps.specs.Before.{AreSpoken, IsCoveredThere, AreCoveredThere}

@@ -27,16 +27,16 @@ use Rattle.ckc_bounds_views.specs.Judged.{is_counted_kind}
 use Rattle.ckc_source.specs.Code.{Function}
 use Rattle.ckc_source.specs.Eval.{Store}
 use Rattle.ckc_blame_sound.specs.Settings.{Setting, IsFunction}
-use Rattle.ckc_blame_numbers.specs.Typed.{IsRow, HasRow, IsTyped}
+use Rattle.ckc_blame_sound.specs.Typed.{IsRow, HasRow, IsTyped}
 use Rattle.ckc_blame_pointers.specs.Covered as covers
 use Rattle.ckc_blame_pointers.specs.Covered.{IsElement, IsStructureElement, IsPointerTarget, IsArrow, IsPointerArrow, IsStructureNode, IsCoveredUnary, IsCoveredNode, IsCoveredExpr, AreCovered}
-use Rattle.ckc_blame_texts.specs.Judged.{IsJudged, globals_in}
-use Rattle.ckc_blame_texts.proofs.Every.{EachLimits}
-use Rattle.ckc_blame_facts.specs.Statics.{IsStatic}
-use Rattle.ckc_blame_facts.specs.Told.{IsTold}
-use Rattle.ckc_blame_facts.proofs.Down.{Down, each_parts}
-use Rattle.ckc_blame_facts.proofs.StaticTargets.{statics_counts}
-use Rattle.ckc_blame_facts.proofs.Told.{none_named, statics_told}
+use Rattle.ckc_blame_sound.specs.JudgedTexts.{IsJudged, globals_in}
+use Rattle.ckc_blame_sound.proofs.Every.{EachLimits}
+use Rattle.ckc_blame_steps.specs.Statics.{IsStatic}
+use Rattle.ckc_blame_steps.specs.Told.{IsTold}
+use Rattle.ckc_blame_steps.proofs.Down.{Down, each_parts}
+use Rattle.ckc_blame_steps.proofs.StaticTargets.{statics_counts}
+use Rattle.ckc_blame_steps.proofs.Told.{none_named, statics_told}
 use Rattle.ckc_blame_given.specs.Targets.{IsStaticObject, IsStaticTarget, IsThrough, IsMemberNamed, IsCoveredPlace, IsCoveredTarget}
 use Rattle.ckc_blame_steps.proofs.Objects.{single, as_object}
 use Rattle.ckc_blame_steps.proofs.ScalarValues.{integer_scalar, pointer_scalar}

@@ -23,10 +23,10 @@ use Rattle.ckc_blame_sound.specs.Sound.{Sound}
 use Rattle.ckc_blame_sound.specs.Slots.{AreFilled}
 use Rattle.ckc_blame_sound.specs.Steps.{IsCondition}
 use Rattle.ckc_blame_sound.specs.Words.{HaveWords}
-use Rattle.ckc_blame_slots.specs.Cells.{AreSound, HaveOwnNames}
-use Rattle.ckc_blame_texts.specs.Judged.{IsJudged, globals_in}
-use Rattle.ckc_blame_texts.proofs.Members.{have_own_names}
-use Rattle.ckc_blame_numbers.specs.Typed.{IsTyped, IsTypedIf}
+use Rattle.ckc_blame_sound.specs.Cells.{AreSound, HaveOwnNames}
+use Rattle.ckc_blame_sound.specs.JudgedTexts.{IsJudged, globals_in}
+use Rattle.ckc_blame_sound.proofs.Members.{have_own_names}
+use Rattle.ckc_blame_sound.specs.Typed.{IsTyped, IsTypedIf}
 use Rattle.ckc_blame_pointers.specs.Covered.{DeclareLocals, IsSoundStore, IsCovered}
 use Rattle.ckc_blame_pointers.specs.Meant.{IsNotStuck, IsMeant}
 use Rattle.ckc_blame_pointers.proofs.Whole.{judged_meant}

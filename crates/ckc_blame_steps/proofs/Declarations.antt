@@ -49,18 +49,18 @@ use Rattle.ckc_blame_sound.specs.Slots.{Slot, AreFilled}
 use Rattle.ckc_blame_sound.specs.Sound.{Sound}
 use Rattle.ckc_blame_sound.specs.Valuations.{Valuation, IsValuationOf, AreFacts}
 use Rattle.ckc_blame_sound.proofs.Kept.{point_kept}
-use Rattle.ckc_blame_runs.specs.Moves.{IsSoundMove}
-use Rattle.ckc_blame_slots.specs.Cells.{AreSound}
-use Rattle.ckc_blame_slots.specs.Limited.{AreSlotParts, store_with, IsCountSpared, IsSpared}
-use Rattle.ckc_blame_slots.specs.Writes.{AreCellWrites, AreElsewhere}
-use Rattle.ckc_blame_slots.proofs.Filled.{filled_after}
-use Rattle.ckc_blame_slots.proofs.Written.{all_keep}
-use Rattle.ckc_blame_numbers.specs.Typed.{IsTyped, IsTypedInit, IsTypedAct}
-use Rattle.ckc_blame_numbers.proofs.Statements.{made_of, pair_same, passes, out_local}
-use Rattle.ckc_blame_numbers.proofs.Stepping.{ActLayer as Layer, viewed, judged_is, parted, code_is, first_step}
-use Rattle.ckc_blame_texts.specs.Judged.{globals_in}
-use Rattle.ckc_blame_texts.proofs.Frames.{frames_agree}
-use Rattle.ckc_blame_contained.proofs.Agree.{facts_agree}
+use Rattle.ckc_blame_sound.specs.Moves.{IsSoundMove}
+use Rattle.ckc_blame_sound.specs.Cells.{AreSound}
+use Rattle.ckc_blame_sound.specs.Limited.{AreSlotParts, store_with, IsCountSpared, IsSpared}
+use Rattle.ckc_blame_sound.specs.Writes.{AreCellWrites, AreElsewhere}
+use Rattle.ckc_blame_sound.proofs.Filled.{filled_after}
+use Rattle.ckc_blame_sound.proofs.Written.{all_keep}
+use Rattle.ckc_blame_sound.specs.Typed.{IsTyped, IsTypedInit, IsTypedAct}
+use Rattle.ckc_blame_sound.proofs.Statements.{made_of, pair_same, passes, out_local}
+use Rattle.ckc_blame_sound.proofs.Stepping.{ActLayer as Layer, viewed, judged_is, parted, code_is, first_step}
+use Rattle.ckc_blame_sound.specs.JudgedTexts.{globals_in}
+use Rattle.ckc_blame_sound.proofs.Frames.{frames_agree}
+use Rattle.ckc_blame_sound.proofs.Agree.{facts_agree}
 use Rattle.ckc_blame_declared.proofs.HaveEnds.{locals_have_ends}
 use Rattle.ckc_blame_control.specs.Kept.{KeepRanges, IsSameCall}
 use Rattle.ckc_blame_control.specs.Ready.{Faces}

@@ -12,10 +12,10 @@ use Rattle.ckc_bounds_statements.specs.Paths.{Here}
 use Rattle.ckc_source.specs.Code.{Code, Function}
 use Rattle.ckc_blame_sound.specs.Settings.{Setting, IsFunction}
 use Rattle.ckc_blame_sound.specs.Steps.{IsStep}
-use Rattle.ckc_blame_texts.specs.Judged.{IsJudged}
-use Rattle.ckc_blame_texts.proofs.Frames.{locals_are_there}
-use Rattle.ckc_blame_facts.proofs.Spared.{results_spare}
-use Rattle.ckc_blame_facts.proofs.Told.{local_named}
+use Rattle.ckc_blame_sound.specs.JudgedTexts.{IsJudged}
+use Rattle.ckc_blame_sound.proofs.Frames.{locals_are_there}
+use Rattle.ckc_blame_steps.proofs.Spared.{results_spare}
+use Rattle.ckc_blame_steps.proofs.Told.{local_named}
 use Rattle.ckc_blame_given.specs.Written.{IsDeclared}
 use Rattle.ckc_blame_given.proofs.Fitting.{declared_fits}
 use Rattle.ckc_blame_walk.proofs.Layers.{declares_itself}

@@ -29,11 +29,11 @@ use Rattle.ckc_build_values.specs.Expressions.{expr_elaborated}
 use Rattle.ckc_blame_sound.specs.Bodies.{AreFresh}
 use Rattle.ckc_blame_sound.specs.Settings.{Setting, AreStrings}
 use Rattle.ckc_blame_sound.specs.Values.{IsWordOf}
-use Rattle.ckc_blame_numbers.specs.Typed.{IsTyped, Agrees}
-use Rattle.ckc_blame_texts.proofs.SameViews.{same_view}
-use Rattle.ckc_blame_contained.specs.Containment.{Memory, IsRanged}
+use Rattle.ckc_blame_sound.specs.Typed.{IsTyped, Agrees}
+use Rattle.ckc_blame_sound.proofs.SameViews.{same_view}
+use Rattle.ckc_blame_sound.specs.Containment.{Memory, IsRanged}
 use Rattle.ckc_blame_sound.specs.Valuations.{Valuation, IsValuationOf, AreNumbersOf}
-use Rattle.ckc_blame_contained.specs.Given.{IsFrom}
+use Rattle.ckc_blame_sound.specs.GivenValues.{IsFrom}
 use Rattle.ckc_blame_pointers.specs.Covered.{DeclareLocals, IsCoveredExpr, IsCovered}
 use Rattle.ckc_blame_pointers.specs.Meant.{IsNotStuck}
 use Rattle.ckc_blame_given.specs.At.{GivesAt}

@@ -56,17 +56,17 @@ use Rattle.ckc_blame_sound.specs.Points.{IsBounded}
 use Rattle.ckc_blame_sound.specs.Bodies.{globals_of_text}
 use Rattle.ckc_blame_sound.specs.Calls.{store_in, arguments_of, ArePassed, Stands}
 use Rattle.ckc_blame_sound.specs.Sound.{IsPlaced, Sound}
-use Rattle.ckc_blame_runs.specs.Moves.{IsSoundMove}
-use Rattle.ckc_blame_texts.specs.Judged.{IsJudged}
-use Rattle.ckc_blame_texts.specs.Numbered.{AreLocals}
-use Rattle.ckc_blame_texts.proofs.Frames.{types_declared, declared_types}
-use Rattle.ckc_blame_texts.proofs.Functions.{numbered}
+use Rattle.ckc_blame_sound.specs.Moves.{IsSoundMove}
+use Rattle.ckc_blame_sound.specs.JudgedTexts.{IsJudged}
+use Rattle.ckc_blame_sound.specs.Numbered.{AreLocals}
+use Rattle.ckc_blame_sound.proofs.Frames.{types_declared, declared_types}
+use Rattle.ckc_blame_sound.proofs.Functions.{numbered}
 use Rattle.ckc_blame_nested.specs.Nested.{AreNested}
 use Rattle.ckc_blame_walk.specs.Walks.{leaving}
 use Rattle.ckc_blame_walk.proofs.Frames.{text_goes}
-use Rattle.ckc_blame_contained.specs.Passed.{AreParameters}
-use Rattle.ckc_blame_contained.proofs.Agree.{facts_agree}
-use Rattle.ckc_blame_contained.proofs.Called.{parameters_bounded}
+use Rattle.ckc_blame_sound.specs.Passed.{AreParameters}
+use Rattle.ckc_blame_sound.proofs.Agree.{facts_agree}
+use Rattle.ckc_blame_sound.proofs.Called.{parameters_bounded}
 use Rattle.ckc_blame_declared.proofs.HaveEnds.{locals_have_ends}
 use Rattle.ckc_blame_declared.proofs.Locals.{some_at, from_zero}
 use Rattle.ckc_blame_declared.proofs.Parameters.{parameters_are_locals}

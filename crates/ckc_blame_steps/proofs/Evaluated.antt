@@ -16,7 +16,7 @@ use Rattle.ckc_build_values.specs.Operators.{converted}
 use Rattle.ckc_build_elaborate.specs.Steps.{arguments}
 use Rattle.ckc_blame_sound.specs.Settings.{Setting}
 use Rattle.ckc_blame_sound.specs.Valuations.{Valuation, IsValuationOf}
-use Rattle.ckc_blame_texts.proofs.Frames.{types_declared}
+use Rattle.ckc_blame_sound.proofs.Frames.{types_declared}
 use Rattle.ckc_blame_pointers.specs.Meant.{IsNotStuck}
 use Rattle.ckc_blame_given.specs.Gives.{Continues, GivesOn}
 use Rattle.ckc_blame_steps.specs.Arguments.{GivesWord, GiveWords, numbers_behind}

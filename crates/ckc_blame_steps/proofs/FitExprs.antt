@@ -23,12 +23,12 @@ use Rattle.ckc_blame_sound.specs.Scopes.{NamesSeen}
 use Rattle.ckc_blame_sound.specs.Sized.{IsSized}
 use Rattle.ckc_blame_sound.specs.Words.{exprs_of_act, exprs_in}
 use Rattle.ckc_blame_sound.proofs.Words.{exprs_inside, exprs_are}
-use Rattle.ckc_blame_numbers.specs.Typed.{IsTyped, IsTypedInit, AreTypedSides, IsTypedAct}
-use Rattle.ckc_blame_numbers.proofs.Stepping.{ActLayer}
-use Rattle.ckc_blame_facts.specs.Checked.{IsChecked, IsCheckedInit, AreCheckedSides, IsCheckedAct}
-use Rattle.ckc_blame_facts.specs.Rooms.{HavePlaces}
-use Rattle.ckc_blame_facts.specs.Values.{HaveFewValues}
-use Rattle.ckc_blame_facts.proofs.Callees.{none_in, split_in}
+use Rattle.ckc_blame_sound.specs.Typed.{IsTyped, IsTypedInit, AreTypedSides, IsTypedAct}
+use Rattle.ckc_blame_sound.proofs.Stepping.{ActLayer}
+use Rattle.ckc_blame_steps.specs.Checked.{IsChecked, IsCheckedInit, AreCheckedSides, IsCheckedAct}
+use Rattle.ckc_blame_steps.specs.ExpressionRooms.{HavePlaces}
+use Rattle.ckc_blame_steps.specs.Values.{HaveFewValues}
+use Rattle.ckc_blame_steps.proofs.CalledHeads.{none_in, split_in}
 
 
 module _ (globals : Globals) (s : Setting) (seen : List ℕ) where

@@ -18,9 +18,9 @@ use Rattle.ckc_bounds_statements.specs.Paths.{Here}
 use Rattle.ckc_source.specs.Eval.{Store}
 use Rattle.ckc_blame_sound.specs.Settings.{Setting}
 use Rattle.ckc_blame_sound.specs.Valuations.{Valuation, AreNumbersOf}
-use Rattle.ckc_blame_numbers.proofs.Types.{none_is_some}
-use Rattle.ckc_blame_contained.specs.Containment.{Memory, IsRanged}
-use Rattle.ckc_blame_contained.specs.Given.{memory_of, IsFrom}
+use Rattle.ckc_blame_sound.proofs.Types.{none_is_some}
+use Rattle.ckc_blame_sound.specs.Containment.{Memory, IsRanged}
+use Rattle.ckc_blame_sound.specs.GivenValues.{memory_of, IsFrom}
 use Rattle.ckc_blame_given.specs.Written.{IsReceived}
 use Rattle.ckc_blame_steps.specs.Results.{IsResultGiven}
 use Rattle.ckc_blame_given.proofs.Views.{viewed_layer, view_is}

@@ -42,13 +42,13 @@ use Rattle.ckc_blame_sound.specs.Arguments.{AreArguments}
 use Rattle.ckc_blame_sound.specs.Bodies.{globals_of_text}
 use Rattle.ckc_blame_sound.specs.Calls.{store_in, ArePassed, Waits, AreWaiting}
 use Rattle.ckc_blame_sound.specs.Sound.{Sound}
-use Rattle.ckc_blame_slots.specs.Cells.{AreSound}
-use Rattle.ckc_blame_runs.specs.Moves.{IsSoundMove}
-use Rattle.ckc_blame_texts.specs.Judged.{IsJudged}
-use Rattle.ckc_blame_contained.specs.Containment.{IsReadBetween, IsReadWithin}
-use Rattle.ckc_blame_contained.specs.Given.{memory_of}
-use Rattle.ckc_blame_contained.specs.Passed.{IsResult, result_between}
-use Rattle.ckc_blame_contained.proofs.Returned.{result_reads, call_read}
+use Rattle.ckc_blame_sound.specs.Cells.{AreSound}
+use Rattle.ckc_blame_sound.specs.Moves.{IsSoundMove}
+use Rattle.ckc_blame_sound.specs.JudgedTexts.{IsJudged}
+use Rattle.ckc_blame_sound.specs.Containment.{IsReadBetween, IsReadWithin}
+use Rattle.ckc_blame_sound.specs.GivenValues.{memory_of}
+use Rattle.ckc_blame_sound.specs.Passed.{IsResult, result_between}
+use Rattle.ckc_blame_sound.proofs.Returned.{result_reads, call_read}
 use Rattle.ckc_blame_declared.proofs.Heads.{results_have_ends}
 use Rattle.ckc_blame_declared.proofs.Parameters.{parameters_are_locals}
 use Rattle.ckc_blame_declared.proofs.Results.{results_are_told}

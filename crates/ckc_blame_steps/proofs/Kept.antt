@@ -20,7 +20,7 @@ use Rattle.ckc_blame_sound.specs.Points.{HoldsAt}
 use Rattle.ckc_blame_sound.specs.Settings.{Setting}
 use Rattle.ckc_blame_sound.specs.Sound.{IsPlaced}
 use Rattle.ckc_blame_sound.specs.Valuations.{Valuation, AreFacts, IsValuationOf}
-use Rattle.ckc_blame_contained.specs.Ends.{HaveEnds}
+use Rattle.ckc_blame_sound.specs.Ends.{HaveEnds}
 use Rattle.ckc_blame_given.specs.Written.{IsFitting, IsReceived, IsWritten}
 use Rattle.ckc_blame_given.proofs.Points.{alone_after}
 use Rattle.ckc_blame_steps.specs.Results.{kept_in}

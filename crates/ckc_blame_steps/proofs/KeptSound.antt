@@ -11,7 +11,7 @@ use Rattle.ckc_source.specs.Steps.{source_step, spot_at, spot_of}
 use Rattle.ckc_build_elaborate.specs.Elaborated.{elaborated}
 use Rattle.ckc_blame_sound.specs.Calls.{store_in}
 use Rattle.ckc_blame_sound.specs.Sound.{Sound}
-use Rattle.ckc_blame_runs.specs.Moves.{IsSoundMove}
+use Rattle.ckc_blame_sound.specs.Moves.{IsSoundMove}
 use Rattle.ckc_blame_control.specs.Decided.{IsDecided}
 use Rattle.ckc_blame_control.specs.Whole.{KeepSound, assigns_or_calls}
 use Rattle.ckc_blame_control.proofs.Faced.{faces_call, faces_return}

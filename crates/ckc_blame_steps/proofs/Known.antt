@@ -32,7 +32,7 @@ use Rattle.ckc_build_elaborate.specs.Functions.{function_elaborated}
 use Rattle.ckc_build_results.specs.Results.{limits_form, limits_of_count, result_limits}
 use Rattle.ckc_build_values.specs.Kinds.{count_of_kind}
 use Rattle.ckc_blame_sound.specs.Settings.{Setting, IsFunction, frame_of_text, setting_of}
-use Rattle.ckc_blame_texts.specs.Judged.{IsJudged}
+use Rattle.ckc_blame_sound.specs.JudgedTexts.{IsJudged}
 use Rattle.ckc_blame_walk.proofs.Texts.{text_same}
 use Rattle.ckc_blame_declared.proofs.Parameters.{function_well}
 

@@ -19,8 +19,8 @@ use Rattle.ckc_blame_sound.specs.Calls.{store_in}
 use Rattle.ckc_blame_sound.specs.Settings.{Setting}
 use Rattle.ckc_blame_sound.specs.Sound.{Sound}
 use Rattle.ckc_blame_sound.proofs.Kept.{point_kept}
-use Rattle.ckc_blame_numbers.proofs.Statements.{made_of, pair_same}
-use Rattle.ckc_blame_runs.specs.Moves.{IsSoundMove}
+use Rattle.ckc_blame_sound.proofs.Statements.{made_of, pair_same}
+use Rattle.ckc_blame_sound.specs.Moves.{IsSoundMove}
 use Rattle.ckc_blame_control.specs.Ready.{Faces}
 use Rattle.ckc_blame_control.proofs.Moved.{stopped, sound_at}
 use Rattle.ckc_blame_given.proofs.Points.{same_point}

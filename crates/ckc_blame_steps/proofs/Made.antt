@@ -23,9 +23,9 @@ use Rattle.ckc_source.specs.Eval.{plain, ranged, reads_within, reads}
 use Rattle.ckc_source.specs.Runs.{is_within, is_in_block, is_in_member, member_runs, is_in, is_true}
 use Rattle.ckc_blame_sound.specs.Values.{number_of}
 use Rattle.ckc_blame_sound.specs.Valuations.{Valuation, form_address}
-use Rattle.ckc_blame_slots.proofs.Fresh.{fresh_length}
-use Rattle.ckc_blame_slots.proofs.Places.{element_between}
-use Rattle.ckc_blame_contained.specs.Containment.{Memory, IsReadBetween, IsReadWithin, HasElement}
+use Rattle.ckc_blame_sound.proofs.Fresh.{fresh_length}
+use Rattle.ckc_blame_sound.proofs.Places.{element_between}
+use Rattle.ckc_blame_sound.specs.Containment.{Memory, IsReadBetween, IsReadWithin, HasElement}
 use Rattle.ckc_blame_pointers.proofs.Arrays.{type_same}
 use Rattle.ckc_blame_pointers.proofs.Widening.{within_tests}
 

@@ -30,22 +30,22 @@ use Rattle.ckc_blame_sound.specs.Calls.{store_in}
 use Rattle.ckc_blame_sound.specs.Settings.{Setting}
 use Rattle.ckc_blame_sound.specs.Slots.{AreFilled}
 use Rattle.ckc_blame_sound.specs.Valuations.{Valuation, AreFacts, IsValuationOf}
-use Rattle.ckc_blame_slots.specs.Cells.{AreSound, IsCell}
-use Rattle.ckc_blame_slots.specs.Limited.{AreSlotParts}
-use Rattle.ckc_blame_slots.specs.Writes.{AreCellWrites}
-use Rattle.ckc_blame_slots.proofs.Apart.{cell_there}
-use Rattle.ckc_blame_slots.proofs.Kept.{sound_after}
-use Rattle.ckc_blame_slots.proofs.Stores.{store_some, stored_parts}
-use Rattle.ckc_blame_slots.proofs.Truths.{true_after}
-use Rattle.ckc_blame_contained.proofs.Alone.{element_filled}
-use Rattle.ckc_blame_texts.specs.Judged.{IsJudged, globals_in}
-use Rattle.ckc_blame_texts.proofs.Accesses.{scalar_part}
-use Rattle.ckc_blame_texts.proofs.Members.{have_own_names}
-use Rattle.ckc_blame_facts.specs.Statics.{IsStatic}
-use Rattle.ckc_blame_facts.proofs.Statics.{decls, object_is, index_of}
-use Rattle.ckc_blame_facts.proofs.StaticKinds.{plain_ends}
-use Rattle.ckc_blame_facts.proofs.StaticTargets.{no_member, statics_counts}
-use Rattle.ckc_blame_facts.proofs.Told.{are_statics, from_zero, has_object}
+use Rattle.ckc_blame_sound.specs.Cells.{AreSound, IsCell}
+use Rattle.ckc_blame_sound.specs.Limited.{AreSlotParts}
+use Rattle.ckc_blame_sound.specs.Writes.{AreCellWrites}
+use Rattle.ckc_blame_sound.proofs.Apart.{cell_there}
+use Rattle.ckc_blame_sound.proofs.KeptBlocks.{sound_after}
+use Rattle.ckc_blame_sound.proofs.Stores.{store_some, stored_parts}
+use Rattle.ckc_blame_sound.proofs.Truths.{true_after}
+use Rattle.ckc_blame_sound.proofs.Alone.{element_filled}
+use Rattle.ckc_blame_sound.specs.JudgedTexts.{IsJudged, globals_in}
+use Rattle.ckc_blame_sound.proofs.Accesses.{scalar_part}
+use Rattle.ckc_blame_sound.proofs.Members.{have_own_names}
+use Rattle.ckc_blame_steps.specs.Statics.{IsStatic}
+use Rattle.ckc_blame_steps.proofs.Statics.{decls, object_is, index_of}
+use Rattle.ckc_blame_steps.proofs.StaticKinds.{plain_ends}
+use Rattle.ckc_blame_steps.proofs.StaticTargets.{no_member, statics_counts}
+use Rattle.ckc_blame_steps.proofs.Told.{are_statics, from_zero, has_object}
 use Rattle.ckc_blame_walk.proofs.Counts.{slot_parts}
 use Rattle.ckc_blame_walk.proofs.NamedStatics.{members_named}
 use Rattle.ckc_blame_pointers.specs.Covered.{IsSoundStore}

@@ -16,8 +16,8 @@ use Rattle.ckc_build_elaborate.specs.Steps.{spot, nowhere, assigned, returned}
 use Rattle.ckc_build_elaborate.specs.Statements.{all_assigns, part_of, act_code}
 use Rattle.ckc_blame_sound.specs.Settings.{Setting}
 use Rattle.ckc_blame_sound.specs.Steps.{is_simple, IsStep}
-use Rattle.ckc_blame_numbers.proofs.Statements.{made_of, pair_same, passes}
-use Rattle.ckc_blame_numbers.proofs.Stepping.{ActLayer, viewed, judged_is, parted, code_is, first_step, out_call, out_return, out_check, out_bundle}
+use Rattle.ckc_blame_sound.proofs.Statements.{made_of, pair_same, passes}
+use Rattle.ckc_blame_sound.proofs.Stepping.{ActLayer, viewed, judged_is, parted, code_is, first_step, out_call, out_return, out_check, out_bundle}
 
 -- whether some code begins with a bundle
 abbrev pub is_bundled : Code → Bool

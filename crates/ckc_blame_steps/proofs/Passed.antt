@@ -18,9 +18,9 @@ use Rattle.ckc_blame_sound.specs.Settings.{Setting}
 use Rattle.ckc_blame_sound.specs.Values.{IsWordOf}
 use Rattle.ckc_blame_sound.specs.Valuations.{Valuation, AreFacts, AreNumbersOf}
 use Rattle.ckc_blame_sound.specs.Arguments.{IsArgumentIf, AreArguments}
-use Rattle.ckc_blame_contained.specs.Containment.{Memory, IsReadWithin, IsNarrowed}
-use Rattle.ckc_blame_contained.specs.Given.{memory_of}
-use Rattle.ckc_blame_contained.specs.Passed.{IsNewArgumentIf, AreNewArguments}
+use Rattle.ckc_blame_sound.specs.Containment.{Memory, IsReadWithin, IsNarrowed}
+use Rattle.ckc_blame_sound.specs.GivenValues.{memory_of}
+use Rattle.ckc_blame_sound.specs.Passed.{IsNewArgumentIf, AreNewArguments}
 use Rattle.ckc_blame_given.specs.Gives.{Gives}
 use Rattle.ckc_blame_steps.specs.Arguments.{numbers_behind}
 use Rattle.ckc_blame_given.proofs.Converted.{Becomes}

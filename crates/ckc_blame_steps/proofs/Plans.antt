@@ -32,13 +32,13 @@ use Rattle.ckc_source.specs.Steps.{store_of, aimed, Drawn, drawn, allowed, Plann
 use Rattle.ckc_build_elaborate.specs.Steps.{right_form, right_of, is_terminated}
 use Rattle.ckc_blame_sound.specs.Bodies.{AreFresh}
 use Rattle.ckc_blame_sound.specs.Settings.{Setting, AreStrings}
-use Rattle.ckc_blame_slots.specs.Cells.{IsCell}
-use Rattle.ckc_blame_slots.specs.Writes.{IsCellWrite}
-use Rattle.ckc_blame_slots.proofs.Fresh.{get_before, cell_before, true_before}
-use Rattle.ckc_blame_numbers.specs.Typed.{IsTyped, Agrees}
-use Rattle.ckc_blame_texts.proofs.SameViews.{same_view}
+use Rattle.ckc_blame_sound.specs.Cells.{IsCell}
+use Rattle.ckc_blame_sound.specs.Writes.{IsCellWrite}
+use Rattle.ckc_blame_sound.proofs.Fresh.{get_before, cell_before, true_before}
+use Rattle.ckc_blame_sound.specs.Typed.{IsTyped, Agrees}
+use Rattle.ckc_blame_sound.proofs.SameViews.{same_view}
 use Rattle.ckc_blame_sound.specs.Valuations.{Valuation, IsValuationOf}
-use Rattle.ckc_blame_contained.specs.Given.{StayTrue}
+use Rattle.ckc_blame_sound.specs.GivenValues.{StayTrue}
 use Rattle.ckc_blame_pointers.specs.Covered.{DeclareLocals}
 use Rattle.ckc_blame_given.specs.Gives.{Continues}
 use Rattle.ckc_blame_given.specs.Planned.{IsTarget, IsPlanned, ArePlanned}

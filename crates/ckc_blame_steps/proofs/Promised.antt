@@ -12,9 +12,9 @@ use Rattle.ckc_source.specs.Steps.{source_step, spot_of}
 use Rattle.ckc_build_elaborate.specs.Elaborated.{elaborated}
 use Rattle.ckc_blame.specs.Checked.{WhollyChecked}
 use Rattle.ckc_blame_sound.specs.Sound.{Sound}
-use Rattle.ckc_blame_runs.specs.Moves.{IsSoundMove, StaysSound}
-use Rattle.ckc_blame_runs.proofs.Stuck.{stuck_later}
-use Rattle.ckc_blame_runs.proofs.Texts.{runs_checked}
+use Rattle.ckc_blame_sound.specs.Moves.{IsSoundMove, StaysSound}
+use Rattle.ckc_blame_sound.proofs.Stuck.{stuck_later}
+use Rattle.ckc_blame_sound.proofs.Texts.{runs_checked}
 use Rattle.ckc_blame_control.proofs.Whole.{steps_sound}
 use Rattle.ckc_blame_walk.proofs.Judged.{judged_sound}
 use Rattle.ckc_blame_walk.proofs.Mains.{main_bare}

@@ -51,17 +51,17 @@ use Rattle.ckc_blame_sound.specs.Sound.{IsPlaced}
 use Rattle.ckc_blame_sound.specs.Steps.{IsStep}
 use Rattle.ckc_blame_sound.specs.Valuations.{AreFacts}
 use Rattle.ckc_blame_sound.proofs.Kept.{point_kept}
-use Rattle.ckc_blame_slots.specs.Cells.{AreSound}
-use Rattle.ckc_blame_numbers.proofs.Statements.{made_of, pair_same, passes}
-use Rattle.ckc_blame_numbers.proofs.Stepping.{ActLayer, viewed, judged_is, parted, code_is, out_call, first_step}
-use Rattle.ckc_blame_texts.specs.Judged.{IsJudged, globals_in}
-use Rattle.ckc_blame_texts.proofs.Frames.{frames_agree, locals_are_there}
-use Rattle.ckc_blame_texts.proofs.SameViews.{same_view}
+use Rattle.ckc_blame_sound.specs.Cells.{AreSound}
+use Rattle.ckc_blame_sound.proofs.Statements.{made_of, pair_same, passes}
+use Rattle.ckc_blame_sound.proofs.Stepping.{ActLayer, viewed, judged_is, parted, code_is, out_call, first_step}
+use Rattle.ckc_blame_sound.specs.JudgedTexts.{IsJudged, globals_in}
+use Rattle.ckc_blame_sound.proofs.Frames.{frames_agree, locals_are_there}
+use Rattle.ckc_blame_sound.proofs.SameViews.{same_view}
 use Rattle.ckc_blame_declared.proofs.HaveEnds.{locals_have_ends}
-use Rattle.ckc_blame_facts.specs.Statics.{IsStatic}
-use Rattle.ckc_blame_facts.proofs.Told.{local_named, none_named, statics_told}
-use Rattle.ckc_blame_contained.specs.Ends.{HaveEnds}
-use Rattle.ckc_blame_contained.proofs.Agree.{facts_agree}
+use Rattle.ckc_blame_steps.specs.Statics.{IsStatic}
+use Rattle.ckc_blame_steps.proofs.Told.{local_named, none_named, statics_told}
+use Rattle.ckc_blame_sound.specs.Ends.{HaveEnds}
+use Rattle.ckc_blame_sound.proofs.Agree.{facts_agree}
 use Rattle.ckc_blame_control.proofs.Typed.{by_parts}
 use Rattle.ckc_blame_given.specs.Stored.{IsAssignJudged, AreAssignsJudged, AreStored}
 use Rattle.ckc_blame_given.specs.Written.{IsFitting, IsReceived, IsStart}

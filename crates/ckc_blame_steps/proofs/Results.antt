@@ -29,8 +29,8 @@ use Rattle.ckc_source.specs.Eval.{Store}
 use Rattle.ckc_build_values.specs.Kinds.{pointee_of, size_behind}
 use Rattle.ckc_blame_sound.specs.Settings.{Setting}
 use Rattle.ckc_blame_sound.specs.Valuations.{Valuation, form_address, AreNumbersOf}
-use Rattle.ckc_blame_contained.specs.Containment.{IsReadWithin, IsNarrowed, IsRanged}
-use Rattle.ckc_blame_contained.specs.Given.{memory_of, IsFrom}
+use Rattle.ckc_blame_sound.specs.Containment.{IsReadWithin, IsNarrowed, IsRanged}
+use Rattle.ckc_blame_sound.specs.GivenValues.{memory_of, IsFrom}
 use Rattle.ckc_blame_given.proofs.Looser.{IsLooser, read_looser}
 use Rattle.ckc_blame_given.proofs.Views.{viewed_layer, view_is}
 

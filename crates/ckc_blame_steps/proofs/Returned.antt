@@ -35,14 +35,14 @@ use Rattle.ckc_blame_sound.specs.Bodies.{globals_of_text}
 use Rattle.ckc_blame_sound.specs.Calls.{store_in}
 use Rattle.ckc_blame_sound.specs.Sound.{IsPlaced, Sound}
 use Rattle.ckc_blame_sound.specs.Valuations.{Valuation, AreNumbersOf}
-use Rattle.ckc_blame_runs.specs.Moves.{IsSoundMove}
-use Rattle.ckc_blame_texts.specs.Judged.{IsJudged}
-use Rattle.ckc_blame_texts.proofs.SameViews.{same_view}
-use Rattle.ckc_blame_contained.specs.Containment.{IsRanged}
-use Rattle.ckc_blame_contained.specs.Given.{memory_of, IsFrom}
+use Rattle.ckc_blame_sound.specs.Moves.{IsSoundMove}
+use Rattle.ckc_blame_sound.specs.JudgedTexts.{IsJudged}
+use Rattle.ckc_blame_sound.proofs.SameViews.{same_view}
+use Rattle.ckc_blame_sound.specs.Containment.{IsRanged}
+use Rattle.ckc_blame_sound.specs.GivenValues.{memory_of, IsFrom}
 use Rattle.ckc_blame_sound.specs.Values.{NamesIntegers}
-use Rattle.ckc_blame_contained.proofs.Agree.{facts_agree}
-use Rattle.ckc_blame_contained.proofs.Returned.{result_read}
+use Rattle.ckc_blame_sound.proofs.Agree.{facts_agree}
+use Rattle.ckc_blame_sound.proofs.Returned.{result_read}
 use Rattle.ckc_blame_declared.proofs.Heads.{results_have_ends}
 use Rattle.ckc_blame_control.specs.Ready.{Faces}
 use Rattle.ckc_blame_control.proofs.Moved.{move_by}

@@ -29,8 +29,8 @@ use Rattle.ckc_build_elaborate.specs.Statements.{all_assigns, act_code, part_of}
 use Rattle.ckc_blame_sound.specs.Settings.{Setting}
 use Rattle.ckc_blame_sound.specs.Bodies.{globals_of_text}
 use Rattle.ckc_blame_sound.specs.Steps.{is_simple, IsStep}
-use Rattle.ckc_blame_numbers.proofs.Statements.{made_of, pair_same, passes}
-use Rattle.ckc_blame_numbers.proofs.Stepping.{ActLayer, viewed, judged_is, parted, code_is, out_call, out_return, out_check, out_bundle, first_step}
+use Rattle.ckc_blame_sound.proofs.Statements.{made_of, pair_same, passes}
+use Rattle.ckc_blame_sound.proofs.Stepping.{ActLayer, viewed, judged_is, parted, code_is, out_call, out_return, out_check, out_bundle, first_step}
 use Rattle.ckc_blame_control.proofs.Typed.{by_parts}
 use Rattle.ckc_blame_steps.specs.Results.{returned_by_act, returned_by}
 use Rattle.ckc_blame_steps.proofs.Calls.{value_is_judged}

@@ -30,20 +30,20 @@ use Rattle.ckc_blame_sound.specs.Few.{nodes_of, nodes_of_value, nodes_in}
 use Rattle.ckc_blame_sound.specs.Settings.{Setting, IsFunction}
 use Rattle.ckc_blame_sound.specs.Steps.{is_simple, IsStep, IsCondition}
 use Rattle.ckc_blame_sound.proofs.Tallies.{tally, is_tally, tally-append}
-use Rattle.ckc_blame_numbers.proofs.Statements.{made_of, pair_same, passes}
-use Rattle.ckc_blame_numbers.proofs.Stepping.{ActLayer, act_back, judged_is, viewed, out_call, out_return, out_check}
-use Rattle.ckc_blame_texts.specs.Judged.{IsJudged}
-use Rattle.ckc_blame_texts.proofs.SameViews.{same_view}
+use Rattle.ckc_blame_sound.proofs.Statements.{made_of, pair_same, passes}
+use Rattle.ckc_blame_sound.proofs.Stepping.{ActLayer, act_back, judged_is, viewed, out_call, out_return, out_check}
+use Rattle.ckc_blame_sound.specs.JudgedTexts.{IsJudged}
+use Rattle.ckc_blame_sound.proofs.SameViews.{same_view}
 use Rattle.ckc_blame_walk.proofs.Fresh.{fresh_are_few}
 use Rattle.ckc_blame_walk.proofs.Rooms.{nodes_each, assign_nodes, bundle_nodes, call_nodes, check_nodes, return_nodes, local_nodes}
 use Rattle.ckc_blame_control.proofs.Typed.{has_fresh}
 use Rattle.ckc_blame_given.specs.Stored.{IsAssignJudged, AreAssignsJudged}
 use Rattle.ckc_blame_given.proofs.Stored.{assignment_stored, bundle_stored}
 use Rattle.ckc_blame_given.proofs.Views.{node_back}
-use Rattle.ckc_blame_facts.specs.Rooms.{HasPlaces}
-use Rattle.ckc_blame_facts.proofs.Rooms.{nodes_all, next_most, step_far, condition_places}
-use Rattle.ckc_blame_facts.proofs.Small.{few_locals}
-use Rattle.ckc_blame_facts.proofs.Values.{values_are_few}
+use Rattle.ckc_blame_steps.specs.ExpressionRooms.{HasPlaces}
+use Rattle.ckc_blame_steps.proofs.ExpressionRooms.{nodes_all, next_most, step_far, condition_places}
+use Rattle.ckc_blame_steps.proofs.Small.{few_locals}
+use Rattle.ckc_blame_steps.proofs.Values.{values_are_few}
 use Rattle.ckc_blame_steps.specs.Arguments.{numbers_behind}
 use Rattle.ckc_blame_steps.specs.Granted.{HasRoom, HaveRoomSides, HaveRoom, HasRoomInit, HasRoomAct}
 use Rattle.ckc_blame_steps.specs.Results.{returned_by_act, returned_by}

@@ -20,7 +20,7 @@ use Rattle.ckc_typed.specs.Types.{is_char, is_integer, is_pointer, is_scalar, el
 use Rattle.ckc_typed_welltyped.specs.Expressions.{AnyLimits, AnyNode, HasType}
 use Rattle.ckc_blame_sound.specs.Settings.{Setting}
 use Rattle.ckc_blame_sound.proofs.Facts.{one_of}
-use Rattle.ckc_blame_numbers.specs.Typed.{IsRow, HasRow, IsTyped}
+use Rattle.ckc_blame_sound.specs.Typed.{IsRow, HasRow, IsTyped}
 
 second_or : (a b : Bool) → b ≡ true → (a || b) ≡ true
 second_or true b e = refl

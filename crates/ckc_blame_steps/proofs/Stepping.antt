@@ -43,8 +43,8 @@ use Rattle.ckc_blame_sound.specs.Settings.{Setting, AreStrings}
 use Rattle.ckc_blame_sound.specs.Bodies.{globals_of_text, IsInBody}
 use Rattle.ckc_blame_sound.specs.Calls.{arguments_of_node, arguments_of_expr, arguments_of_init, arguments_of_act, arguments_of, head_by_name, head_of_node, head_of_expr, head_of_init, head_of_act, head_of}
 use Rattle.ckc_blame_sound.specs.Steps.{is_simple, IsStep}
-use Rattle.ckc_blame_numbers.proofs.Statements.{made_of, pair_same, passes}
-use Rattle.ckc_blame_numbers.proofs.Stepping.{ActLayer, viewed, judged_is, parted, code_is, out_call, out_return, out_check, out_bundle, first_step}
+use Rattle.ckc_blame_sound.proofs.Statements.{made_of, pair_same, passes}
+use Rattle.ckc_blame_sound.proofs.Stepping.{ActLayer, viewed, judged_is, parted, code_is, out_call, out_return, out_check, out_bundle, first_step}
 use Rattle.ckc_blame_control.proofs.Typed.{by_parts}
 use Rattle.ckc_blame_steps.specs.Arguments.{literals_before_act, literals_before}
 use Rattle.ckc_blame_steps.specs.Results.{value_of_init, value_of_act, value_of, type_of_act, type_of}

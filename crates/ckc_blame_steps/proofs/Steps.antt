@@ -22,10 +22,10 @@ use Rattle.ckc_blame_sound.specs.Calls.{store_in}
 use Rattle.ckc_blame_sound.specs.Settings.{Setting, IsFunction}
 use Rattle.ckc_blame_sound.specs.Slots.{AreFilled}
 use Rattle.ckc_blame_sound.specs.Sound.{Sound}
-use Rattle.ckc_blame_runs.specs.Moves.{IsSoundMove}
-use Rattle.ckc_blame_numbers.specs.Typed.{AreTypedSides, IsTypedAct}
-use Rattle.ckc_blame_texts.specs.Judged.{globals_in}
-use Rattle.ckc_blame_texts.proofs.Frames.{frames_agree}
+use Rattle.ckc_blame_sound.specs.Moves.{IsSoundMove}
+use Rattle.ckc_blame_sound.specs.Typed.{AreTypedSides, IsTypedAct}
+use Rattle.ckc_blame_sound.specs.JudgedTexts.{globals_in}
+use Rattle.ckc_blame_sound.proofs.Frames.{frames_agree}
 use Rattle.ckc_blame_control.specs.Known.{IsKnownPoint}
 use Rattle.ckc_blame_control.specs.Ready.{Faces}
 use Rattle.ckc_blame_control.proofs.Moved.{move_by}

@@ -23,15 +23,15 @@ use Rattle.ckc_blame_sound.specs.Settings.{Setting, IsFunction, setting_of}
 use Rattle.ckc_blame_sound.specs.Sound.{Sound}
 use Rattle.ckc_blame_sound.specs.Valuations.{Valuation, AreFacts}
 use Rattle.ckc_blame_sound.proofs.Kept.{point_kept}
-use Rattle.ckc_blame_runs.specs.Moves.{IsSoundMove}
+use Rattle.ckc_blame_sound.specs.Moves.{IsSoundMove}
 use Rattle.ckc_blame_sound.specs.Slots.{AreFilled}
-use Rattle.ckc_blame_slots.specs.Cells.{AreSound, HaveOwnNames}
-use Rattle.ckc_blame_slots.specs.Writes.{AreCellWrites}
-use Rattle.ckc_blame_slots.specs.Limited.{AreSlotParts}
-use Rattle.ckc_blame_texts.proofs.Frames.{frames_agree}
-use Rattle.ckc_blame_texts.proofs.Members.{have_own_names}
-use Rattle.ckc_blame_contained.specs.Elements.{NameIntegerMembers}
-use Rattle.ckc_blame_contained.proofs.Agree.{facts_agree}
+use Rattle.ckc_blame_sound.specs.Cells.{AreSound, HaveOwnNames}
+use Rattle.ckc_blame_sound.specs.Writes.{AreCellWrites}
+use Rattle.ckc_blame_sound.specs.Limited.{AreSlotParts}
+use Rattle.ckc_blame_sound.proofs.Frames.{frames_agree}
+use Rattle.ckc_blame_sound.proofs.Members.{have_own_names}
+use Rattle.ckc_blame_sound.specs.Elements.{NameIntegerMembers}
+use Rattle.ckc_blame_sound.proofs.Agree.{facts_agree}
 use Rattle.ckc_blame_declared.proofs.HaveEnds.{locals_have_ends}
 use Rattle.ckc_blame_control.specs.Kept.{KeepRanges, IsSameCall}
 use Rattle.ckc_blame_control.specs.Ready.{Faces}

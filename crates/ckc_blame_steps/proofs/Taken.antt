@@ -22,10 +22,10 @@ use Rattle.ckc_blame_sound.specs.Settings.{Setting}
 use Rattle.ckc_blame_sound.specs.Values.{number_of, IsNumberOf}
 use Rattle.ckc_blame_sound.specs.Valuations.{Valuation, form_address, AreFacts}
 use Rattle.ckc_blame_sound.proofs.Typed.{number_in_type}
-use Rattle.ckc_blame_numbers.proofs.Types.{no_pointer, char_is, in_type_of, word_wide}
-use Rattle.ckc_blame_numbers.proofs.Words.{InType, exact_is, read_back, narrowed_is}
-use Rattle.ckc_blame_contained.specs.Containment.{IsReadWithin}
-use Rattle.ckc_blame_contained.specs.Given.{memory_of}
+use Rattle.ckc_blame_sound.proofs.Types.{no_pointer, char_is, in_type_of, word_wide}
+use Rattle.ckc_blame_sound.proofs.IntegerWords.{InType, exact_is, read_back, narrowed_is}
+use Rattle.ckc_blame_sound.specs.Containment.{IsReadWithin}
+use Rattle.ckc_blame_sound.specs.GivenValues.{memory_of}
 use Rattle.ckc_blame_given.specs.Gives.{Gives}
 use Rattle.ckc_blame_given.proofs.Converted.{Becomes, element_looser}
 use Rattle.ckc_blame_steps.proofs.Converted.{taken, taken_zero, taken_pointer}

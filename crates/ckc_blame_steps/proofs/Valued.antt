@@ -20,7 +20,7 @@ use Rattle.ckc_blame_sound.specs.Bodies.{AreFresh}
 use Rattle.ckc_blame_sound.specs.Settings.{Setting}
 use Rattle.ckc_blame_sound.specs.Values.{number_of, IsNumberOf}
 use Rattle.ckc_blame_sound.specs.Valuations.{Valuation, IsValuationOf, AreNumbersOf}
-use Rattle.ckc_blame_slots.proofs.Apart.{three}
+use Rattle.ckc_blame_sound.proofs.Apart.{three}
 use Rattle.ckc_blame_pointers.proofs.Later.{parts_room, next_more}
 use Rattle.ckc_blame_given.specs.Gives.{Continues}
 use Rattle.ckc_blame_steps.proofs.Callocs.{IsCalloc, count_type}

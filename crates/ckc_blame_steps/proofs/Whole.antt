@@ -18,7 +18,7 @@ use Rattle.ckc_build_elaborate.specs.Steps.{spot, nowhere, assigned_form}
 use Rattle.ckc_blame_sound.specs.Calls.{store_in}
 use Rattle.ckc_blame_sound.specs.Settings.{Setting}
 use Rattle.ckc_blame_sound.specs.Sound.{Sound}
-use Rattle.ckc_blame_runs.specs.Moves.{IsSoundMove}
+use Rattle.ckc_blame_sound.specs.Moves.{IsSoundMove}
 use Rattle.ckc_blame_control.specs.Ready.{Faces}
 use Rattle.ckc_blame_control.proofs.Faced.{faces_assign}
 use Rattle.ckc_blame_control.proofs.Moved.{stands_ready}

@@ -16,7 +16,7 @@ use Rattle.ckc_build_values.proofs.Counted.{expr_counted}
 use Rattle.ckc_blame_sound.specs.Points.{HoldsAt}
 use Rattle.ckc_blame_sound.specs.Settings.{Setting, AreStrings}
 use Rattle.ckc_blame_sound.proofs.Strings.{strings_in_front, strings_after}
-use Rattle.ckc_blame_numbers.specs.Typed.{Agrees}
+use Rattle.ckc_blame_sound.specs.Typed.{Agrees}
 use Rattle.ckc_blame_pointers.specs.Covered.{DeclareLocals, IsSoundStore}
 use Rattle.ckc_blame_pointers.specs.Meant.{IsNotStuck}
 use Rattle.ckc_blame_given.specs.At.{GivesAt}

@@ -11,12 +11,12 @@ use Rattle.ckc_source.specs.Blocks.{Block, stored}
 use Rattle.ckc_source.specs.Eval.{given}
 use Rattle.ckc_source.specs.States.{State}
 use Rattle.ckc_source.specs.Steps.{Write, with_blocks, writes, all_written}
-use Rattle.ckc_blame_slots.specs.Cells.{AreSound}
-use Rattle.ckc_blame_slots.specs.Writes.{IsCellWrite, AreCellWrites}
-use Rattle.ckc_blame_slots.proofs.Apart.{cell_there}
-use Rattle.ckc_blame_slots.proofs.Kept.{sound_after}
-use Rattle.ckc_blame_slots.proofs.Stores.{store_some}
-use Rattle.ckc_blame_slots.proofs.Written.{cell_after}
+use Rattle.ckc_blame_sound.specs.Cells.{AreSound}
+use Rattle.ckc_blame_sound.specs.Writes.{IsCellWrite, AreCellWrites}
+use Rattle.ckc_blame_sound.proofs.Apart.{cell_there}
+use Rattle.ckc_blame_sound.proofs.KeptBlocks.{sound_after}
+use Rattle.ckc_blame_sound.proofs.Stores.{store_some}
+use Rattle.ckc_blame_sound.proofs.Written.{cell_after}
 
 -- what writes leave as it is
 pub record IsLeft (s t : State) : Type 0 where

@@ -16,7 +16,7 @@ use Rattle.ckc_build_values.specs.Expressions.{expr_elaborated, literals_of}
 use Rattle.ckc_build_elaborate.specs.Literals.{literals_of_bounds}
 use Rattle.ckc_blame_sound.specs.Settings.{Setting}
 use Rattle.ckc_blame_sound.specs.Valuations.{Valuation, IsValuationOf}
-use Rattle.ckc_blame_contained.specs.Containment.{IsNarrowed}
+use Rattle.ckc_blame_sound.specs.Containment.{IsNarrowed}
 use Rattle.ckc_blame_pointers.specs.Meant.{IsNotStuck}
 use Rattle.ckc_blame_given.specs.Gives.{GivesOn}
 

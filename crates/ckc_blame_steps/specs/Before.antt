@@ -11,11 +11,11 @@ use Rattle.ckc_bounds_statements.specs.Paths.{Here}
 use Rattle.ckc_source.specs.Eval.{Store}
 use Rattle.ckc_blame_sound.specs.Settings.{Setting}
 use Rattle.ckc_blame_sound.specs.Sized.{HasOnlySized}
-use Rattle.ckc_blame_numbers.specs.Typed.{IsTyped}
+use Rattle.ckc_blame_sound.specs.Typed.{IsTyped}
 use Rattle.ckc_blame_pointers.specs.Covered.{IsCovered}
-use Rattle.ckc_blame_texts.specs.Judged.{globals_in}
-use Rattle.ckc_blame_facts.specs.Checked.{IsChecked}
-use Rattle.ckc_blame_facts.specs.Told.{IsTold, IsSpoken}
+use Rattle.ckc_blame_sound.specs.JudgedTexts.{globals_in}
+use Rattle.ckc_blame_steps.specs.Checked.{IsChecked}
+use Rattle.ckc_blame_steps.specs.Told.{IsTold, IsSpoken}
 
 -- ---- before
 

@@ -9,7 +9,7 @@ use Rattle.ckc_bounds_statements.specs.Paths.{Here}
 use Rattle.ckc_source.specs.Eval.{Store}
 use Rattle.ckc_blame_sound.specs.Bodies.{AreFresh}
 use Rattle.ckc_blame_sound.specs.Settings.{Setting}
-use Rattle.ckc_blame_numbers.specs.Typed.{IsTyped}
+use Rattle.ckc_blame_sound.specs.Typed.{IsTyped}
 use Rattle.ckc_blame_pointers.specs.Covered.{IsCovered}
 use Rattle.ckc_blame_steps.specs.Arguments.{numbers_behind}
 

@@ -32,9 +32,9 @@ use Rattle.ckc_blame_sound.specs.Settings.{Setting, IsFunction}
 use Rattle.ckc_blame_sound.specs.Slots.{AreFilled}
 use Rattle.ckc_blame_sound.specs.Steps.{IsStep}
 use Rattle.ckc_blame_sound.specs.Words.{HaveWords}
-use Rattle.ckc_blame_slots.specs.Limited.{AreSlotParts}
-use Rattle.ckc_blame_contained.specs.Elements.{NameIntegerMembers}
-use Rattle.ckc_blame_texts.specs.Judged.{IsJudged}
+use Rattle.ckc_blame_sound.specs.Limited.{AreSlotParts}
+use Rattle.ckc_blame_sound.specs.Elements.{NameIntegerMembers}
+use Rattle.ckc_blame_sound.specs.JudgedTexts.{IsJudged}
 use Rattle.ckc_blame_pointers.specs.Covered.{DeclareLocals, IsSoundStore, IsCovered}
 use Rattle.ckc_blame_given.specs.Written.{IsDeclared}
 use Rattle.ckc_blame_given.specs.Targets.{KeepRunsFree, IsCoveredTarget}

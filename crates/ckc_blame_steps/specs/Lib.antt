@@ -10,3 +10,9 @@ pub mod Known
 pub mod Rooms
 pub mod Before
 pub mod Accepted
+pub mod Statics
+pub mod Pointees
+pub mod Values
+pub mod ExpressionRooms
+pub mod Checked
+pub mod Told

@@ -28,8 +28,8 @@ use Rattle.ckc_blame_sound.specs.Settings.{Setting, AreStrings, IsFunction}
 use Rattle.ckc_blame_sound.specs.Steps.{IsStep}
 use Rattle.ckc_blame_sound.specs.Slots.{AreFilled}
 use Rattle.ckc_blame_sound.specs.Valuations.{Valuation, IsValuationOf}
-use Rattle.ckc_blame_numbers.specs.Typed.{IsTyped}
-use Rattle.ckc_blame_texts.specs.Judged.{globals_in}
+use Rattle.ckc_blame_sound.specs.Typed.{IsTyped}
+use Rattle.ckc_blame_sound.specs.JudgedTexts.{globals_in}
 use Rattle.ckc_blame_pointers.specs.Covered.{IsSoundStore, IsCovered}
 use Rattle.ckc_blame_given.specs.Gives.{Continues}
 use Rattle.ckc_blame_given.specs.Planned.{ArePlanned}

@@ -34,8 +34,8 @@ use Rattle.ckc_blame_sound.specs.Points.{HoldsAt}
 use Rattle.ckc_blame_sound.specs.Steps.{IsStep}
 use Rattle.ckc_blame_sound.specs.Calls.{store_in}
 use Rattle.ckc_blame_sound.specs.Slots.{AreFilled}
-use Rattle.ckc_blame_slots.specs.Cells.{AreSound}
-use Rattle.ckc_blame_contained.specs.Given.{memory_of, IsFrom}
+use Rattle.ckc_blame_sound.specs.Cells.{AreSound}
+use Rattle.ckc_blame_sound.specs.GivenValues.{memory_of, IsFrom}
 use Rattle.ckc_blame_control.specs.Kept.{KeepRanges}
 use Rattle.ckc_blame_steps.specs.Arguments.{GivesWord}
 

@@ -3,8 +3,8 @@
 ghost use Rattle.ckc_typed.specs.declared.typed.Typed.{Typed};
 ghost use Rattle.ckc_source.specs.Code.{Function};
 ghost use Rattle.ckc_blame_sound.specs.Settings.{Setting, IsFunction};
-ghost use Rattle.ckc_blame_slots.specs.Limited.{AreSlotParts};
-ghost use Rattle.ckc_blame_texts.specs.Judged.{IsJudged};
+ghost use Rattle.ckc_blame_sound.specs.Limited.{AreSlotParts};
+ghost use Rattle.ckc_blame_sound.specs.JudgedTexts.{IsJudged};
 ghost use Rattle.ckc_blame_pointers.specs.Covered.{DeclareLocals};
 ghost use Rattle.ckc_blame_steps.specs.Plans.{AllocateSoundly};
 

@@ -18,7 +18,7 @@ ghost use Rattle.ckc_blame_sound.specs.Safe.{AreSafe};
 ghost use Rattle.ckc_blame_sound.specs.Settings.{Setting, IsFunction};
 ghost use Rattle.ckc_blame_sound.specs.Steps.{IsStep};
 ghost use Rattle.ckc_blame_sound.specs.Words.{HaveWords};
-ghost use Rattle.ckc_blame_texts.specs.Judged.{IsJudged};
+ghost use Rattle.ckc_blame_sound.specs.JudgedTexts.{IsJudged};
 ghost use Rattle.ckc_blame_steps.specs.Before.{Premises, AreCoveredThere, IsCoveredIf};
 ghost use Rattle.ckc_blame_steps.specs.Granted.{IsCoveredAct};
 ghost use Rattle.ckc_blame_steps.specs.Results.{returned_by};

@@ -11,7 +11,7 @@ ghost use Rattle.ckc_bounds_statements.specs.Paths.{Here};
 ghost use Rattle.ckc_source.specs.Code.{Code, Function};
 ghost use Rattle.ckc_blame_sound.specs.Settings.{Setting, IsFunction};
 ghost use Rattle.ckc_blame_sound.specs.Steps.{IsStep};
-ghost use Rattle.ckc_blame_texts.specs.Judged.{IsJudged};
+ghost use Rattle.ckc_blame_sound.specs.JudgedTexts.{IsJudged};
 ghost use Rattle.ckc_blame_given.specs.Written.{IsDeclared};
 ghost use Rattle.ckc_blame_steps.specs.Callees.{HaveFewVariables};
 ghost use Rattle.ckc_blame_steps.specs.Spared.{SpareResults};

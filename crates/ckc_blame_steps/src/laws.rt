@@ -9,7 +9,7 @@ ghost use Rattle.ckc_source.specs.States.{Work, Rest, State, settled};
 ghost use Rattle.ckc_source.specs.Steps.{source_step, spot_of};
 ghost use Rattle.ckc_build_elaborate.specs.Elaborated.{elaborated};
 ghost use Rattle.ckc_blame_sound.specs.Sound.{Sound};
-ghost use Rattle.ckc_blame_runs.specs.Moves.{IsSoundMove};
+ghost use Rattle.ckc_blame_sound.specs.Moves.{IsSoundMove};
 ghost use Rattle.ckc_blame_steps.specs.Granted.{IsGranted};
 
 /// An assignment, a declaration and a bundle of mode Checked that is the next step of a sound state

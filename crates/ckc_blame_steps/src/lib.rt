@@ -6,11 +6,16 @@ mod accepted_laws;
 mod allocated_laws;
 mod calls_laws;
 mod covered_laws;
+mod covers_laws;
 mod decided_laws;
 mod declared_laws;
+mod facts_accepted_laws;
+mod facts_laws;
 mod laws;
+mod locals_laws;
 mod results_laws;
 mod rooms_laws;
+mod spoken_laws;
 mod whole_laws;
 
 pub use accepted_laws::accepted_texts_are_blamed;
@@ -28,3 +33,19 @@ pub use whole_laws::{
     checked_never_stuck, checked_steps_keep_sound, first_state_sound, steps_stay_sound,
     stuck_is_blamed, wholly_checked_never_stuck,
 };
+pub use facts_accepted_laws::{
+    bodies_are_given, declared_types_are_fine, locals_are_spared, names_of_members_are_small,
+    objects_begin_as_bytes, runs_are_free,
+};
+pub use covers_laws::{
+    checked_conditions_are_covered, checked_parts_are_safe, declared_structures_are_laid_out,
+    expressions_are_covered, members_are_told, texts_are_safe, texts_are_told,
+};
+pub use facts_laws::{
+    callees_have_heads, functions_are_small, pointees_are_integers, statics_are_told,
+    steps_have_room, texts_have_few,
+};
+pub use locals_laws::{
+    locals_are_in_scope, locals_are_scalars, locals_declare, locals_declare_ones,
+};
+pub use spoken_laws::checked_expressions_are_spoken;

@@ -13,7 +13,7 @@ ghost use Rattle.ckc_source.specs.Code.{Code, Expr, Function};
 ghost use Rattle.ckc_blame_sound.specs.Calls.{arguments_of};
 ghost use Rattle.ckc_blame_sound.specs.Settings.{Setting, IsFunction};
 ghost use Rattle.ckc_blame_sound.specs.Steps.{IsStep, IsCondition};
-ghost use Rattle.ckc_blame_texts.specs.Judged.{IsJudged};
+ghost use Rattle.ckc_blame_sound.specs.JudgedTexts.{IsJudged};
 ghost use Rattle.ckc_blame_steps.specs.Granted.{HasRoomAct};
 ghost use Rattle.ckc_blame_steps.specs.Results.{returned_by};
 ghost use Rattle.ckc_blame_steps.specs.Rooms.{HasRoomFrom, HaveRoomEach};

@@ -12,7 +12,7 @@ ghost use Rattle.ckc_source.specs.Steps.{source_step, spot_of};
 ghost use Rattle.ckc_build_elaborate.specs.Elaborated.{elaborated};
 ghost use Rattle.ckc_blame.specs.Checked.{WhollyChecked};
 ghost use Rattle.ckc_blame_sound.specs.Sound.{Sound};
-ghost use Rattle.ckc_blame_runs.specs.Moves.{IsSoundMove};
+ghost use Rattle.ckc_blame_sound.specs.Moves.{IsSoundMove};
 ghost use Rattle.ckc_blame_control.specs.Whole.{KeepSound};
 ghost use Rattle.ckc_blame_steps.specs.Known.{IsKnown, Begins};
 

@@ -21,7 +21,7 @@ use Rattle.ckc_bounds_views.specs.Parts.{LimitsView, NodeView, View, fresh_behin
 use Rattle.ckc_bounds_views.specs.Views.{limits_view, node_view, expr_view, view}
 use Rattle.ckc_bounds_statements.specs.Paths.{Here, expr_judged, value_judged, values_judged, maybe_judged, init_judged, side_of, starts_within, declared_here, bounds_judged, stated, sides_judged, behind_stores, gone, is_returned, is_good, needs_expr, Path, ActPath, ActOfPaths, act_path, stmt_path, path_of_act, path, all_judged, parts_judged, bundle_judged, part_judged, closed, other_side, maybe_side, maybe_other, if_judged, for_judged, loop_head, maybe_point, to_step}
 use Rattle.ckc_blame_walk.proofs.Pieces.{Gives, through, nested, given, unless_gives, as_list, named_list, value_named}
-use Rattle.ckc_blame_texts.proofs.SameViews.{same_view}
+use Rattle.ckc_blame_sound.proofs.SameViews.{same_view}
 use Rattle.ckc_blame_walk.proofs.Walk.{unless_nested}
 use Rattle.ckc_blame_walk.proofs.Twins.{TwinExpr, TwinValue, TwinAll, TwinInit, bare, Twin, TwinIf, TwinList, needs_same, sides_counted}
 use Rattle.ckc_blame_walk.proofs.Acts.{two, bare_both, each_same, some_same, each_bare, some_bare, value_needs, value_none, TwinAct, if_twin, while_twin, for_twin, local_twin, assign_twin, call_twin, check_twin, return_twin, bundle_twin, block_twin}

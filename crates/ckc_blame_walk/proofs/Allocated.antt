@@ -37,11 +37,11 @@ use Rattle.ckc_typed_welltyped.proofs.ByParts.{stmt_by_parts}
 use Rattle.ckc_bounds_known.proofs.Reaching.{and_cases}
 use Rattle.ckc_blame_sound.specs.Sized.{IsSizedNode, IsSizedPart, IsSized, HasOnlySized, AllocateSizes}
 use Rattle.ckc_blame_sound.specs.Words.{exprs_of_act, exprs_of_stmt, exprs_in}
-use Rattle.ckc_blame_texts.specs.Judged.{IsJudged}
-use Rattle.ckc_blame_texts.proofs.Bares.{same_tree}
-use Rattle.ckc_blame_texts.proofs.Bounded.{layout_kept}
-use Rattle.ckc_blame_texts.proofs.Every.{ExprLayer, each_follows}
-use Rattle.ckc_blame_texts.proofs.Functions.{tree_named}
+use Rattle.ckc_blame_sound.specs.JudgedTexts.{IsJudged}
+use Rattle.ckc_blame_sound.proofs.Bares.{same_tree}
+use Rattle.ckc_blame_sound.proofs.Bounded.{layout_kept}
+use Rattle.ckc_blame_sound.proofs.Every.{ExprLayer, each_follows}
+use Rattle.ckc_blame_sound.proofs.Functions.{tree_named}
 use Rattle.ckc_blame_walk.proofs.Exprs.{node_open, expr_follows}
 use Rattle.ckc_blame_walk.proofs.Layers.{walk_of, walk_of_act, act_walk, act_walk_rolled, walk_stated}
 use Rattle.ckc_blame_walk.proofs.Sized.{tag_tests, type_sized}

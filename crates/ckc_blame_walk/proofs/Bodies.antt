@@ -25,10 +25,10 @@ use Rattle.ckc_bounds_statements.specs.Paths.{local_in, path}
 use Rattle.ckc_bounds.specs.Declarations.{local_made, types_in, declared_in}
 use Rattle.ckc_bounds.specs.Frames.{all_of, name_seen, first_fresh, nameless, function_frame}
 use Rattle.ckc_blame_sound.specs.Settings.{Setting}
-use Rattle.ckc_blame_texts.specs.Judged.{IsJudged}
-use Rattle.ckc_blame_texts.specs.Numbered.{AreLocals}
-use Rattle.ckc_blame_texts.proofs.Functions.{tree_named, all_made}
-use Rattle.ckc_blame_texts.proofs.Locals.{names_declared}
+use Rattle.ckc_blame_sound.specs.JudgedTexts.{IsJudged}
+use Rattle.ckc_blame_sound.specs.Numbered.{AreLocals}
+use Rattle.ckc_blame_sound.proofs.Functions.{tree_named, all_made}
+use Rattle.ckc_blame_sound.proofs.Locals.{names_declared}
 use Rattle.ckc_blame_declared.proofs.Locals.{local_is, name_at, from_zero}
 use Rattle.ckc_blame_declared.proofs.Parameters.{all_at}
 use Rattle.ckc_blame_walk.specs.Scopes.{tests_of, items_of, scope_of, HasLocal, IsScope, HasOwnBounds, AreNext, IsScoped}

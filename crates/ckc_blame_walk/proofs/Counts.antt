@@ -28,11 +28,11 @@ use Rattle.ckc_build_values.specs.Kinds.{width_of, integer_in, integer_of, count
 use Rattle.ckc_build_values.specs.Members.{offset_of, member_named, integer_in_member, count_by}
 use Rattle.ckc_build_values.specs.Names.{fixed_by, fixed_count, count_declared, limits_declared, count_of_static}
 use Rattle.ckc_blame_sound.specs.Slots.{Slot, slot_by, slot_of_member, slots_in, slots_of}
-use Rattle.ckc_blame_slots.specs.Cells.{IsPartIn}
-use Rattle.ckc_blame_slots.specs.Limited.{IsCountPart, AreSlotParts}
-use Rattle.ckc_blame_texts.specs.Judged.{IsJudged}
-use Rattle.ckc_blame_texts.proofs.Accesses.{member_part}
-use Rattle.ckc_blame_texts.proofs.Slots.{slots_are_pointers}
+use Rattle.ckc_blame_sound.specs.Cells.{IsPartIn}
+use Rattle.ckc_blame_sound.specs.Limited.{IsCountPart, AreSlotParts}
+use Rattle.ckc_blame_sound.specs.JudgedTexts.{IsJudged}
+use Rattle.ckc_blame_sound.proofs.Accesses.{member_part}
+use Rattle.ckc_blame_sound.proofs.Slots.{slots_are_pointers}
 use Rattle.ckc_blame_walk.specs.Ready.{NameMembers}
 
 -- the member that a count names is a part of a type, by the form of the type

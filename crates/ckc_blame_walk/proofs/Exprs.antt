@@ -17,7 +17,7 @@ use Rattle.ckc_typed_fit.specs.Tests.{Tests, limits_parts, node_parts, expr_part
 use Rattle.ckc_typed_fit.specs.Visible.{is_visible}
 use Rattle.ckc_bounds_known.proofs.Reaching.{and_cases}
 use Rattle.ckc_blame_sound.specs.Scopes.{IsAmong, NamesAmong, NamesSeen}
-use Rattle.ckc_blame_texts.proofs.Every.{LimitsLayer, ExprLayer, EachLimits, EachNode, EachExpr}
+use Rattle.ckc_blame_sound.proofs.Every.{LimitsLayer, ExprLayer, EachLimits, EachNode, EachExpr}
 use Rattle.ckc_blame_walk.specs.Scopes.{tests_of, HasLocal}
 
 module _ (tests : Tests) (visible : List Name) where

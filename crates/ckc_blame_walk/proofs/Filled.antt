@@ -17,14 +17,14 @@ use Rattle.ckc_source.specs.Eval.{given_some, place_in, counted}
 use Rattle.ckc_build_elaborate.specs.Lists.{beside}
 use Rattle.ckc_build_elaborate.specs.Objects.{object_elaborated}
 use Rattle.ckc_blame_sound.specs.Slots.{slots_of, AreFilled}
-use Rattle.ckc_blame_slots.specs.Cells.{IsPart, AreSound}
-use Rattle.ckc_blame_slots.specs.Limited.{IsCountPart, store_with}
-use Rattle.ckc_blame_slots.proofs.Stores.{inside, lies_parts}
-use Rattle.ckc_blame_slots.proofs.Parts.{Lies, part_lies}
-use Rattle.ckc_blame_slots.proofs.Places.{part_has}
-use Rattle.ckc_blame_slots.proofs.Ranges.{contains_at}
-use Rattle.ckc_blame_slots.proofs.Apart.{base_from, placed_at, cell_there}
-use Rattle.ckc_blame_slots.proofs.Filled.{filled_by, part_cell, part_place}
+use Rattle.ckc_blame_sound.specs.Cells.{IsPart, AreSound}
+use Rattle.ckc_blame_sound.specs.Limited.{IsCountPart, store_with}
+use Rattle.ckc_blame_sound.proofs.Stores.{inside, lies_parts}
+use Rattle.ckc_blame_sound.proofs.Parts.{Lies, part_lies}
+use Rattle.ckc_blame_sound.proofs.Places.{part_has}
+use Rattle.ckc_blame_sound.proofs.Ranges.{contains_at}
+use Rattle.ckc_blame_sound.proofs.Apart.{base_from, placed_at, cell_there}
+use Rattle.ckc_blame_sound.proofs.Filled.{filled_by, part_cell, part_place}
 use Rattle.ckc_blame_walk.specs.Ready.{HavePointerSlots}
 use Rattle.ckc_blame_walk.proofs.Entered.{filled_at}
 use Rattle.ckc_blame_walk.proofs.Starts.{AreZeros}

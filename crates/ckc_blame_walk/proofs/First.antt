@@ -15,7 +15,7 @@ use Rattle.ckc_build_elaborate.specs.Objects.{count_declared}
 use Rattle.ckc_blame_sound.specs.Settings.{Setting, IsFunction, setting_of}
 use Rattle.ckc_blame_sound.specs.Calls.{AreWaiting}
 use Rattle.ckc_blame_sound.specs.Sound.{Sound}
-use Rattle.ckc_blame_texts.proofs.Literals.{text_strings}
+use Rattle.ckc_blame_sound.proofs.Literals.{text_strings}
 use Rattle.ckc_blame_walk.specs.Entries.{MayEnter}
 use Rattle.ckc_blame_walk.specs.Ready.{first_blocks, next_behind, HasObjects, HasFunctions}
 use Rattle.ckc_blame_walk.proofs.Entered.{params_many, entered_stands}

@@ -25,11 +25,11 @@ use Rattle.ckc_blame_sound.specs.Bodies.{IsInBody, IsNextFresh}
 use Rattle.ckc_blame_sound.specs.Few.{nodes_in, AreFew, HasRoom}
 use Rattle.ckc_blame_sound.specs.Judged.{Judged}
 use Rattle.ckc_blame_sound.proofs.Strings.{strings_after}
-use Rattle.ckc_blame_texts.specs.Judged.{IsJudged, IsBodyJudged, globals_in}
-use Rattle.ckc_blame_texts.proofs.Bodies.{bodies_are_typed, declared_known}
-use Rattle.ckc_blame_texts.proofs.Frames.{variables_moved, declared_counted}
-use Rattle.ckc_blame_texts.proofs.Locals.{names_declared, variables_declared}
-use Rattle.ckc_blame_texts.proofs.Parameters.{locals_come_after}
+use Rattle.ckc_blame_sound.specs.JudgedTexts.{IsJudged, IsBodyJudged, globals_in}
+use Rattle.ckc_blame_sound.proofs.Bodies.{bodies_are_typed, declared_known}
+use Rattle.ckc_blame_sound.proofs.Frames.{variables_moved, declared_counted}
+use Rattle.ckc_blame_sound.proofs.Locals.{names_declared, variables_declared}
+use Rattle.ckc_blame_sound.proofs.Parameters.{locals_come_after}
 use Rattle.ckc_blame_nested.specs.Nested.{AreNested}
 use Rattle.ckc_blame_walk.specs.Walks.{leaving}
 use Rattle.ckc_blame_walk.proofs.Twins.{Agree, SameHere, bare, Twin}
@@ -40,8 +40,8 @@ use Rattle.ckc_blame_walk.proofs.Rooms.{statement_nodes}
 use Rattle.ckc_blame_walk.proofs.Functions.{function_goes}
 use Rattle.ckc_blame_walk.specs.Scopes.{IsScoped}
 use Rattle.ckc_blame_walk.proofs.Bodies.{body_scoped}
-use Rattle.ckc_blame_texts.specs.Numbered.{AreLocals}
-use Rattle.ckc_blame_texts.proofs.Functions.{numbered}
+use Rattle.ckc_blame_sound.specs.Numbered.{AreLocals}
+use Rattle.ckc_blame_sound.proofs.Functions.{numbered}
 use Rattle.std.specs.List.{flat_map}
 
 -- ---- a frame reads no initialiser

@@ -9,8 +9,8 @@ use Rattle.ckc_source.specs.LaidOut.{IsLaidOut}
 use Rattle.ckc_source.specs.Source.{first_state}
 use Rattle.ckc_build_elaborate.specs.Elaborated.{elaborated}
 use Rattle.ckc_blame_sound.specs.Sound.{Sound}
-use Rattle.ckc_blame_slots.specs.Limited.{AreSlotParts}
-use Rattle.ckc_blame_texts.specs.Judged.{IsJudged}
+use Rattle.ckc_blame_sound.specs.Limited.{AreSlotParts}
+use Rattle.ckc_blame_sound.specs.JudgedTexts.{IsJudged}
 use Rattle.ckc_blame_nested.specs.Nested.{AreNested}
 use Rattle.ckc_blame_walk.specs.Walks.{leaving}
 use Rattle.ckc_blame_walk.proofs.Frames.{text_goes}

@@ -12,7 +12,7 @@ use Rattle.ckc_typed_welltyped.specs.Noteless.{BareAct, BareStmt, act_noteless, 
 use Rattle.ckc_resolve.specs.Trees.{NamedItem}
 use Rattle.ckc_typed_fit.specs.Tests.{Tests, Walked, act_walked, stmt_walked, walked_act, walked}
 use Rattle.ckc_bounds_statements.specs.Paths.{ActPath, Path, act_declared, act_path, stmt_path, path_of_act, path, stated}
-use Rattle.ckc_blame_texts.proofs.Bares.{Layer, bared}
+use Rattle.ckc_blame_sound.proofs.Bares.{Layer, bared}
 use Rattle.ckc_blame_walk.specs.Scopes.{tests_of, scope_of}
 
 map_twice : {A B C : Type 0} (f : A → B) (g : B → C) (xs : List A) → map g (map f xs) ≡ map (λ x. g (f x)) xs

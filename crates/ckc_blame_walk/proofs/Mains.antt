@@ -17,9 +17,9 @@ use Rattle.ckc_typed_fit.proofs.BodiesKept.{bodies_kept, main_kept}
 use Rattle.ckc_typed_welltyped.specs.Noteless.{bare_decl, bare_item}
 use Rattle.ckc_build_elaborate.specs.Names.{params_of}
 use Rattle.ckc_build_elaborate.specs.Bodies.{IsDefined}
-use Rattle.ckc_blame_texts.specs.Judged.{IsJudged}
-use Rattle.ckc_blame_texts.proofs.Bounded.{is_bounded}
-use Rattle.ckc_blame_texts.proofs.Functions.{tree_named}
+use Rattle.ckc_blame_sound.specs.JudgedTexts.{IsJudged}
+use Rattle.ckc_blame_sound.proofs.Bounded.{is_bounded}
+use Rattle.ckc_blame_sound.proofs.Functions.{tree_named}
 
 -- the name is that of a function with a body, and this has no parameters
 pub record IsBare (n : Name) (items : List NotedItem) : Type 0 where

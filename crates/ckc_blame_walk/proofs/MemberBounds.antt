@@ -25,8 +25,8 @@ use Rattle.ckc_typed.specs.Amounts.{fixed, is_multiple, variable_in_form, variab
 use Rattle.ckc_typed.specs.Layouts.{bounds_by, bounds_of}
 use Rattle.ckc_typed_welltyped.specs.Noteless.{bare_limits, bare_expr}
 use Rattle.ckc_typed_welltyped.specs.Expressions.{AnyLimits, AnyNode, HasType, IsNoted, WellTypedExpr, WellTypedNode, WellTypedLimits}
-use Rattle.ckc_blame_texts.proofs.Amounts.{limits_made, node_made, limits_out, layer_is, variable_bare, moved_is, counted_is}
-use Rattle.ckc_blame_texts.proofs.Every.{LimitsLayer, LimitsParts, limits_hold, node_hold, inside}
+use Rattle.ckc_blame_sound.proofs.Amounts.{limits_made, node_made, limits_out, layer_is, variable_bare, moved_is, counted_is}
+use Rattle.ckc_blame_sound.proofs.Every.{LimitsLayer, LimitsParts, limits_hold, node_hold, inside}
 
 -- ---- layers
 

@@ -18,9 +18,9 @@ use Rattle.ckc_source.proofs.Keeping.{from_zero}
 use Rattle.ckc_build_elaborate.specs.Objects.{run_in, objects_elaborated}
 use Rattle.ckc_build_elaborate.specs.Shapes.{shapes_elaborated}
 use Rattle.ckc_blame_sound.specs.Slots.{AreFilled}
-use Rattle.ckc_blame_slots.specs.Cells.{AreSound}
-use Rattle.ckc_blame_slots.specs.Limited.{store_with}
-use Rattle.ckc_blame_texts.proofs.Bounded.{is_bounded}
+use Rattle.ckc_blame_sound.specs.Cells.{AreSound}
+use Rattle.ckc_blame_sound.specs.Limited.{store_with}
+use Rattle.ckc_blame_sound.proofs.Bounded.{is_bounded}
 use Rattle.ckc_blame_walk.specs.Ready.{first_blocks, next_behind, HasObjects}
 use Rattle.ckc_blame_walk.proofs.Starts.{IsBegun, blocks_begun}
 use Rattle.ckc_blame_walk.proofs.Placed.{IsLaid, placed_laid, all_placed, are_objects, place_even}

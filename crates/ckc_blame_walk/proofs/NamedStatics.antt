@@ -30,9 +30,9 @@ use Rattle.ckc_typed_fit.proofs.NamedItems.{ItemNamed, ItemsNamed, text_is}
 use Rattle.ckc_typed_welltyped.specs.Noteless.{bare_decl, bare_item, without_notes}
 use Rattle.ckc_typed_welltyped.specs.Declarations.{WellTypedBare}
 use Rattle.ckc_typed_welltyped.specs.Texts.{WellTypedItem, WellTypedItems, members_seen}
-use Rattle.ckc_blame_texts.specs.Judged.{IsJudged}
-use Rattle.ckc_blame_texts.proofs.Bounded.{layout_kept}
-use Rattle.ckc_blame_texts.proofs.Members.{members_are}
+use Rattle.ckc_blame_sound.specs.JudgedTexts.{IsJudged}
+use Rattle.ckc_blame_sound.proofs.Bounded.{layout_kept}
+use Rattle.ckc_blame_sound.proofs.Members.{members_are}
 use Rattle.ckc_blame_walk.specs.Ready.{NameMembers}
 use Rattle.ckc_blame_walk.proofs.MemberBounds.{bounds_typed}
 

@@ -21,10 +21,10 @@ use Rattle.ckc_blame_sound.specs.Settings.{Setting, IsFunction}
 use Rattle.ckc_blame_sound.specs.Steps.{IsStep, IsCondition}
 use Rattle.ckc_blame_sound.specs.Scopes.{NamesSeen, NamesOnly, IsNewLocal}
 use Rattle.ckc_blame_sound.specs.Words.{exprs_in}
-use Rattle.ckc_blame_contained.specs.Given.{IsUnnamed}
-use Rattle.ckc_blame_texts.proofs.Bares.{bare_kept}
-use Rattle.ckc_blame_texts.proofs.Frames.{locals_are_there}
-use Rattle.ckc_blame_texts.proofs.Kept.{Keeps}
+use Rattle.ckc_blame_sound.specs.GivenValues.{IsUnnamed}
+use Rattle.ckc_blame_sound.proofs.Bares.{bare_kept}
+use Rattle.ckc_blame_sound.proofs.Frames.{locals_are_there}
+use Rattle.ckc_blame_sound.proofs.KeptTrees.{Keeps}
 use Rattle.ckc_blame_walk.proofs.Layers.{declares_itself}
 
 -- a judged expression is the same without its notes

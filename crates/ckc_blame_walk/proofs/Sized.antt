@@ -37,10 +37,10 @@ use Rattle.ckc_typed_fit.proofs.Found.{tags_have_bodies}
 use Rattle.ckc_typed_welltyped.specs.Noteless.{bare_item, without_notes}
 use Rattle.ckc_typed_welltyped.specs.Productions.{given_item, given_tree}
 use Rattle.ckc_typed_welltyped.specs.Texts.{WellTypedItem, WellTypedItems}
-use Rattle.ckc_blame_texts.specs.Judged.{IsJudged}
+use Rattle.ckc_blame_sound.specs.JudgedTexts.{IsJudged}
 use Rattle.ckc_blame_walk.specs.Ready.{HaveSizes}
 use Rattle.ckc_blame_walk.proofs.Starts.{char_size}
-use Rattle.ckc_blame_texts.proofs.Bounded.{is_bounded}
+use Rattle.ckc_blame_sound.proofs.Bounded.{is_bounded}
 use Rattle.ckc_blame_walk.proofs.Sizes.{HasMembers, all_members, sized, tag_sized}
 
 -- each tag has a body

@@ -33,7 +33,7 @@ use Rattle.ckc_typed_welltyped.specs.Noteless.{bare_decl, bare_item}
 use Rattle.ckc_typed_welltyped.specs.Declarations.{WellTypedBare}
 use Rattle.ckc_typed_welltyped.specs.Productions.{given_item}
 use Rattle.ckc_typed_welltyped.specs.Texts.{WellTypedItem, WellTypedItems, members_seen}
-use Rattle.ckc_blame_texts.proofs.Lists.{seam, more_at}
+use Rattle.ckc_blame_sound.proofs.Lists.{seam, more_at}
 use Rattle.std.specs.List.{AllByRecursion}
 
 -- ---- the members of structures

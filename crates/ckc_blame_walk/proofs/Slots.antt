@@ -16,11 +16,11 @@ use Rattle.ckc_bounds_declared.specs.Written.{takes_bounds_kind, takes_bounds}
 use Rattle.ckc_build_values.specs.Kinds.{count_of_kind}
 use Rattle.ckc_build_values.specs.Names.{declares, limits_in, count_declared, count_of_static}
 use Rattle.ckc_blame_sound.specs.Slots.{Slot, slot_by, slots_in, slots_of}
-use Rattle.ckc_blame_slots.specs.Limited.{AreSlotParts, IsElementAt}
-use Rattle.ckc_blame_texts.specs.Judged.{IsJudged}
-use Rattle.ckc_blame_texts.proofs.Bounds.{IsBoundable, AreBoundable, text_boundable}
-use Rattle.ckc_blame_texts.proofs.Lists.{found}
-use Rattle.ckc_blame_texts.proofs.Slots.{static_declared}
+use Rattle.ckc_blame_sound.specs.Limited.{AreSlotParts, IsElementAt}
+use Rattle.ckc_blame_sound.specs.JudgedTexts.{IsJudged}
+use Rattle.ckc_blame_sound.proofs.Bounds.{IsBoundable, AreBoundable, text_boundable}
+use Rattle.ckc_blame_sound.proofs.Lists.{found}
+use Rattle.ckc_blame_sound.proofs.Slots.{static_declared}
 use Rattle.ckc_blame_walk.specs.Ready.{HavePointerSlots}
 
 -- ---- types

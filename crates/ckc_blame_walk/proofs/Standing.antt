@@ -7,8 +7,8 @@ use Rattle.ckc_syntax.specs.declared.tree.Name.{Name}
 use Rattle.ckc_typed.specs.Trees.{NotedDecl}
 use Rattle.ckc_typed_fit.specs.Tests.{Walked}
 use Rattle.ckc_blame_sound.specs.Settings.{Setting}
-use Rattle.ckc_blame_texts.specs.Numbered.{AreLocals}
-use Rattle.ckc_blame_texts.proofs.Locals.{names_declared}
+use Rattle.ckc_blame_sound.specs.Numbered.{AreLocals}
+use Rattle.ckc_blame_sound.proofs.Locals.{names_declared}
 use Rattle.ckc_blame_walk.specs.Scopes.{IsScope, AreNext}
 
 -- what a statement leaves visible, and what it declares

@@ -24,7 +24,7 @@ use Rattle.ckc_blame_sound.specs.Steps.{is_simple}
 use Rattle.ckc_blame_sound.specs.Scopes.{NamesOnly, IsNewLocal, StandsInScope, IsTestInScope}
 use Rattle.ckc_blame_sound.specs.Words.{exprs_in, exprs_of_act}
 use Rattle.ckc_blame_sound.proofs.Words.{exprs_inside, exprs_are}
-use Rattle.ckc_blame_texts.proofs.Bares.{Layer}
+use Rattle.ckc_blame_sound.proofs.Bares.{Layer}
 use Rattle.ckc_blame_walk.specs.Scopes.{tests_of, items_of, scope_of, HasLocal, IsScope, AreNext}
 use Rattle.ckc_blame_walk.proofs.Elements.{no_element, one_element, itself, any_last, last_any, local_number, same_number, number_same}
 use Rattle.ckc_blame_walk.proofs.Exprs.{expr_sees}

@@ -21,7 +21,7 @@ use Rattle.ckc_build_elaborate.specs.Elaborated.{elaborated}
 use Rattle.ckc_build_elaborate.specs.Names.{params_of}
 use Rattle.ckc_build_elaborate.specs.Objects.{objects_elaborated}
 use Rattle.ckc_blame_sound.specs.Slots.{Slot, slots_of}
-use Rattle.ckc_blame_slots.specs.Limited.{IsSlotPart}
+use Rattle.ckc_blame_sound.specs.Limited.{IsSlotPart}
 use Rattle.ckc_blame_walk.specs.Entries.{AreCodesJudged}
 
 -- ---- static objects and string literals

@@ -14,7 +14,7 @@ use Rattle.ckc_bounds_points.specs.Frames.{local_at}
 use Rattle.ckc_bounds_points.specs.Flow.{in_bounds_of}
 use Rattle.ckc_bounds_statements.specs.Paths.{path}
 use Rattle.ckc_blame_sound.specs.Settings.{Setting}
-use Rattle.ckc_blame_texts.specs.Numbered.{AreLocals}
+use Rattle.ckc_blame_sound.specs.Numbered.{AreLocals}
 
 -- what is asked of the names in a text with these items: each is visible where it stands
 abbrev pub tests_of : List NamedItem → Tests

@@ -18,7 +18,7 @@ ghost use Rattle.ckc_blame_sound.specs.Settings.{Setting, AreStrings, IsFunction
 ghost use Rattle.ckc_blame_sound.specs.Bodies.{IsInBody, IsNextFresh};
 ghost use Rattle.ckc_blame_sound.specs.Few.{nodes_in, HasRoom};
 ghost use Rattle.ckc_blame_sound.specs.Judged.{Exits, Judged};
-ghost use Rattle.ckc_blame_texts.specs.Judged.{IsJudged};
+ghost use Rattle.ckc_blame_sound.specs.JudgedTexts.{IsJudged};
 ghost use Rattle.ckc_blame_walk.specs.Scopes.{IsScoped};
 ghost use Rattle.ckc_blame_nested.specs.Nested.{nesting_of, AreNested};
 ghost use Rattle.ckc_blame_walk.specs.Walks.{AreSmall, AreNamed, IsLeft, Stays, MayLeave, leaving};

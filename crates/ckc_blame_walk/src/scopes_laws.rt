@@ -19,7 +19,7 @@ ghost use Rattle.ckc_blame_sound.specs.Settings.{Setting, IsFunction};
 ghost use Rattle.ckc_blame_sound.specs.Steps.{IsStep, IsCondition};
 ghost use Rattle.ckc_blame_sound.specs.Scopes.{NamesSeen};
 ghost use Rattle.ckc_blame_sound.specs.Words.{exprs_in};
-ghost use Rattle.ckc_blame_contained.specs.Given.{IsUnnamed};
+ghost use Rattle.ckc_blame_sound.specs.GivenValues.{IsUnnamed};
 
 /// Each local that an expression of a step or a condition names, however deep, is in scope there, and so it is after
 /// the expression is judged. Each local in scope is one of the frame, if its function has fewer than 1,024.

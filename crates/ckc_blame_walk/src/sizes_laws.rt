@@ -5,7 +5,7 @@ ghost use Rattle.ckc_syntax_limits.specs.Small.{Small};
 ghost use Rattle.ckc_typed.specs.declared.typed.Typed.{Typed};
 ghost use Rattle.ckc_typed_welltyped.specs.Productions.{given_tree};
 ghost use Rattle.ckc_blame_sound.specs.Sized.{AllocateSizes};
-ghost use Rattle.ckc_blame_texts.specs.Judged.{IsJudged};
+ghost use Rattle.ckc_blame_sound.specs.JudgedTexts.{IsJudged};
 
 /// The elements that a `calloc` of a judged text makes have a size, if the grammar gives its tree and the tree keeps
 /// the limits of a text: each structure that a type names has a body.

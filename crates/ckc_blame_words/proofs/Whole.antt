@@ -19,7 +19,7 @@ use Rattle.ckc_typed.specs.declared.typed.Typed.{Typed}
 use Rattle.ckc_typed.specs.Trees.{NotedHead, NotedStmt, NotedItem}
 use Rattle.ckc_typed_welltyped.specs.Texts.{TypedAs}
 use Rattle.ckc_blame_sound.specs.Words.{HasOnlyWords, HaveWords}
-use Rattle.ckc_blame_texts.proofs.Bares.{same_tree}
+use Rattle.ckc_blame_sound.proofs.Bares.{same_tree}
 use Rattle.ckc_blame_words.specs.Literals.{stmt_has_words, head_has_words, item_has_words, tree_has_words}
 use Rattle.ckc_blame_words.proofs.Chain.{parsed_words, types_keep_words}
 use Rattle.ckc_blame_words.proofs.Named.{names_keep_words}

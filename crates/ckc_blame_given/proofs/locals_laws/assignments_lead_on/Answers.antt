@@ -1,6 +1,6 @@
 use Rattle.std.proofs.Common.{sym, subst}
 use Rattle.ckc_source.specs.Steps.{store_of}
-use Rattle.ckc_blame_slots.specs.Limited.{store_with}
+use Rattle.ckc_blame_sound.specs.Limited.{store_with}
 use Rattle.ckc_blame_given.proofs.Apart.{AreApart, ones_apart}
 use Rattle.ckc_blame_given.proofs.Written.{written_locals}
 use Rattle.ckc_blame_given.proofs.Points.{point_after, all_planned}

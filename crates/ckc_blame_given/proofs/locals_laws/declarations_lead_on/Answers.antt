@@ -5,7 +5,7 @@ use Rattle.ckc_source.specs.States.{State}
 use Rattle.ckc_source.specs.Steps.{store_of}
 use Rattle.ckc_build_values.specs.Kinds.{width_of}
 use Rattle.ckc_blame_sound.specs.Points.{HoldsAt}
-use Rattle.ckc_blame_slots.specs.Limited.{store_with}
+use Rattle.ckc_blame_sound.specs.Limited.{store_with}
 use Rattle.ckc_blame_given.proofs.Declared.{declared_after}
 use Rattle.ckc_blame_given.proofs.locals_laws.declarations_lead_on.Goals as goal
 

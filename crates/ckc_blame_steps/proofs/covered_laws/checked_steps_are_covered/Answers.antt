@@ -1,5 +1,5 @@
 use Rattle.std.proofs.Common.{◌∙◌, sym}
-use Rattle.ckc_blame_facts.proofs.Modes.{step_spot, step_mode}
+use Rattle.ckc_blame_steps.proofs.Modes.{step_spot, step_mode}
 use Rattle.ckc_blame_steps.proofs.CoveredActs.{act_covered}
 use Rattle.ckc_blame_steps.proofs.CoveredCalls.{arguments_there, returned_there}
 use Rattle.ckc_blame_steps.proofs.covered_laws.checked_steps_are_covered.Goals as goal

@@ -1,6 +1,0 @@
-use Rattle.ckc_blame_contained.proofs.Called.{parameters_bounded}
-use Rattle.ckc_blame_contained.proofs.laws.calls_begin_bounded.Goals as goal
-
-pub returns : goal.returns
-returns c = λ s called store v at es fresh h entry locals text ends parameters counts are known placed arguments new begins judged.
-    parameters_bounded s called store v at es fresh h.params entry locals text ends parameters counts are known placed arguments new begins judged

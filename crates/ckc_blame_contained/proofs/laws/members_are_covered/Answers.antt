@@ -1,7 +1,0 @@
-use Rattle.ckc_blame_contained.proofs.Faults.{good}
-use Rattle.ckc_blame_contained.proofs.Members.{assigned_covered}
-use Rattle.ckc_blame_contained.proofs.laws.members_are_covered.Goals as goal
-
-pub returns : goal.returns
-returns c = λ s seen at there ps result p m shape among none is stored member touched.
-    assigned_covered s.frame result ps at p m shape among none is ((good s.frame result seen ps at there stored).targets p among) member touched

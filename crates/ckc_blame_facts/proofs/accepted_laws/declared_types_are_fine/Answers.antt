@@ -1,5 +1,0 @@
-use Rattle.ckc_blame_facts.proofs.DeclaredTypes.{names_fine}
-use Rattle.ckc_blame_facts.proofs.accepted_laws.declared_types_are_fine.Goals as goal
-
-pub returns : goal.returns
-returns c = names_fine

@@ -1,5 +1,0 @@
-use Rattle.ckc_blame_facts.proofs.Spared.{results_spare, locals_spared}
-use Rattle.ckc_blame_facts.proofs.accepted_laws.locals_are_spared.Goals as goal
-
-pub returns : goal.returns
-returns c = record { past = results_spare; declared = locals_spared }

@@ -1,5 +1,0 @@
-use Rattle.ckc_blame_facts.proofs.SmallNames.{names_small}
-use Rattle.ckc_blame_facts.proofs.accepted_laws.names_of_members_are_small.Goals as goal
-
-pub returns : goal.returns
-returns c = names_small

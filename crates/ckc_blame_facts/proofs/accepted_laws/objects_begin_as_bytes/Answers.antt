@@ -1,5 +1,0 @@
-use Rattle.ckc_blame_facts.proofs.LaidOut.{programs_laid_out}
-use Rattle.ckc_blame_facts.proofs.accepted_laws.objects_begin_as_bytes.Goals as goal
-
-pub returns : goal.returns
-returns c = programs_laid_out

@@ -1,5 +1,0 @@
-use Rattle.ckc_blame_facts.proofs.Judged.{condition_covered}
-use Rattle.ckc_blame_facts.proofs.covers_laws.checked_conditions_are_covered.Goals as goal
-
-pub returns : goal.returns
-returns c = condition_covered

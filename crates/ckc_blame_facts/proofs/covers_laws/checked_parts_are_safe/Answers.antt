@@ -1,8 +1,0 @@
-use Rattle.ckc_blame_facts.proofs.Checked.{step_checked, condition_checked}
-use Rattle.ckc_blame_facts.proofs.covers_laws.checked_parts_are_safe.Goals as goal
-
-pub returns : goal.returns
-returns c = record {
-  step = step_checked;
-  condition = condition_checked;
-}

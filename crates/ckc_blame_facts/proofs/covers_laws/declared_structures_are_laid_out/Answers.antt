@@ -1,5 +1,0 @@
-use Rattle.ckc_blame_facts.proofs.Layouts.{structs_told}
-use Rattle.ckc_blame_facts.proofs.covers_laws.declared_structures_are_laid_out.Goals as goal
-
-pub returns : goal.returns
-returns c = structs_told

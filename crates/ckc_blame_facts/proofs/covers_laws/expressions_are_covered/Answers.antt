@@ -1,9 +1,0 @@
-use Rattle.ckc_blame_facts.proofs.Cover.{expressions_are_covered}
-use Rattle.ckc_blame_facts.proofs.Judged.{judged_covered}
-use Rattle.ckc_blame_facts.proofs.covers_laws.expressions_are_covered.Goals as goal
-
-pub returns : goal.returns
-returns c = record {
-  whole = expressions_are_covered;
-  judged = judged_covered;
-}

@@ -1,5 +1,0 @@
-use Rattle.ckc_blame_facts.proofs.Texts.{texts_are_told}
-use Rattle.ckc_blame_facts.proofs.covers_laws.texts_are_told.Goals as goal
-
-pub returns : goal.returns
-returns c = texts_are_told

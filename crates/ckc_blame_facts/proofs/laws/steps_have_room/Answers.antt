@@ -1,5 +1,0 @@
-use Rattle.ckc_blame_facts.proofs.Rooms.{step_places, step_sides, condition_places}
-use Rattle.ckc_blame_facts.proofs.laws.steps_have_room.Goals as goal
-
-pub returns : goal.returns
-returns c = record { step = step_places; sides = step_sides; condition = condition_places }

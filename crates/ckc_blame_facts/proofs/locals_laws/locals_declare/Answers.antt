@@ -1,5 +1,0 @@
-use Rattle.ckc_blame_facts.proofs.Variables.{locals_declared}
-use Rattle.ckc_blame_facts.proofs.locals_laws.locals_declare.Goals as goal
-
-pub returns : goal.returns
-returns c = locals_declared

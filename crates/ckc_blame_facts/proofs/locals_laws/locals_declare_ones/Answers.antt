@@ -1,5 +1,0 @@
-use Rattle.ckc_blame_facts.proofs.Ones.{ones_declared}
-use Rattle.ckc_blame_facts.proofs.locals_laws.locals_declare_ones.Goals as goal
-
-pub returns : goal.returns
-returns c = ones_declared

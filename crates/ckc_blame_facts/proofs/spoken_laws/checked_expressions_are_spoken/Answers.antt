@@ -1,5 +1,0 @@
-use Rattle.ckc_blame_facts.proofs.Spoken.{checked_spoken}
-use Rattle.ckc_blame_facts.proofs.spoken_laws.checked_expressions_are_spoken.Goals as goal
-
-pub returns : goal.returns
-returns c = checked_spoken

@@ -1,5 +1,0 @@
-use Rattle.ckc_blame_numbers.proofs.Judging.{judged_typed}
-use Rattle.ckc_blame_numbers.proofs.laws.judging_keeps_types.Goals as goal
-
-pub returns : goal.returns
-returns c = λ globals s e f fresh at typed is. judged_typed globals s e f fresh at typed is

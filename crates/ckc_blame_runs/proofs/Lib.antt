@@ -1,4 +1,0 @@
-pub mod Codes
-pub mod Runs
-pub mod Texts
-pub mod Stuck

@@ -1,5 +1,0 @@
-use Rattle.ckc_blame_runs.proofs.Texts.{runs_checked}
-use Rattle.ckc_blame_runs.proofs.laws.checked_texts_run_checked.Goals as goal
-
-pub returns : goal.returns
-returns c = λ p input n main checked. runs_checked p input n main checked

@@ -1,5 +1,0 @@
-use Rattle.ckc_blame_slots.proofs.Objects.{object_cell}
-use Rattle.ckc_blame_slots.proofs.laws.objects_lie_in_blocks.Goals as goal
-
-pub returns : goal.returns
-returns c = λ p blocks place k offset width o sound e plain some part. object_cell p blocks sound.memory.objects k o e plain some offset width part

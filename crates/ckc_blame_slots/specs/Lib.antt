@@ -1,3 +1,0 @@
-pub mod Cells
-pub mod Writes
-pub mod Limited

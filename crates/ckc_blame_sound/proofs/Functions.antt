@@ -1,0 +1,47 @@
+-- The functions of a judged text.
+use Rattle.std.proofs.Common.{◌≡◌, ◌∙◌, sym, ap, subst, refl, List, [], ◌∷◌, ◌++◌, map}
+use Rattle.std.specs.Prelude.{All}
+use Rattle.std.specs.List.{Contains, flat_map}
+use Rattle.std.proofs.lemmas.List.{map-append}
+use Rattle.std.proofs.lemmas.List.Elements.{All-nil, All-cons, All-head, All-tail, All-contains}
+use Rattle.ckc_syntax.specs.declared.tree.Item.TheVariants as item
+use Rattle.ckc_typed.specs.declared.typed.Typed.{Typed}
+use Rattle.ckc_typed.specs.Trees.{NotedDecl, NotedHead, NotedStmt, NotedItem, Tree, Item}
+use Rattle.ckc_typed_welltyped.specs.Noteless.{bare_decl, bare_item, without_notes}
+use Rattle.ckc_bounds.specs.Frames.{all_of}
+use Rattle.ckc_bounds_statements.specs.Paths.{path}
+use Rattle.ckc_blame_sound.specs.JudgedTexts.{IsJudged}
+use Rattle.ckc_blame_sound.specs.Numbered.{AreLocals}
+use Rattle.ckc_blame_sound.proofs.Bares.{same_tree}
+use Rattle.ckc_blame_sound.proofs.KeptTrees.{two}
+use Rattle.ckc_blame_sound.proofs.Locals.{names_declared, stmt_declares}
+use Rattle.ckc_blame_sound.proofs.Numbers.{decl_name, item_names, locals_named}
+
+-- the tree without notes is that of the names
+pub tree_named : (p : Typed) (j : IsJudged p) → without_notes p.tree ≡ j.named.tree
+tree_named p j = same_tree j.typed p j.has_bounds ∙ j.has_types.tree
+
+params_named : (ds : List NotedDecl) → flat_map decl_name (map bare_decl ds) ≡ names_declared ds
+params_named [] = refl
+params_named (d ∷ ds) = ap (λ ns. d.name ∷ ns) (params_named ds)
+
+-- the names of the locals of a function
+function_names : (h : NotedHead) (body : NotedStmt) → item_names (bare_item (item.Function h body)) ≡ names_declared (all_of h body)
+function_names h body =
+    two (λ xs ys. xs ++ ys) (params_named h.params) (sym (stmt_declares body).is.names)
+    ∙ sym (map-append (λ (d : NotedDecl). d.name) h.params (path body).declared)
+
+-- what is so of all that is made from some is so of each, made
+pub all_made : {A B : Type 0} (P : B → Type 0) (f : A → B) (xs : List A) → All P (map f xs) → All (λ x. P (f x)) xs
+all_made P f [] h = All-nil (λ x. P (f x))
+all_made P f (x ∷ xs) h = All-cons (λ y. P (f y)) x xs (All-head P (f x) (map f xs) h) (all_made P f xs (All-tail P (f x) (map f xs) h))
+
+-- what is so of each item of the tree of names is so of each item without its notes
+pub item_is : (p : Typed) (j : IsJudged p) (P : Item → Type 0) → All P j.named.tree.items → (i : NotedItem) → Contains p.tree.items i → P (bare_item i)
+item_is p j P h i there =
+    All-contains (λ k. P (bare_item k)) p.tree.items i (all_made P bare_item p.tree.items (subst (λ (t : Tree). All P t.items) (sym (tree_named p j)) h)) there
+
+pub numbered : (p : Typed) (h : NotedHead) (body : NotedStmt) → IsJudged p → Contains p.tree.items (item.Function h body) → AreLocals 0 (names_declared (all_of h body))
+numbered p h body j there =
+    subst (AreLocals 0) (function_names h body)
+    (item_is p j (λ i. AreLocals 0 (item_names i)) (locals_named j.spelled j.named j.has_names) (item.Function h body) there)

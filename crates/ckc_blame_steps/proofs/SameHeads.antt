@@ -1,0 +1,155 @@
+-- What a head says of bounds depends on no places, on no notes, and on the structures and static objects alone.
+use Rattle.std.proofs.Common.{◌≡◌, ◌∙◌, sym, ap, refl, ℕ, Bool, true, false, List, [], ◌∷◌, ◌++◌, map, length}
+use Rattle.std.specs.Prelude.{if◌then◌else◌, ◌&&◌, Option, Some, None, unwrap_or, is_none, slice_get, Ok, Err}
+use Rattle.std.specs.Option.{option_map}
+use Rattle.ckc_base.specs.declared.places.Pos.{Pos}
+use Rattle.ckc_base.specs.Outcomes.{Outcome, there_or}
+use Rattle.ckc_types.specs.declared.types.CType.{CType}
+use Rattle.ckc_syntax.specs.declared.tree.Name.{Name}
+use Rattle.ckc_syntax.specs.declared.tree.Length.{Length}
+use Rattle.ckc_syntax.specs.declared.tree.Length.TheVariants as lengths
+use Rattle.ckc_syntax.specs.declared.tree.Limits.{out-Limits}
+use Rattle.ckc_syntax.specs.Placeless.{placeless_length, placeless_bounds, placeless_decl, placeless_head}
+use Rattle.ckc_typed.specs.Environment.{kind_of_array}
+use Rattle.ckc_typed.specs.Trees.{Decl, Head, Limits, NotedDecl, NotedHead, NotedLimits}
+use Rattle.ckc_typed.specs.Types.{type_written, kind_of}
+use Rattle.ckc_typed_welltyped.specs.Noteless.{bare_limits, bare_decl, bare_head}
+use Rattle.ckc_bounds_points.specs.Codes.{bad_limits}
+use Rattle.ckc_bounds_points.specs.declared.frame.Bounds.{Bounds}
+use Rattle.ckc_bounds_points.specs.declared.frame.Bounds.TheVariants as bounds
+use Rattle.ckc_bounds_points.specs.declared.frame.Frame.{Frame}
+use Rattle.ckc_bounds_points.specs.declared.frame.HeadBounds.{HeadBounds}
+use Rattle.ckc_bounds_points.specs.declared.frame.Local.{Local}
+use Rattle.ckc_bounds_declared.specs.declared.limits.Holder.{Holder}
+use Rattle.ckc_bounds_declared.specs.declared.limits.Holder.TheVariants as holder
+use Rattle.ckc_bounds_declared.specs.Written.{own, takes_bounds_kind, takes_bounds, bounds_by_type, place_of_limits, bounds_taken, bounds_declared}
+use Rattle.ckc_bounds.specs.Declarations.{result_bounds, known_or_not, bare, few_of, local_made, with_all, with_locals, types_in, declared_in, head_bounds}
+use Rattle.ckc_blame_declared.proofs.More.{KnowsAs, declared_stays}
+use Rattle.ckc_blame_steps.proofs.Plain.{type_plain, plain_limits, plain_written, written_plain}
+
+-- ---- without places and notes
+
+abbrev plain_taken : Frame → Holder → CType → Length → Limits → Option Bounds
+plain_taken frame h t length l = if takes_bounds t length then plain_written frame h t (out-Limits Name (Unit {0}) l) else None
+
+abbrev plain_bounds : Frame → Holder → CType → Length → Option Limits → Bounds
+plain_bounds frame h t length None = bounds_by_type (own h) t
+plain_bounds frame h t length (Some l) = unwrap_or (plain_taken frame h t length l) bounds.Unknown
+
+length_plain : (l : Length) → kind_of_array (placeless_length l) ≡ kind_of_array l
+length_plain lengths.Plain = refl
+length_plain (lengths.Raw n pos) = refl
+length_plain (lengths.Checked n) = refl
+length_plain (lengths.Nt n) = refl
+
+there_known : (code : ℕ) (at : Pos) (o : Option Bounds) → known_or_not (there_or code at o) ≡ unwrap_or o bounds.Unknown
+there_known code at None = refl
+there_known code at (Some b) = refl
+
+bounds_plain : (frame : Frame) (h : Holder) (t : CType) (n : Length) (l : Option NotedLimits)
+    → known_or_not (bounds_declared frame h t n l) ≡ plain_bounds frame h t (placeless_length n) (placeless_bounds (option_map bare_limits l))
+bounds_plain frame h t n None = refl
+bounds_plain frame h t n (Some l) =
+    there_known bad_limits (place_of_limits l) (bounds_taken frame h t n l)
+    ∙ ap (λ o. unwrap_or (if takes_bounds t n then o else None) bounds.Unknown) (sym (written_plain frame h t l))
+    ∙ ap (λ (k : Bool). unwrap_or (if k then plain_written frame h t (out-Limits Name (Unit {0}) (plain_limits l)) else None) bounds.Unknown) (sym (takes_plain t n))
+  where
+    takes_plain : (t : CType) (n : Length) → takes_bounds t (placeless_length n) ≡ takes_bounds t n
+    takes_plain t n = ap (λ k. takes_bounds_kind (kind_of t) && is_none k) (length_plain n)
+
+abbrev plain_local : Frame → Bool → ℕ → Decl → Local
+plain_local frame false k d = bare (type_written d.ctype)
+plain_local frame true k d = record { ctype = type_written d.ctype; bounds = plain_bounds frame (holder.Local k) (type_written d.ctype) d.length d.bounds }
+
+local_plain : (frame : Frame) (b : Bool) (k : ℕ) (d : NotedDecl) → local_made frame b k d ≡ plain_local frame b k (placeless_decl (bare_decl d))
+local_plain frame false k d = ap bare (sym (type_plain d.ctype))
+local_plain frame true k d =
+    ap (λ b. record { ctype = type_written d.ctype; bounds = b }) (bounds_plain frame (holder.Local k) (type_written d.ctype) d.length d.bounds)
+    ∙ ap (λ t. record { ctype = t; bounds = plain_bounds frame (holder.Local k) t (placeless_length d.length) (placeless_bounds (option_map bare_limits d.bounds)) }) (sym (type_plain d.ctype))
+
+abbrev plain_all : Frame → Bool → List Local → List Decl → List Local
+plain_all frame b ls [] = ls
+plain_all frame b ls (d ∷ ds) = plain_all frame b (ls ++ plain_local frame b (length ls) d ∷ []) ds
+
+all_plain : (frame : Frame) (b : Bool) (ls : List Local) (ds : List NotedDecl) → with_all frame b ls ds ≡ plain_all frame b ls (map placeless_decl (map bare_decl ds))
+all_plain frame b ls [] = refl
+all_plain frame b ls (d ∷ ds) =
+    all_plain frame b (ls ++ local_made frame b (length ls) d ∷ []) ds
+    ∙ ap (λ l. plain_all frame b (ls ++ l ∷ []) (map placeless_decl (map bare_decl ds))) (local_plain frame b (length ls) d)
+
+abbrev plain_types : Frame → List Decl → Frame
+plain_types frame ds = with_locals frame (plain_all frame false [] ds)
+
+abbrev plain_head : Frame → Head → HeadBounds
+plain_head frame h = record {
+  params = plain_all (plain_types frame h.params) true [] h.params;
+  result = type_written h.result;
+  bounds = plain_bounds (plain_types frame h.params) holder.Result (type_written h.result) lengths.Plain h.bounds;
+}
+
+types_plain : (frame : Frame) (ds : List NotedDecl) → types_in frame ds ≡ plain_types frame (map placeless_decl (map bare_decl ds))
+types_plain frame ds = ap (with_locals frame) (all_plain frame false [] ds)
+
+pub head_plain : (frame : Frame) (h : NotedHead) → head_bounds frame h ≡ plain_head frame (placeless_head (bare_head h))
+head_plain frame h =
+    let ds = map placeless_decl (map bare_decl h.params) in
+    let l = placeless_bounds (option_map bare_limits h.bounds) in
+    let params : declared_in frame h.params ≡ plain_all (plain_types frame ds) true [] ds =
+    all_plain (types_in frame h.params) true [] h.params ∙ ap (λ f. plain_all f true [] ds) (types_plain frame h.params) in
+    let result : known_or_not (result_bounds (types_in frame h.params) h) ≡ plain_bounds (plain_types frame ds) holder.Result (type_written h.result) lengths.Plain l =
+    bounds_plain (types_in frame h.params) holder.Result (type_written h.result) lengths.Plain h.bounds
+    ∙ ap (λ f. plain_bounds f holder.Result (type_written h.result) lengths.Plain l) (types_plain frame h.params) in
+    ap (λ ps. record { params = ps; result = type_written h.result; bounds = known_or_not (result_bounds (types_in frame h.params) h) }) params
+    ∙ ap (λ b. record { params = plain_all (plain_types frame ds) true [] ds; result = type_written h.result; bounds = b }) result
+    ∙ ap (λ t. record { params = plain_all (plain_types frame ds) true [] ds; result = t; bounds = plain_bounds (plain_types frame ds) holder.Result t lengths.Plain l }) (sym (type_plain h.result))
+
+-- Heads that are the same but for places say the same of bounds.
+pub heads_same : (frame : Frame) (g h : NotedHead) → placeless_head (bare_head g) ≡ placeless_head (bare_head h) → head_bounds frame g ≡ head_bounds frame h
+heads_same frame g h e = head_plain frame g ∙ ap (plain_head frame) e ∙ sym (head_plain frame h)
+
+-- ---- in another frame
+
+-- two frames of one text know the same structures and static objects
+pub record KnowsText (frame other : Frame) : Type 0 where
+  pub structs : other.structs ≡ frame.structs
+  pub statics : other.statics ≡ frame.statics
+
+either_known : (o p : Outcome Bounds) → ((b : Bounds) → o ≡ Ok b → p ≡ Ok b) → ((b : Bounds) → p ≡ Ok b → o ≡ Ok b) → known_or_not o ≡ known_or_not p
+either_known (Ok b) p h i = sym (ap known_or_not (h b refl))
+either_known (Err r) (Ok b) h i = absurd (no r b (i b refl))
+  where
+    no : (r : _) (b : Bounds) → ◌≡◌ {A = Outcome Bounds} (Err r) (Ok b) → ⊥
+    no r b e = absurd cc
+either_known (Err r) (Err q) h i = refl
+
+module _ (frame other : Frame) (w : KnowsText frame other) where
+  types_same : (ls : List Local) (ds : List NotedDecl) → with_all other false ls ds ≡ with_all frame false ls ds
+  types_same ls [] = refl
+  types_same ls (d ∷ ds) = types_same (ls ++ bare (type_written d.ctype) ∷ []) ds
+
+  abbrev first : List NotedDecl → Frame
+  first ds = types_in frame ds
+
+  abbrev second : List NotedDecl → Frame
+  second ds = types_in other ds
+
+  there : (ds : List NotedDecl) → KnowsAs (first ds) (second ds)
+  there ds = record { structs = w.structs; statics = w.statics; locals = λ k l e. ap (λ ls. slice_get (few_of ls) k) (types_same [] ds) ∙ e }
+
+  back : (ds : List NotedDecl) → KnowsAs (second ds) (first ds)
+  back ds = record { structs = sym w.structs; statics = sym w.statics; locals = λ k l e. sym (ap (λ ls. slice_get (few_of ls) k) (types_same [] ds)) ∙ e }
+
+  declared_same : (ps : List NotedDecl) (h : Holder) (t : CType) (n : Length) (l : Option NotedLimits)
+      → known_or_not (bounds_declared (second ps) h t n l) ≡ known_or_not (bounds_declared (first ps) h t n l)
+  declared_same ps h t n l = either_known _ _ (declared_stays (second ps) (first ps) (back ps) h t n l) (declared_stays (first ps) (second ps) (there ps) h t n l)
+
+  all_same : (ps : List NotedDecl) (ls : List Local) (ds : List NotedDecl) → with_all (second ps) true ls ds ≡ with_all (first ps) true ls ds
+  all_same ps ls [] = refl
+  all_same ps ls (d ∷ ds) =
+      all_same ps (ls ++ local_made (second ps) true (length ls) d ∷ []) ds
+      ∙ ap (λ b. with_all (first ps) true (ls ++ record { ctype = type_written d.ctype; bounds = b } ∷ []) ds) (declared_same ps (holder.Local (length ls)) (type_written d.ctype) d.length d.bounds)
+
+  pub same_bounds : (h : NotedHead) → head_bounds other h ≡ head_bounds frame h
+  same_bounds h =
+      ap (λ ps. record { params = ps; result = type_written h.result; bounds = known_or_not (result_bounds (second h.params) h) }) (all_same h.params [] h.params)
+      ∙ ap (λ b. record { params = declared_in frame h.params; result = type_written h.result; bounds = b }) (declared_same h.params holder.Result (type_written h.result) lengths.Plain h.bounds)

@@ -1,0 +1,35 @@
+-- The bounds of the result of a function name parameters alone, and what a statement declares is none.
+use Rattle.std.proofs.Common.{◌≡◌, ap, arith, refl, ℕ, ◌≤◌, Bool, true, false, length}
+use Rattle.std.specs.List.{Contains}
+use Rattle.ckc_syntax.specs.declared.tree.Name.TheVariants as name
+use Rattle.ckc_typed.specs.declared.typed.Typed.{Typed}
+use Rattle.ckc_typed.specs.Trees.{NotedDecl}
+use Rattle.ckc_bounds_points.specs.declared.frame.Bounds.{Bounds}
+use Rattle.ckc_bounds_points.specs.declared.frame.Bounds.TheVariants as bounds
+use Rattle.ckc_bounds_points.specs.Flow.{in_bounds}
+use Rattle.ckc_bounds_statements.specs.Paths.{path}
+use Rattle.ckc_source.specs.Code.{Function}
+use Rattle.ckc_blame_sound.specs.Settings.{Setting, IsFunction}
+use Rattle.ckc_blame_sound.specs.JudgedTexts.{IsJudged}
+use Rattle.ckc_blame_sound.proofs.Frames.{function_counts}
+use Rattle.ckc_blame_sound.proofs.Functions.{numbered}
+use Rattle.ckc_blame_sound.proofs.Parameters.{locals_come_after}
+use Rattle.ckc_blame_declared.proofs.Heads.{results_have_ends}
+
+pub results_spare : (p : Typed) (s : Setting) (f : Function) (k : ℕ) → IsJudged p → IsFunction p s f → length s.head.params ≤ k → in_bounds k s.head.bounds ≡ false
+results_spare p s f k j is past = by s.head.bounds refl
+  where
+    by : (b : Bounds) → s.head.bounds ≡ b → in_bounds k b ≡ false
+    by bounds.Unknown e = refl
+    by (bounds.Known low high) e = test (in_bounds k (bounds.Known low high)) refl
+      where
+        test : (t : Bool) → in_bounds k (bounds.Known low high) ≡ t → in_bounds k (bounds.Known low high) ≡ false
+        test true named = let below = (results_have_ends p s f low high j is e).named k named in absurd (omega (arith, below, past))
+        test false named = named
+
+pub locals_spared : (p : Typed) (s : Setting) (f : Function) (d : NotedDecl) (k : ℕ) → IsJudged p → (is : IsFunction p s f) → Contains (path is.body).declared d → d.name ≡ name.Local k → in_bounds k s.head.bounds ≡ false
+locals_spared p s f d k j is there named =
+    let low : length is.head.params ≤ k = locals_come_after is.head.params (path is.body).declared d k (numbered p is.head is.body j is.there) there named in
+    let counts : f.params ≡ length s.head.params = (function_counts p s f is).1 in
+    let runs : f.params ≡ length is.head.params = ap (λ (g : Function). g.params) is.runs in
+    results_spare p s f k j is (omega (arith, low, counts, runs))

@@ -1,5 +1,0 @@
-use Rattle.ckc_blame_texts.proofs.Accesses.{member_part, scalar_part}
-use Rattle.ckc_blame_texts.proofs.laws.accesses_are_parts.Goals as goal
-
-pub returns : goal.returns
-returns c = record { members = member_part; scalars = scalar_part }

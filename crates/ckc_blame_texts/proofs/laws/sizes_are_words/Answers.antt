@@ -1,5 +1,0 @@
-use Rattle.ckc_blame_texts.proofs.Sizes.{sizes_are_words}
-use Rattle.ckc_blame_texts.proofs.laws.sizes_are_words.Goals as goal
-
-pub returns : goal.returns
-returns c = sizes_are_words

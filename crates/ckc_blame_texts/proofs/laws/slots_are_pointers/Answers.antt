@@ -1,5 +1,0 @@
-use Rattle.ckc_blame_texts.proofs.Slots.{slots_are_pointers}
-use Rattle.ckc_blame_texts.proofs.laws.slots_are_pointers.Goals as goal
-
-pub returns : goal.returns
-returns c = slots_are_pointers

@@ -1,5 +1,0 @@
-use Rattle.ckc_blame_texts.proofs.Literals.{text_strings}
-use Rattle.ckc_blame_texts.proofs.laws.strings_have_objects.Goals as goal
-
-pub returns : goal.returns
-returns c = text_strings
