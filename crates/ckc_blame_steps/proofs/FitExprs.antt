@@ -30,7 +30,6 @@ use Rattle.ckc_blame_steps.specs.ExpressionRooms.{HavePlaces}
 use Rattle.ckc_blame_steps.specs.Values.{HaveFewValues}
 use Rattle.ckc_blame_steps.proofs.CalledHeads.{none_in, split_in}
 
-
 module _ (globals : Globals) (s : Setting) (seen : List ℕ) where
   -- An expression is typed, safe and small, names locals in scope, and what it allocates has a size.
   pub record IsFit (e : NotedExpr) : Type 0 where

@@ -22,30 +22,30 @@ pub use accepted_laws::accepted_texts_are_blamed;
 pub use allocated_laws::allocations_draw;
 pub use calls_laws::{calls_keep_sound, ends_keep_sound, results_are_known, returns_keep_sound};
 pub use covered_laws::checked_steps_are_covered;
-pub use decided_laws::conditions_are_decided;
-pub use declared_laws::{results_are_spared, steps_declare};
-pub use laws::{assignments_keep_sound, bytes_keep_sound};
-pub use results_laws::{
-    callees_are_known, covered_give_words, objects_keep_results, points_after_results_hold,
-};
-pub use rooms_laws::{arguments_have_room, steps_have_places};
-pub use whole_laws::{
-    checked_never_stuck, checked_steps_keep_sound, first_state_sound, steps_stay_sound,
-    stuck_is_blamed, wholly_checked_never_stuck,
-};
-pub use facts_accepted_laws::{
-    bodies_are_given, declared_types_are_fine, locals_are_spared, names_of_members_are_small,
-    objects_begin_as_bytes, runs_are_free,
-};
 pub use covers_laws::{
     checked_conditions_are_covered, checked_parts_are_safe, declared_structures_are_laid_out,
     expressions_are_covered, members_are_told, texts_are_safe, texts_are_told,
+};
+pub use decided_laws::conditions_are_decided;
+pub use declared_laws::{results_are_spared, steps_declare};
+pub use facts_accepted_laws::{
+    bodies_are_given, declared_types_are_fine, locals_are_spared, names_of_members_are_small,
+    objects_begin_as_bytes, runs_are_free,
 };
 pub use facts_laws::{
     callees_have_heads, functions_are_small, pointees_are_integers, statics_are_told,
     steps_have_room, texts_have_few,
 };
+pub use laws::{assignments_keep_sound, bytes_keep_sound};
 pub use locals_laws::{
     locals_are_in_scope, locals_are_scalars, locals_declare, locals_declare_ones,
 };
+pub use results_laws::{
+    callees_are_known, covered_give_words, objects_keep_results, points_after_results_hold,
+};
+pub use rooms_laws::{arguments_have_room, steps_have_places};
 pub use spoken_laws::checked_expressions_are_spoken;
+pub use whole_laws::{
+    checked_never_stuck, checked_steps_keep_sound, first_state_sound, steps_stay_sound,
+    stuck_is_blamed, wholly_checked_never_stuck,
+};
