@@ -9,6 +9,7 @@ use Rattle.ckc_syntax.specs.declared.tree.NamedText.{NamedText}
 use Rattle.ckc_parser.specs.Text.{SpelledTree}
 use Rattle.ckc_resolve.specs.Phase.{naming}
 use Rattle.ckc_source.specs.Code.{Program}
+use Rattle.ckc_source.specs.LaidOut.{IsLaidOut}
 use Rattle.ckc_typed.specs.Texts.{named_typed}
 use Rattle.ckc_typed_welltyped.specs.Texts.{TypedAs}
 use Rattle.ckc_blame_steps.specs.Accepted.{IsAccepted}
@@ -36,6 +37,10 @@ accepted exactly text p m =
 
 elaborated_is : (t : Typed) (p : Program) → ◌≡◌ {A = Outcome Program} (Ok (elaborated t)) (Ok p) → elaborated t ≡ p
 elaborated_is t p e = cc
+
+-- the program that a text means lies as that of the typed text does
+pub laid_out_by : ((text : List ℕ) (p : Typed) → judging.Makes text p → IsLaidOut (elaborated p)) → (text : List ℕ) (p : Program) → HasMeaning text p → IsLaidOut p
+laid_out_by law text p m = subst IsLaidOut (elaborated_is m.0 p m.2) (law text m.0 m.1)
 
 -- whatever holds of each typed text that the phases make holds of what they answer
 pub if_judged : (P : Typed → Type 0) (text : List ℕ) (r : Result Typed Fault) → ((p : Typed) → judging.Makes text p → P p) → Exact judging text r → IfOk r P

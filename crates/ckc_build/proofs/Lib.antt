@@ -1,5 +1,4 @@
 pub mod Chain
 pub mod Fitting
 pub mod Programs
-pub mod Places
 pub mod Blame

@@ -1,10 +1,9 @@
 //! What holds of the definitions, each the contract of a function that does nothing.
-ghost use Rattle.std.specs.Prelude.{◌≡◌, ◌≤◌, List, map, ℕ};
+ghost use Rattle.std.specs.Prelude.{◌≡◌, ◌≤◌, List, ℕ};
 ghost use Rattle.ckc_base.specs.Phases.{IsExact};
 ghost use Rattle.ckc_parser.specs.Text.{SpelledTree};
-ghost use Rattle.ckc_source.specs.Blocks.{block_of};
 ghost use Rattle.ckc_source.specs.Code.{Program};
-ghost use Rattle.ckc_source.specs.LaidOut.{HoldBytes, IsLaidOut};
+ghost use Rattle.ckc_source.specs.LaidOut.{IsLaidOut};
 ghost use Rattle.ckc_checks_operands.specs.Weights.{program_weight, most_weight};
 ghost use Rattle.ckc_blame.specs.Blamed.{IsBlamed, IsNeverStuck};
 ghost use Rattle.ckc_blame.specs.Checked.{WhollyChecked};
@@ -13,11 +12,9 @@ ghost use Rattle.ckc_typed.specs.declared.typed.Typed.{Typed};
 ghost use Rattle.ckc_build.specs.Meanings.{HasMeaning, IsWhollyChecked, judging, reading};
 
 use ckc_blame_steps::accepted_texts_are_blamed;
-use ckc_build_elaborate::laws::objects_are_laid_out;
 use ckc_build_sizes::{marks_stay, programs_are_small};
 use ckc_typed_fit::small_stays;
 use ckc_typed_welltyped::{counts_stay, texts_exactly};
-use ckc_typing::{statics_have_room, statics_lie_apart};
 
 /// A text is judged, with one outcome of its types, or it has one first error.
 pub fn judging_is_exact()
@@ -30,15 +27,12 @@ pub fn one_tree()
         reading.Makes text a → reading.Makes text b → a ≡ b }
 {}
 
-/// The objects of the program of a text are laid out, since the types phase places them so; that they hold bytes is
-/// said of the program that is built.
+/// The objects of the program of a text lie apart, and hold bytes.
 pub fn programs_are_laid_out()
-    ensures { (text : List ℕ) (p : Program) → HasMeaning text p →
-        HoldBytes (map block_of p.objects) → IsLaidOut p }
+    ensures { (text : List ℕ) (p : Program) → HasMeaning text p → IsLaidOut p }
 {
-    statics_lie_apart();
-    statics_have_room();
-    objects_are_laid_out();
+    texts_exactly();
+    accepted_texts_are_blamed();
 }
 
 /// The program of a text that has a meaning weighs no more than an image has room for: the size limits of texts see to

@@ -6,7 +6,6 @@ mod front;
 mod images;
 mod laws;
 mod meanings;
-mod placed;
 
 pub use front::judge;
 pub use images::build;

@@ -8,7 +8,6 @@ ghost use Rattle.ckc_build.specs.Meanings.{meanings};
 
 use crate::front::judge;
 use crate::laws::programs_are_laid_out;
-use crate::placed::hold_bytes;
 use ckc_base::Fault;
 use ckc_build_elaborate::elaborate;
 use ckc_source::Program;
@@ -29,7 +28,6 @@ pub fn program(alloc: Global, text: &[u8]) -> Result<Program, Fault>
             Err(_) => Err(Fault::Memory),
             Ok(p) => {
                 programs_are_laid_out();
-                hold_bytes(p.objects.as_slice());
                 Ok(p)
             }
         },

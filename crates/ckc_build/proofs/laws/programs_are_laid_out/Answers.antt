@@ -1,5 +1,5 @@
-use Rattle.ckc_build.proofs.Places.{meaning_is_laid_out}
+use Rattle.ckc_build.proofs.Blame.{accepted, laid_out_by}
 use Rattle.ckc_build.proofs.laws.programs_are_laid_out.Goals as goal
 
 pub returns : goal.returns
-returns c = meaning_is_laid_out c.statics_lie_apart.ensures.apart c.statics_have_room.ensures.room c.objects_are_laid_out.ensures.laid_out
+returns c = laid_out_by (λ text p m. (c.accepted_texts_are_blamed.ensures.known text p (accepted c.texts_exactly.ensures text p m)).1.laid_out)

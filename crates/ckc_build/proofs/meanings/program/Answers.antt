@@ -1,9 +1,4 @@
-use Rattle.std.proofs.Common.{List, subst}
-use Rattle.std.specs.Prelude.{map}
-use Rattle.ckc_source.specs.declared.program.Object.{Object}
-use Rattle.ckc_source.specs.Blocks.{block_of}
 use Rattle.ckc_source.specs.Code.{program_of}
-use Rattle.ckc_source.specs.LaidOut.{HoldBytes}
 use Rattle.ckc_build.proofs.Programs.{judging_ends, memory_ends, means}
 use Rattle.ckc_build.proofs.meanings.program.Goals as goal
 
@@ -20,6 +15,4 @@ returns-in-Ok-elaborated-clause-exact c =
 pub returns-in-Ok-elaborated-clause-laid_out : goal.returns-in-Ok-elaborated-clause-laid_out
 returns-in-Ok-elaborated-clause-laid_out c =
     let p = program_of c.in-Ok-elaborated.p in
-    c.programs_are_laid_out.ensures c.args.text.now p
-    (means c.args.text.now c.in-Ok.typed p c.in-Ok.ensures.exact c.in-Ok-elaborated.ensures).answers
-    (subst (λ (os : List Object). HoldBytes (map block_of os)) c.as_slice.ensures c.hold_bytes.ensures)
+    c.programs_are_laid_out.ensures c.args.text.now p (means c.args.text.now c.in-Ok.typed p c.in-Ok.ensures.exact c.in-Ok-elaborated.ensures).answers

@@ -1,5 +1,0 @@
-use Rattle.std.proofs.Common.{length}
-use Rattle.ckc_build.proofs.placed.+hold_bytes.Given as goal
-
-abbrev pub decreases-hold_bytes : goal.decreases-hold_bytes
-decreases-hold_bytes l = length l.objects.now
