@@ -19,8 +19,8 @@ IsImage bytes parts = ImageOf bytes parts.entry parts.code parts.initial
 
 -- The parts are those of an image of a text: for every input of bytes its machine follows the meaning of the text,
 -- within so many instructions for each step and as many more. If the meaning is stuck, unchecked code is to blame, and
--- that of a text that is wholly checked is never stuck. If it is never stuck, each store lies in a block, in a frame or in the heap word, or the meaning's step plans it, and no run
--- of the machine is at a fault.
+-- that of a text that is wholly checked is never stuck. If it is never stuck, each store lies in a block, in a frame or
+-- in the heap word, or the meaning's step plans it, and no run of the machine is at a fault.
 pub record Built (text : List ℕ) (parts : Parts) : Type 0 where
   pub program : Program
   pub means : HasMeaning text program

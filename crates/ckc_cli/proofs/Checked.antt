@@ -2,7 +2,11 @@
 use Rattle.std.proofs.Common.{◌≡◌, ℕ, List, [], ◌∷◌, inr, refl, sym, subst, ◌∙◌}
 use Rattle.ckc_base.specs.declared.places.Refusal.{Refusal}
 use Rattle.ckc_outside.specs.Given.{Printed}
-use Rattle.ckc_build.specs.Meanings.{FirstFault}
+use Rattle.ckc_typed.specs.declared.typed.Typed.{Typed}
+use Rattle.ckc_blame.specs.Blamed.{IsNeverStuck}
+use Rattle.ckc_blame.specs.Checked.{WhollyChecked}
+use Rattle.ckc_build_elaborate.specs.Elaborated.{elaborated}
+use Rattle.ckc_build.specs.Meanings.{judging, FirstFault}
 use Rattle.ckc_cli_commands.specs.declared.status.Status.{Status}
 use Rattle.ckc_cli_commands.specs.declared.status.Status.TheVariants as status
 use Rattle.ckc_cli_commands.specs.World.{World, Untouched}
@@ -25,7 +29,8 @@ use Rattle.ckc_cli.proofs.Statuses as by
 same_line : (line other : List ℕ) → outcome.PutsLine line ≡ outcome.PutsLine other → line ≡ other
 same_line line other e = cc
 
-module _ (words : List (List ℕ)) (before after : World) (same : Untouched) (name : List ℕ) (asked : Reads words (Judge name)) (s : Status) (cause : Caused words before after same s) where
+module _ (never_stuck : (text : List ℕ) (p : Typed) → judging.Makes text p → WhollyChecked p → IsNeverStuck (elaborated p))
+    (words : List (List ℕ)) (before after : World) (same : Untouched) (name : List ℕ) (asked : Reads words (Judge name)) (s : Status) (cause : Caused words before after same s) where
   printed_of : (line : List ℕ) → Listed line before.output.written after.output.written before.output.faults after.output.faults s → s ≡ status.Done → Printed before.output.written after.output.written line
   printed_of line (whole e p) q = p
   printed_of line (front e rose p) q = absurd (let z : status.Done ≡ status.WriteFault = sym q ∙ e in cc)
@@ -45,6 +50,7 @@ module _ (words : List (List ℕ)) (before after : World) (same : Untouched) (na
       judged = x.1;
       put = subst (Printed before.output.written after.output.written) (same_line line (checked_line x.0) x.2) (printed_of line c.0 q);
       once = c.1;
+      never_stuck = never_stuck text x.0 x.1;
     },
   )
   over_said (text ∷ more ∷ rest) h line x c q = absurd x

@@ -47,14 +47,14 @@ pub fn ccc<S: Source, O: Sink, E: Sink, F: Store>(
         (world (S.seen input.new) (O.seen out.new) (E.seen err.new) (F.seen store.new))
         (untouched input.old input.new out.old out.new store.old store.new) result }
 
+    // If it comes to a step that has no meaning, unchecked code is to blame.
+    ensures blame { (name : List ℕ) (limit : ℕ)
+        → Reads (bytes_of words.now) (Interp name limit) → Blame name
+        (world (S.seen input.old) (O.seen out.old) (E.seen err.old) (F.seen store.old)) result }
+
     // `check` says whether the text is wholly checked.
     ensures check { (name : List ℕ)
         → Reads (bytes_of words.now) (Judge name) → Checking name
-        (world (S.seen input.old) (O.seen out.old) (E.seen err.old) (F.seen store.old))
-        (world (S.seen input.new) (O.seen out.new) (E.seen err.new) (F.seen store.new)) result }
-
-    // If a program comes to a step that has no meaning, unchecked code is to blame.
-    ensures blame { Blame (bytes_of words.now)
         (world (S.seen input.old) (O.seen out.old) (E.seen err.old) (F.seen store.old))
         (world (S.seen input.new) (O.seen out.new) (E.seen err.new) (F.seen store.new)) result }
 

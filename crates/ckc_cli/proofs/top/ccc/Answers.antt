@@ -37,10 +37,10 @@ returns-clause-check g c = λ name reads.
     let w : World = world (g.S.Source.seen c.args.input.now) (g.O.Sink.seen c.args.out.now) error (g.F.Store.seen c.args.store.now) in
     let w' : World = world (g.S.Source.seen r.input) (g.O.Sink.seen r.out) error' (g.F.Store.seen r.store) in
     let same : Untouched = untouched c.args.input.now r.input c.args.out.now r.out c.args.store.now r.store in
-    checking (bytes_of c.args.words.now) w w' same name reads c.asked-status.result (c.asked-status.ensures.cause error error')
+    checking c.unchecked_code_is_to_blame.ensures.checked (bytes_of c.args.words.now) w w' same name reads c.asked-status.result (c.asked-status.ensures.cause error error')
 
 pub returns-clause-blame : goal.returns-clause-blame
-returns-clause-blame g c =
+returns-clause-blame g c = λ name limit reads.
     let error = g.E.Sink.seen c.args.err.now in
     let error' = g.E.Sink.seen c.tell.new.err in
     let r = c.asked-status.new in
@@ -48,4 +48,4 @@ returns-clause-blame g c =
     let w' : World = world (g.S.Source.seen r.input) (g.O.Sink.seen r.out) error' (g.F.Store.seen r.store) in
     let same : Untouched = untouched c.args.input.now r.input c.args.out.now r.out c.args.store.now r.store in
     let law = c.unchecked_code_is_to_blame.ensures in
-    blame (record { blamed = law.blamed; never_stuck = law.never_stuck; checked = law.checked }) (bytes_of c.args.words.now) w w' same c.asked-status.result (c.asked-status.ensures.cause error error')
+    blame law.blamed law.never_stuck (bytes_of c.args.words.now) w w' same c.asked-status.result (c.asked-status.ensures.cause error error') name limit reads
