@@ -47,9 +47,14 @@ pub if_judged : (P : Typed → Type 0) (text : List ℕ) (r : Result Typed Fault
 if_judged P text (Ok p) law x = law p x.answers
 if_judged P text (Err e) law x = tt
 
+-- whatever holds of the program of each typed text that is wholly checked holds of the program that a text means
+pub checked_by : (P : Program → Type 0) → ((text : List ℕ) (p : Typed) → judging.Makes text p → WhollyChecked p → P (elaborated p))
+    → (text : List ℕ) (p : Program) → HasMeaning text p → IsWhollyChecked text → P p
+checked_by P law text p m w = subst P (elaborated_is m.0 p m.2) (law text m.0 m.1 (subst WhollyChecked (judging_exact.made_once text w.0 m.0 w.1 m.1) w.2))
+
 module _ (judged : (text : List ℕ) (p : Typed) → judging.Makes text p → IsBlamed (elaborated p)) (checked : (text : List ℕ) (p : Typed) → judging.Makes text p → WhollyChecked p → IsNeverStuck (elaborated p)) (text : List ℕ) where
   pub blamed_by : (p : Program) → HasMeaning text p → IsBlamed p
   blamed_by p m = subst IsBlamed (elaborated_is m.0 p m.2) (judged text m.0 m.1)
 
   pub never_by : (p : Program) → HasMeaning text p → IsWhollyChecked text → IsNeverStuck p
-  never_by p m w = subst IsNeverStuck (elaborated_is m.0 p m.2) (checked text m.0 m.1 (subst WhollyChecked (judging_exact.made_once text w.0 m.0 w.1 m.1) w.2))
+  never_by p m w = checked_by IsNeverStuck checked text p m w

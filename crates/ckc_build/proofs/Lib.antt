@@ -2,3 +2,4 @@ pub mod Chain
 pub mod Fitting
 pub mod Programs
 pub mod Blame
+pub mod Confined

@@ -16,6 +16,8 @@ use Rattle.ckc_build.specs.Meanings.{IsWhollyChecked, judging, elaborating, mean
 use Rattle.ckc_build.specs.Confined.{IsConfined}
 use Rattle.ckc_build.specs.Built.{IsImage, building}
 use Rattle.ckc_build.specs.Sizes.{HasShortCode}
+use Rattle.ckc_blame_steps.specs.Stores.{PlansLie}
+use Rattle.ckc_build.proofs.Confined.{stores_stay}
 use Rattle.ckc_build.proofs.Chain.{judging_exact, exact_err}
 
 elaborating_exact : IsExact elaborating
@@ -56,13 +58,13 @@ module _ (text : List ℕ) where
   pub built_of : (p : Program) (image : List ℕ) → IsBlamed p → (IsWhollyChecked text → IsNeverStuck p) → Exact meanings text (Ok p) → IsMade p image → building.Makes text image
   built_of p image blamed checked x q = (machine_parts q.0, record { program = p; means = x.answers; follows = q.1; blamed = blamed; checked = checked; confined = q.3; faultless = q.4 }, q.5)
 
-  pub confined_of : (p : Program) (image : List ℕ) → (IsWhollyChecked text → IsNeverStuck p) → Exact meanings text (Ok p) → IsMade p image → IsWhollyChecked text → IsConfined text image
-  confined_of p image never x q w = record {
+  pub confined_of : (p : Program) (image : List ℕ) → (IsWhollyChecked text → IsNeverStuck p) → (IsWhollyChecked text → PlansLie p) → Exact meanings text (Ok p) → IsMade p image → IsWhollyChecked text → IsConfined text image
+  confined_of p image never lie x q w = record {
     parts = machine_parts q.0;
     is_image = q.5;
     program = p;
     means = x.answers;
-    stores = λ input bytes. q.3 input bytes (λ n. never w input n bytes);
+    stores = λ input bytes. stores_stay p (machine_parts q.0) input bytes (lie w) (q.3 input bytes (λ n. never w input n bytes));
     faultless = λ input bytes. q.4 input bytes (λ n. never w input n bytes);
   }
 

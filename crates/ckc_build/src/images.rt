@@ -8,7 +8,9 @@ ghost use Rattle.ckc_build.specs.Confined.{IsConfined};
 ghost use Rattle.ckc_build.specs.Built.{building, bytes_of};
 ghost use Rattle.ckc_build.specs.Sizes.{HasShortCode};
 
-use crate::laws::{programs_fit, unchecked_code_is_to_blame};
+use crate::laws::{
+    checked_stores_lie_in_blocks, programs_fit, unchecked_code_is_to_blame,
+};
 use crate::meanings::program;
 use ckc_base::Fault;
 use ckc_build_compilable::is_compilable;
@@ -55,6 +57,7 @@ fn image_of(alloc: Global, text: &[u8], p: &Program) -> Result<Vec<u8>, Fault>
     }
     programs_fit();
     unchecked_code_is_to_blame();
+    checked_stores_lie_in_blocks();
     match compile(alloc, p) {
         Err(_) => Err(Fault::Memory),
         Ok(parts) => match write(alloc, &parts) {

@@ -7,11 +7,12 @@ ghost use Rattle.ckc_source.specs.LaidOut.{IsLaidOut};
 ghost use Rattle.ckc_checks_operands.specs.Weights.{program_weight, most_weight};
 ghost use Rattle.ckc_blame.specs.Blamed.{IsBlamed, IsNeverStuck};
 ghost use Rattle.ckc_blame.specs.Checked.{WhollyChecked};
+ghost use Rattle.ckc_blame_steps.specs.Stores.{PlansLie};
 ghost use Rattle.ckc_build_elaborate.specs.Elaborated.{elaborated};
 ghost use Rattle.ckc_typed.specs.declared.typed.Typed.{Typed};
 ghost use Rattle.ckc_build.specs.Meanings.{HasMeaning, IsWhollyChecked, judging, reading};
 
-use ckc_blame_steps::accepted_texts_are_blamed;
+use ckc_blame_steps::{accepted_stores_lie, accepted_texts_are_blamed};
 use ckc_build_sizes::{marks_stay, programs_are_small};
 use ckc_typed_fit::small_stays;
 use ckc_typed_welltyped::{counts_stay, texts_exactly};
@@ -59,4 +60,13 @@ pub fn unchecked_code_is_to_blame()
 {
     texts_exactly();
     accepted_texts_are_blamed();
+}
+
+/// What the steps of a text that is wholly checked plan to write to memory lies in blocks of their states.
+pub fn checked_stores_lie_in_blocks()
+    ensures { (text : List ℕ) (p : Program) → HasMeaning text p → IsWhollyChecked text
+        → PlansLie p }
+{
+    texts_exactly();
+    accepted_stores_lie();
 }

@@ -32,7 +32,8 @@ returns-clause-short c =
 pub returns-clause-confined : goal.returns-clause-confined
 returns-clause-confined c =
     confined_of c.args.text.now (program_of c.args.p.now) c.in-Ok-write.image.items
-    (c.unchecked_code_is_to_blame.ensures.never_stuck c.args.text.now (program_of c.args.p.now) c.requires.means.answers) c.requires.means (
+    (c.unchecked_code_is_to_blame.ensures.never_stuck c.args.text.now (program_of c.args.p.now) c.requires.means.answers)
+    (c.checked_stores_lie_in_blocks.ensures c.args.text.now (program_of c.args.p.now) c.requires.means.answers) c.requires.means (
       c.in-Ok.parts,
       c.in-Ok.ensures.follows,
       c.in-Ok.ensures.size,
