@@ -100,3 +100,4 @@ pub mod Variables
 pub mod GivenBodies
 pub mod CalledNames
 pub mod Ones
+pub mod MoreBlocks
