@@ -101,3 +101,5 @@ pub mod GivenBodies
 pub mod CalledNames
 pub mod Ones
 pub mod MoreBlocks
+pub mod StoresLie
+pub mod KnownStores

@@ -23,16 +23,16 @@ use Rattle.ckc_blame_sound.proofs.Fresh.{loaded_before, true_before}
 abbrev pub IsSameUnlessStuck : {A : Type 0} → Result A Halt → Result A Halt → Type 0
 IsSameUnlessStuck x y = (x ≡ Err Stuck) ⊎ (y ≡ x)
 
-given_later : {A B : Type 0} (x y : Result A Halt) (f g : A → Result B Halt) → IsSameUnlessStuck x y → ((a : A) → IsSameUnlessStuck (f a) (g a)) → IsSameUnlessStuck (given x f) (given y g)
+pub given_later : {A B : Type 0} (x y : Result A Halt) (f g : A → Result B Halt) → IsSameUnlessStuck x y → ((a : A) → IsSameUnlessStuck (f a) (g a)) → IsSameUnlessStuck (given x f) (given y g)
 given_later x y f g (inl e) h = inl (ap (λ z. given z f) e)
 given_later (Ok a) y f g (inr e) h = subst (λ z. IsSameUnlessStuck (f a) (given z g)) (sym e) (h a)
 given_later (Err b) y f g (inr e) h = inr (ap (λ z. given z g) e)
 
-both_later : {A B C : Type 0} (x y : Result A Halt) (v w : Result B Halt) (f g : A → B → Result C Halt) → IsSameUnlessStuck x y → IsSameUnlessStuck v w
+pub both_later : {A B C : Type 0} (x y : Result A Halt) (v w : Result B Halt) (f g : A → B → Result C Halt) → IsSameUnlessStuck x y → IsSameUnlessStuck v w
     → ((a : A) (b : B) → IsSameUnlessStuck (f a b) (g a b)) → IsSameUnlessStuck (given_both x v f) (given_both y w g)
 both_later x y v w f g h k l = given_later x y (λ a. given v (f a)) (λ a. given w (g a)) h (λ a. given_later v w (f a) (g a) k (l a))
 
-same : {A : Type 0} (x : Result A Halt) → IsSameUnlessStuck x x
+pub same : {A : Type 0} (x : Result A Halt) → IsSameUnlessStuck x x
 same x = inr refl
 
 some_later : {A B : Type 0} (o p : Option A) (f g : A → Result B Halt) → ((a : A) → o ≡ Some a → p ≡ Some a) → ((a : A) → IsSameUnlessStuck (f a) (g a)) → IsSameUnlessStuck (given_some o f) (given_some p g)
