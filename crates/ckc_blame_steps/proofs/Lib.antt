@@ -103,3 +103,4 @@ pub mod Ones
 pub mod MoreBlocks
 pub mod StoresLie
 pub mod KnownStores
+pub mod RunStates

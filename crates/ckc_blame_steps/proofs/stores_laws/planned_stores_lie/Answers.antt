@@ -11,4 +11,4 @@ no_bundle p s (Rest (Bundle spot assigns rest) ∷ next) h = absurd (h spot assi
 no_bundle p s work h = tt
 
 pub returns : goal.returns
-returns c = λ p s ws h e. plans_lie p s (settled s.frame.work) ws (no_bundle p s (settled s.frame.work) h) e
+returns c = λ p s h ws e. plans_lie p s (settled s.frame.work) ws (no_bundle p s (settled s.frame.work) h) e
