@@ -44,6 +44,7 @@ use Rattle.ckc_blame_sound.specs.Moves.{IsSoundMove}
 use Rattle.ckc_blame_sound.specs.Typed.{IsTyped, AreTypedSides, IsTypedAct}
 use Rattle.ckc_blame_sound.proofs.Stepping.{ActLayer, act_back, parted, code_is, first_step}
 use Rattle.ckc_blame_sound.proofs.Judging.{judged_typed}
+use Rattle.ckc_blame_sound.proofs.Frames.{frames_agree}
 use Rattle.ckc_blame_sound.specs.JudgedTexts.{globals_in}
 use Rattle.ckc_blame_given.specs.Together.{AreTogether}
 use Rattle.ckc_blame_given.proofs.Bundles.{bundle_together}
@@ -59,9 +60,10 @@ use Rattle.ckc_blame_steps.specs.Plans.{BecomesPart, BecomeParts, AllocateSoundl
 use Rattle.ckc_blame_steps.proofs.Declarations.{local_made}
 use Rattle.ckc_blame_steps.proofs.Origins.{Kind, kind}
 use Rattle.ckc_blame_steps.proofs.Strings.{strings_there, sides_strings}
-use Rattle.ckc_blame_steps.proofs.Plans.{AllFit, StayCovered}
+use Rattle.ckc_blame_steps.proofs.Plans.{AllFit, StayCovered, all_unstuck}
 use Rattle.ckc_blame_steps.proofs.Stores.{planning}
-use Rattle.ckc_blame_steps.proofs.Steps.{covered_there, parts_sound, row_of, side_fits, typed_act}
+use Rattle.ckc_blame_steps.proofs.StoresLie.{AreUnstuck}
+use Rattle.ckc_blame_steps.proofs.Steps.{at_b, known, free, covered_there, parts_sound, row_of, side_fits, typed_act}
 
 -- ---- a bundle comes from a bundle
 
@@ -253,6 +255,15 @@ module _ (p : Typed) (g : IsGranted p) (allocations : AllocateSoundly p) (st : S
       parts_sound p g st h step next f allocations ss ts assigns judged leads fit covered become room fitting
       (all_together ss ts judged leads.one (all_typed ss ts f.here.next judged (subst (IsTypedAct (globals_in p) t) is (typed_act p g st h step next f))))
 
+  -- no target is stuck in the state before the step
+  pub bundle_unstuck : AreUnstuck list st assigns
+  bundle_unstuck =
+      let at = at_b p g st h step next f in
+      let known = known p g st h step next f in
+      all_unstuck (globals_in p) t (frames_agree p t st.frame.function g.judged h.stands.function) (g.declares t st.frame.function h.stands.function) (free p g st h step next f) list st.frame.entry f.here
+      (allocations t st.frame.function f.here f.exits.ends step st.frame.entry h.stands.function f.judged)
+      (planning p g st h step next f) at ss ts assigns 0 f.here.next known.word known.fresh judged fit (covered (planning p g st h step next f) at) become room
+
 pub every_bundle : (p : Typed) (st : State) (h : Sound p st) (sp : Spot) (assigns : List (Target × Right)) (rest : Code) (next : List Work) → IsGranted p → AllocateSoundly p
     → settled st.frame.work ≡ Rest (Bundle sp assigns rest) ∷ next → (spot_of st).mode ≡ Checked → IsSoundMove p (source_step (elaborated p) st)
 every_bundle p st h sp assigns rest next g allocations is mode =
@@ -260,3 +271,10 @@ every_bundle p st h sp assigns rest next g allocations is mode =
     let b = bundle_layer h.setting f.here f.exits.ends sp assigns f.judged in
     move_by p st (Rest (Bundle sp assigns rest) ∷ next) is
     (bundle_comes p g allocations st h (Rest rest ∷ next) sp assigns (subst (λ w. (spot_at st.frame.function.end w).mode ≡ Checked) is mode) f b.0 b.1)
+
+pub every_bundle_unstuck : (p : Typed) (st : State) (h : Sound p st) (sp : Spot) (assigns : List (Target × Right)) (rest : Code) (next : List Work) → IsGranted p → AllocateSoundly p
+    → settled st.frame.work ≡ Rest (Bundle sp assigns rest) ∷ next → (spot_of st).mode ≡ Checked → AreUnstuck (shapes_elaborated p.layout) st assigns
+every_bundle_unstuck p st h sp assigns rest next g allocations is mode =
+    let f = faces_bundle h.setting (store_in p st.blocks st.frame) st.frame.entry st.frame.work next (stands_ready p st h) sp assigns rest is in
+    let b = bundle_layer h.setting f.here f.exits.ends sp assigns f.judged in
+    bundle_unstuck p g allocations st h (Rest rest ∷ next) sp assigns (subst (λ w. (spot_at st.frame.function.end w).mode ≡ Checked) is mode) f b.0 b.1

@@ -100,3 +100,7 @@ pub mod Variables
 pub mod GivenBodies
 pub mod CalledNames
 pub mod Ones
+pub mod MoreBlocks
+pub mod StoresLie
+pub mod KnownStores
+pub mod RunStates

@@ -1,6 +1,6 @@
 -- What assignments are going to write is planned soundly.
 use Rattle.std.proofs.Common.{◌≡◌, refl, sym, ap, subst, ◌∙◌, ℕ, true, false, List, [], ◌∷◌, arith}
-use Rattle.std.specs.Prelude.{◌+◌, ◌<◌, ◌≤◌, ◌^◌, length, slice_get, is_some, Option, None, Some, Result, Ok}
+use Rattle.std.specs.Prelude.{◌≢◌, ◌+◌, ◌<◌, ◌≤◌, ◌^◌, length, slice_get, is_some, Option, None, Some, Result, Ok, Err}
 use Rattle.std.specs.List.{AllByRecursion}
 use Rattle.ckc_base.specs.declared.places.Pos.{Pos}
 use Rattle.ckc_types.specs.declared.types.CType.{CType}
@@ -21,6 +21,7 @@ use Rattle.ckc_bounds_stores.specs.Targets.{local_of}
 use Rattle.ckc_bounds_stores.specs.Stores as stores
 use Rattle.ckc_bounds_stores.specs.Stores.{Placed, with_store, stores_of, numbered}
 use Rattle.ckc_source.specs.declared.outcome.Halt.{Halt}
+use Rattle.ckc_source.specs.declared.outcome.Halt.TheVariants as halt
 use Rattle.ckc_source.specs.declared.outcome.Place.{Place}
 use Rattle.ckc_source.specs.declared.outcome.Place.TheVariants as place
 use Rattle.ckc_source.specs.declared.program.Shape.{Shape}
@@ -29,7 +30,7 @@ use Rattle.ckc_source.specs.Eval.{given}
 use Rattle.ckc_source.specs.Runs.{is_true}
 use Rattle.ckc_source.specs.States.{State}
 use Rattle.ckc_source.specs.Steps.{store_of, aimed, Drawn, drawn, allowed, Planned, planned, and_then_written}
-use Rattle.ckc_build_elaborate.specs.Steps.{right_form, right_of, is_terminated}
+use Rattle.ckc_build_elaborate.specs.Steps.{target_of, right_form, right_of, is_terminated}
 use Rattle.ckc_blame_sound.specs.Bodies.{AreFresh}
 use Rattle.ckc_blame_sound.specs.Settings.{Setting, AreStrings}
 use Rattle.ckc_blame_sound.specs.Cells.{IsCell}
@@ -56,6 +57,7 @@ use Rattle.ckc_blame_steps.specs.Granted.{IsCoveredValue, AreCoveredSides, AreCo
 use Rattle.ckc_blame_steps.specs.Plans.{BecomesPart, BecomeParts, IsAt, HasMore, IsDrawnOn, IsDrawn, IsSoundPlan, counted_in, AllocationsDraw}
 use Rattle.ckc_blame_steps.proofs.Comes.{comes_on, allowed_comes, same_state, more_on, same_locals}
 use Rattle.ckc_blame_steps.proofs.Drawn.{value_drawn}
+use Rattle.ckc_blame_steps.proofs.StoresLie.{AreUnstuck}
 
 abbrev ActLayer : Type 0
 ActLayer = Act-F Name Note NotedAct NotedStmt
@@ -109,6 +111,12 @@ AllFit globals s ss = AllByRecursion (λ (st : NotedStmt). AreFit globals s (out
 -- what is covered in each state where the point holds
 abbrev pub StayCovered : Setting → List Shape → List ℕ → Here → List NotedStmt → Type 0
 StayCovered s shapes entry here ss = (b : State) → IsAt s shapes entry here b → AreCoveredParts s (store_of shapes b) here.seen ss
+
+-- what comes to something is not stuck
+come_unstuck : {A : Type 0} (P : A → Type 0) (r : Result A Halt) → ComesTo P r → r ≢ Err halt.Stuck
+come_unstuck P (Ok a) h e = cc
+come_unstuck P (Err (halt.Stopped why at)) h e = cc
+come_unstuck P (Err halt.Stuck) h e = h
 
 -- ---- plans
 
@@ -290,6 +298,29 @@ module _ (globals : Globals) (s : Setting) (agrees : Agrees globals s) (declares
         one_more b first_of (numbers_of (capped value (view s.frame right).values) (fresh_behind (view s.frame right) next here.at) (stores_of afters)) value fresh before small little refl w d dr on
         (goes d.number w word is) pl sound))))
 
+  -- the number of the last fresh variable after both sides of an assignment
+  record IsNext (fresh : ℕ) (x y : NotedStmt) (j : IsAssignJudged s here.at fresh x y) : Type 0 where
+    same : next_fresh s here.at fresh x y j ≡ fresh_behind (view s.frame j.value) (fresh_behind (view s.frame j.place) fresh here.at) here.at
+    small : fresh_behind (view s.frame j.value) (fresh_behind (view s.frame j.place) fresh here.at) here.at < 2 ^ 32
+    unused : AreFresh s.frame (fresh_behind (view s.frame j.value) (fresh_behind (view s.frame j.place) fresh here.at) here.at)
+
+  next_one : (fresh : ℕ) → fresh < 2 ^ 32 → AreFresh s.frame fresh → (x y : NotedStmt) (j : IsAssignJudged s here.at fresh x y) → IsNext fresh x y j
+  next_one fresh little are x y j =
+      let place_is : view s.frame j.place ≡ view s.frame j.target = same_view s.frame j.target j.place fresh here.at j.target_judged s.frame in
+      let right_is : view s.frame j.value ≡ view s.frame j.right = same_view s.frame j.right j.value _ here.at j.right_judged s.frame in
+      let m = more_fresh fresh (length ((view s.frame j.place).fresh here.at)) little in
+      let n = more_fresh (fresh_behind (view s.frame j.place) fresh here.at) (length ((view s.frame j.value).fresh here.at)) (small_fresh fresh (length ((view s.frame j.place).fresh here.at))) in
+      record {
+        same =
+            ap (λ (w : View). fresh_behind w (fresh_behind (view s.frame j.target) fresh here.at) here.at) (sym right_is)
+            ∙ ap (λ (w : View). fresh_behind (view s.frame j.value) (fresh_behind w fresh here.at) here.at) (sym place_is);
+        small = small_fresh (fresh_behind (view s.frame j.place) fresh here.at) (length ((view s.frame j.value).fresh here.at));
+        unused = more_free fresh (fresh_behind (view s.frame j.value) (fresh_behind (view s.frame j.place) fresh here.at) here.at) are (both fresh _ _ m n);
+      }
+    where
+      both : (i j k : ℕ) → i ≤ j → j ≤ k → i ≤ k
+      both i j k p q = omega arith
+
   pub all_planned : (befores afters : List NotedStmt) (others : List (Target × Right)) (b : State) → IsAt s shapes entry here b → (value fresh : ℕ) (before : Valuation) → IsValuationOf s b.frame.locals before
       → value < 2 ^ 32 → fresh < 2 ^ 32 → AreFresh s.frame fresh → AreAssignsJudged s here.at fresh befores afters → AllFit globals s befores → StayCovered s shapes entry here afters → BecomeParts s afters others
       → HaveRoom s.frame here.at value fresh (stores_of afters) → ComesTo (IsPlan b (numbers_of value fresh (stores_of afters)) value fresh before) (planned shapes b others)
@@ -302,21 +333,56 @@ module _ (globals : Globals) (s : Setting) (agrees : Agrees globals s) (declares
   all_planned (x ∷ xs) (y ∷ ys) (a ∷ others) b is_at value fresh before values small little are judged fit covered becomes room =
       let j : IsAssignJudged s here.at fresh x y = judged.0 in
       let one : AreFit globals s (Act-F.Assign j.target j.right) = subst (AreFit globals s) j.is fit.0 in
-      let place_is : view s.frame j.place ≡ view s.frame j.target = same_view s.frame j.target j.place fresh here.at j.target_judged s.frame in
-      let right_is : view s.frame j.value ≡ view s.frame j.right = same_view s.frame j.right j.value _ here.at j.right_judged s.frame in
-      let later : ℕ = fresh_behind (view s.frame j.value) (fresh_behind (view s.frame j.place) fresh here.at) here.at in
-      let later_is : next_fresh s here.at fresh x y j ≡ later =
-      ap (λ (w : View). fresh_behind w (fresh_behind (view s.frame j.target) fresh here.at) here.at) (sym right_is)
-      ∙ ap (λ (w : View). fresh_behind (view s.frame j.value) (fresh_behind w fresh here.at) here.at) (sym place_is) in
-      let m = more_fresh fresh (length ((view s.frame j.place).fresh here.at)) little in
-      let n = more_fresh (fresh_behind (view s.frame j.place) fresh here.at) (length ((view s.frame j.value).fresh here.at)) (small_fresh fresh (length ((view s.frame j.place).fresh here.at))) in
+      let next = next_one fresh little are x y j in
       subst (Claim b value fresh before y.pos ys a others) (sym j.becomes)
       (front_planned b is_at value fresh before values small little are y.pos j.target j.right j.place j.value one j.target_judged j.right_judged ys a others
       (λ d at_d last of_d room_d.
-      all_planned xs ys others d at_d (capped value (view s.frame j.value).values) later last of_d (small_fresh value (view s.frame j.value).values)
-      (small_fresh (fresh_behind (view s.frame j.place) fresh here.at) (length ((view s.frame j.value).fresh here.at))) (more_free fresh later are (both fresh _ later m n))
-      (subst (λ k. AreAssignsJudged s here.at k xs ys) later_is judged.1) fit.1 (λ c at_c. (covered c at_c).1) becomes.1 room_d))
+      all_planned xs ys others d at_d (capped value (view s.frame j.value).values) (fresh_behind (view s.frame j.value) (fresh_behind (view s.frame j.place) fresh here.at) here.at) last of_d
+      (small_fresh value (view s.frame j.value).values) next.small next.unused (subst (λ k. AreAssignsJudged s here.at k xs ys) next.same judged.1) fit.1 (λ c at_c. (covered c at_c).1) becomes.1 room_d))
       room (covered b is_at).0 becomes.0
-    where
-      both : (i j k : ℕ) → i ≤ j → j ≤ k → i ≤ k
-      both i j k p q = omega arith
+
+  -- ---- targets alone, each of them in the state before all assignments
+
+  module _ (b : State) (is_at : IsAt s shapes entry here b) where
+    -- what is claimed of the assignments in front of others, by the layer of the first one
+    abbrev AimClaim : ℕ → ℕ → Pos → List NotedStmt → (Target × Right) → List (Target × Right) → ActLayer → Type 0
+    AimClaim value fresh pos afters a others x =
+        HaveRoom s.frame here.at value fresh (with_store x pos (stores_of afters)) → AreCoveredSides s (store_of shapes b) here.seen x → BecomesPart s x a
+        → AreUnstuck shapes b (a ∷ others)
+
+    front_unstuck : (value fresh : ℕ) → AreFresh s.frame fresh → (pos : Pos) (e f place right : NotedExpr) → AreFit globals s (Act-F.Assign e f) → (view s.frame e).judged fresh here.at ≡ Ok place
+        → (afters : List NotedStmt) (a : Target × Right) (others : List (Target × Right))
+        → (HaveRoom s.frame here.at (capped value (view s.frame right).values) (fresh_behind (view s.frame right) (fresh_behind (view s.frame place) fresh here.at) here.at) (stores_of afters)
+        → AreUnstuck shapes b others)
+        → AimClaim value fresh pos afters a others (Act-F.Assign place right)
+    unfolding HaveRoom
+    front_unstuck value fresh are pos e f place right fit left_judged afters a others rest room covered becomes =
+        (subst (λ y. aimed (store_of shapes b) y ≢ Err halt.Stuck) (sym becomes.target) unstuck, rest room.1)
+      where
+        p : Placed
+        p = record { target = place; right = right; pos = pos; from = record { value = value; fresh = fresh } }
+
+        unstuck : aimed (store_of shapes b) (target_of s.text s.variables becomes.first place) ≢ Err halt.Stuck
+        unstuck =
+            come_unstuck (λ to. (n : ℕ) (w : Place) → n < 2 ^ 32 → allowed to n ≡ Ok w → GoesThere s (store_of shapes b) p n w) (aimed (store_of shapes b) (target_of s.text s.variables becomes.first place))
+            (judged_aims globals s agrees declares (store_of shapes b) entry b.next is_at.ready here free e p fresh becomes.first
+            (subst (λ (w : View). fresh + length (w.fresh here.at) < 2 ^ 32) (same_view s.frame e place fresh here.at left_judged s.frame) room.0.left.variables) are fit.0 left_judged
+            (ap is_scalar (same_type s.frame e place fresh here.at left_judged) ∙ fit.3) covered.0 becomes.target_strings is_at.holds)
+
+    pub all_unstuck : (befores afters : List NotedStmt) (others : List (Target × Right)) (value fresh : ℕ) → fresh < 2 ^ 32 → AreFresh s.frame fresh → AreAssignsJudged s here.at fresh befores afters
+        → AllFit globals s befores → AreCoveredParts s (store_of shapes b) here.seen afters → BecomeParts s afters others → HaveRoom s.frame here.at value fresh (stores_of afters) → AreUnstuck shapes b others
+    unfolding AreAssignsJudged BecomeParts HaveRoom
+    all_unstuck [] [] [] value fresh little are judged fit covered becomes room = tt
+    all_unstuck [] [] (a ∷ others) value fresh little are judged fit covered becomes room = absurd becomes
+    all_unstuck [] (x ∷ xs) others value fresh little are judged fit covered becomes room = absurd judged
+    all_unstuck (x ∷ xs) [] others value fresh little are judged fit covered becomes room = absurd judged
+    all_unstuck (x ∷ xs) (y ∷ ys) [] value fresh little are judged fit covered becomes room = absurd becomes
+    all_unstuck (x ∷ xs) (y ∷ ys) (a ∷ others) value fresh little are judged fit covered becomes room =
+        let j : IsAssignJudged s here.at fresh x y = judged.0 in
+        let next = next_one fresh little are x y j in
+        subst (AimClaim value fresh y.pos ys a others) (sym j.becomes)
+        (front_unstuck value fresh are y.pos j.target j.right j.place j.value (subst (AreFit globals s) j.is fit.0) j.target_judged ys a others
+        (λ room.
+        all_unstuck xs ys others (capped value (view s.frame j.value).values) (fresh_behind (view s.frame j.value) (fresh_behind (view s.frame j.place) fresh here.at) here.at) next.small next.unused
+        (subst (λ k. AreAssignsJudged s here.at k xs ys) next.same judged.1) fit.1 covered.1 becomes.1 room))
+        room covered.0 becomes.0

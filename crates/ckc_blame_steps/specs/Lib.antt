@@ -16,3 +16,4 @@ pub mod Values
 pub mod ExpressionRooms
 pub mod Checked
 pub mod Told
+pub mod Stores

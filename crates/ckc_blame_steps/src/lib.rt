@@ -16,6 +16,7 @@ mod locals_laws;
 mod results_laws;
 mod rooms_laws;
 mod spoken_laws;
+mod stores_laws;
 mod whole_laws;
 
 pub use accepted_laws::accepted_texts_are_blamed;
@@ -45,6 +46,10 @@ pub use results_laws::{
 };
 pub use rooms_laws::{arguments_have_room, steps_have_places};
 pub use spoken_laws::checked_expressions_are_spoken;
+pub use stores_laws::{
+    accepted_stores_lie, checked_states_are_sound, checked_stores_lie, evaluations_stay,
+    planned_stores_lie,
+};
 pub use whole_laws::{
     checked_never_stuck, checked_steps_keep_sound, first_state_sound, steps_stay_sound,
     stuck_is_blamed, wholly_checked_never_stuck,
