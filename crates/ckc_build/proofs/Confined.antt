@@ -2,7 +2,7 @@
 use Rattle.std.proofs.Common.{◌≡◌, ◌⊎◌, inl, inr, refl, sym, ap, subst, ◌∙◌, ℕ, List, [], ◌∷◌}
 use Rattle.std.specs.Prelude.{IsTrue, Result, Ok, Err}
 use Rattle.std.specs.List.{All}
-use Rattle.std.proofs.lemmas.List.Elements.{All-head, All-tail, All-map}
+use Rattle.std.proofs.lemmas.List.Elements.{All-head, All-tail, All-weaker}
 use Rattle.ckc_base.specs.declared.arithmetic.Width.{Width}
 use Rattle.ckc_base.specs.Lists.{AreBytes}
 use Rattle.ckc_base.specs.LongEvents.{Stored}
@@ -60,6 +60,6 @@ stores_stay p parts input bytes lie confines k =
       never_falls = l.never_falls;
       stands = l.stands;
       allowed = λ i less new is.
-          All-map (MayWrite p (state_at (source_system p) (first_state p input) (l.at i))) (StaysInside (state_at (source_system p) (first_state p input) (l.at i)))
+          All-weaker (MayWrite p (state_at (source_system p) (first_state p input) (l.at i))) (StaysInside (state_at (source_system p) (first_state p input) (l.at i)))
           (λ e h. stays p (state_at (source_system p) (first_state p input) (l.at i)) (lie input (l.at i) bytes) e h) new (l.allowed i less new is);
     }
