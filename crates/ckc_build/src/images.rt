@@ -8,9 +8,7 @@ ghost use Rattle.ckc_build.specs.Confined.{IsConfined};
 ghost use Rattle.ckc_build.specs.Built.{building, bytes_of};
 ghost use Rattle.ckc_build.specs.Sizes.{HasShortCode};
 
-use crate::laws::{
-    checked_stores_lie_in_blocks, programs_fit, unchecked_code_is_to_blame,
-};
+use crate::laws::{checked_stores_lie_in_blocks, programs_fit, unchecked_code_is_to_blame};
 use crate::meanings::program;
 use ckc_base::Fault;
 use ckc_build_compilable::is_compilable;
