@@ -26,7 +26,7 @@ of_lies : (blocks : List Block) (to : Place) (n at : ℕ) (width : Width) (value
 of_lies blocks (place.Memory a wide zero_alone) n at width value lies is =
     subst (λ x. IsTrue (lies_in x at blocks)) (sym is.1) (subst (λ x. IsTrue (lies_in wide x blocks)) (sym is.0) lies)
 of_lies blocks (place.Local k wide) n at width value lies is = absurd is
-of_lies blocks place.Nothing n at width value lies is = absurd is
+of_lies blocks place.Nowhere n at width value lies is = absurd is
 
 among_lies : (blocks : List Block) (ws : List Write) (at : ℕ) (width : Width) (value : ℕ) → LieThere blocks ws → IsAmong ws at width value → IsTrue (lies_in width at blocks)
 among_lies blocks [] at width value all is = absurd is
