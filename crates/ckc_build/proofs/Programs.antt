@@ -13,7 +13,6 @@ use Rattle.ckc_image.specs.declared.parts.Parts as parts
 use Rattle.ckc_build_compile.specs.Compiled.{FollowsSource, machine_parts}
 use Rattle.ckc_build_compile.specs.Confined.{ConfinesStores, NeverFaults}
 use Rattle.ckc_build.specs.Meanings.{IsWhollyChecked, judging, elaborating, meanings}
-use Rattle.ckc_build.specs.Confined.{IsConfined}
 use Rattle.ckc_build.specs.Built.{IsImage, building}
 use Rattle.ckc_build.specs.Sizes.{HasShortCode}
 use Rattle.ckc_blame_steps.specs.Stores.{PlansLie}
@@ -55,18 +54,25 @@ module _ (text : List ℕ) where
       (made : parts.Parts) × FollowsSource p made × (length made.code ≤ 4 * (program_weight p + 5))
       × ConfinesStores p (machine_parts made) × NeverFaults p (machine_parts made) × IsImage image (machine_parts made)
 
-  pub built_of : (p : Program) (image : List ℕ) → IsBlamed p → (IsWhollyChecked text → IsNeverStuck p) → Exact meanings text (Ok p) → IsMade p image → building.Makes text image
-  built_of p image blamed checked x q = (machine_parts q.0, record { program = p; means = x.answers; follows = q.1; blamed = blamed; checked = checked; confined = q.3; faultless = q.4 }, q.5)
-
-  pub confined_of : (p : Program) (image : List ℕ) → (IsWhollyChecked text → IsNeverStuck p) → (IsWhollyChecked text → PlansLie p) → Exact meanings text (Ok p) → IsMade p image → IsWhollyChecked text → IsConfined text image
-  confined_of p image never lie x q w = record {
-    parts = machine_parts q.0;
-    is_image = q.5;
-    program = p;
-    means = x.answers;
-    stores = λ input bytes. stores_stay p (machine_parts q.0) input bytes (lie w) (q.3 input bytes (λ n. never w input n bytes));
-    faultless = λ input bytes. q.4 input bytes (λ n. never w input n bytes);
-  }
+  pub built_of : (p : Program) (image : List ℕ) → IsBlamed p → (IsWhollyChecked text → IsNeverStuck p) → (IsWhollyChecked text → PlansLie p)
+      → Exact meanings text (Ok p) → IsMade p image → building.Makes text image
+  built_of p image blamed checked lie x q = (
+    machine_parts q.0,
+    record {
+      program = p;
+      means = x.answers;
+      follows = q.1;
+      blamed = blamed;
+      checked = checked;
+      confined = q.3;
+      faultless = q.4;
+      inside = λ w input bytes. (
+        stores_stay p (machine_parts q.0) input bytes (lie w) (q.3 input bytes (λ n. checked w input n bytes)),
+        q.4 input bytes (λ n. checked w input n bytes),
+      );
+    },
+    q.5,
+  )
 
   pub short_of : (p : Program) (image : List ℕ) → Exact meanings text (Ok p) → IsMade p image → HasShortCode text image
   short_of p image x q =

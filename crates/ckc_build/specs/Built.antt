@@ -2,7 +2,7 @@
 use Rattle.std.specs.Prelude.{ℕ, List, Vec}
 use Rattle.std.specs.declared.alloc.Global.{Global}
 pub use Rattle.ckc_build_compile.specs.Compiled.{most_for_a_step}
-use Rattle.ckc_build_compile.specs.Confined.{ConfinesStores, NeverFaults}
+use Rattle.ckc_build_compile.specs.Confined.{ConfinesStores, IsFaultless, NeverFaults}
 use Rattle.ckc_base.specs.Follows.{Follows}
 use Rattle.ckc_base.specs.Phases.{Phase}
 use Rattle.ckc_blame.specs.Blamed.{IsBlamed, IsNeverStuck}
@@ -11,6 +11,7 @@ use Rattle.ckc_image.specs.Image.{ImageOf}
 use Rattle.ckc_source.specs.Code.{Program}
 use Rattle.ckc_source.specs.LaidOut.{AreBytes}
 use Rattle.ckc_source.specs.Source.{source}
+use Rattle.ckc_build.specs.Confined.{StoresStayInside}
 use Rattle.ckc_build.specs.Meanings.{HasMeaning, FirstFault, IsWhollyChecked}
 
 -- the bytes are an image of the parts
@@ -20,7 +21,8 @@ IsImage bytes parts = ImageOf bytes parts.entry parts.code parts.initial
 -- The parts are those of an image of a text: for every input of bytes its machine follows the meaning of the text,
 -- within so many instructions for each step and as many more. If the meaning is stuck, unchecked code is to blame, and
 -- that of a text that is wholly checked is never stuck. If it is never stuck, each store lies in a block, in a frame or
--- in the heap word, or the meaning's step plans it, and no run of the machine is at a fault.
+-- in the heap word, or the meaning's step plans it, and no run of the machine is at a fault. For a text that is wholly
+-- checked no store is one that is planned alone.
 pub record Built (text : List ℕ) (parts : Parts) : Type 0 where
   pub program : Program
   pub means : HasMeaning text program
@@ -29,6 +31,8 @@ pub record Built (text : List ℕ) (parts : Parts) : Type 0 where
   pub checked : IsWhollyChecked text → IsNeverStuck program
   pub confined : ConfinesStores program parts
   pub faultless : NeverFaults program parts
+  pub inside : IsWhollyChecked text → (input : List ℕ) → AreBytes input
+      → StoresStayInside program parts input × IsFaultless parts input
 
 -- From a text to an image of it, or to its first error. Which of its images comes is left open.
 abbrev pub building : Phase (List ℕ) (List ℕ)

@@ -1,11 +1,10 @@
--- What is promised of the image of a text that is wholly checked.
+-- Where the machine of a text that is wholly checked stores.
 use Rattle.std.specs.Prelude.{◌≡◌, ◌⊎◌, ℕ, IsTrue, List, [], ◌∷◌}
 use Rattle.ckc_base.specs.declared.arithmetic.Width.{Width}
-use Rattle.ckc_base.specs.Lists.{AreBytes}
 use Rattle.ckc_base.specs.Listing.{Listing}
 use Rattle.ckc_base.specs.Memory.{width_bytes}
 use Rattle.ckc_base.specs.Traces.{Event}
-use Rattle.ckc_build_compile.specs.Confined.{IsFaultless, IsInFrame}
+use Rattle.ckc_build_compile.specs.Confined.{IsInFrame}
 use Rattle.ckc_checks_follow.specs.Stores.{IsHeapWord}
 use Rattle.ckc_rv.specs.Detailed.{MachineEvent, Outside, Wrote, outside_events, detailed_system}
 use Rattle.ckc_rv.specs.Machine as machine
@@ -14,8 +13,6 @@ use Rattle.ckc_source.specs.Blocks.{lies_in}
 use Rattle.ckc_source.specs.Code.{Program}
 use Rattle.ckc_source.specs.Source.{source_system, first_state}
 use Rattle.ckc_source.specs.States.{State, active}
-use Rattle.ckc_build.specs.Built.{IsImage}
-use Rattle.ckc_build.specs.Meanings.{HasMeaning}
 
 -- A store of the machine while the program is at a state is of the heap word, or lies in a block of the state, in the
 -- frame of the innermost call or in that of one more.
@@ -31,12 +28,3 @@ abbrev pub StoresStayInside : Program → Parts → List ℕ → Type 0
 StoresStayInside p parts input =
     (k : ℕ) → Listing (source_system p) (detailed_system parts) (λ (e : Event). e ∷ []) outside_events
     StaysInside (λ s t. Unit {0}) (first_state p input) (machine.first_state parts input) k
-
--- With each input of bytes, each store of the machine of the image stays inside, and the machine is never at a fault.
-pub record IsConfined (text image : List ℕ) : Type 0 where
-  pub parts : Parts
-  pub is_image : IsImage image parts
-  pub program : Program
-  pub means : HasMeaning text program
-  pub stores : (input : List ℕ) → AreBytes input → StoresStayInside program parts input
-  pub faultless : (input : List ℕ) → AreBytes input → IsFaultless parts input

@@ -1,4 +1,4 @@
 pub mod Meanings
+pub mod Confined
 pub mod Built
 pub mod Sizes
-pub mod Confined

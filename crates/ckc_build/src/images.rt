@@ -3,8 +3,7 @@ ghost use Rattle.std.specs.Prelude.{IfOk, Ok};
 ghost use Rattle.ckc_base.specs.Phases.{Answers, Exact, viewed};
 ghost use Rattle.ckc_source.specs.Code.{program_of};
 ghost use Rattle.ckc_source.specs.LaidOut.{IsLaidOut};
-ghost use Rattle.ckc_build.specs.Meanings.{IsWhollyChecked, meanings};
-ghost use Rattle.ckc_build.specs.Confined.{IsConfined};
+ghost use Rattle.ckc_build.specs.Meanings.{meanings};
 ghost use Rattle.ckc_build.specs.Built.{building, bytes_of};
 ghost use Rattle.ckc_build.specs.Sizes.{HasShortCode};
 
@@ -23,10 +22,6 @@ pub fn build(alloc: Global, text: &[u8]) -> Result<Vec<u8>, Fault>
     // Ok of an image of the text, whose machine follows its meaning; a refusal for its first error.
     ensures answers { Answers building text.now (viewed bytes_of result) }
     ensures short { IfOk result (λ image. HasShortCode text.now image.items) }
-    // If the text is wholly checked, each store of the machine lies in a block, in a frame or in the heap word, and the
-    // machine is never at a fault.
-    ensures confined { IfOk result (λ image.
-        IsWhollyChecked text.now → IsConfined text.now image.items) }
 {
     match program(alloc, text) {
         Err(fault) => Err(fault),
@@ -45,8 +40,6 @@ fn image_of(alloc: Global, text: &[u8], p: &Program) -> Result<Vec<u8>, Fault>
     requires laid { IsLaidOut (program_of p.now) }
     ensures answers { Answers building text.now (viewed bytes_of result) }
     ensures short { IfOk result (λ image. HasShortCode text.now image.items) }
-    ensures confined { IfOk result (λ image.
-        IsWhollyChecked text.now → IsConfined text.now image.items) }
 {
     // The program of a text that is let through always has the form, so this is never answered. That is tested and not
     // proved.
