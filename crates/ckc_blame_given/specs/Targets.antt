@@ -1,5 +1,6 @@
 -- The targets of assignments of which it is said where they lie, and what is taken for granted of the text around them.
-use Rattle.std.specs.Prelude.{◌≡◌, ◌⊎◌, ℕ, ◌+◌, ◌<◌, ◌^◌, true, false, List, slice_get, slice_index, Option, None, Some, Result, Ok, Err}
+use Rattle.std.specs.Prelude.{◌≡◌, ◌⊎◌, ℕ, ◌+◌, ◌<◌, ◌^◌, true, false, List, slice_get, slice_index, Option, None, Some, Result, Ok}
+use Rattle.ckc_base.specs.declared.arithmetic.Mode.{Mode}
 use Rattle.ckc_types.specs.declared.types.CType.{CType}
 use Rattle.ckc_types.specs.declared.types.Kind.TheVariants as kind
 use Rattle.ckc_syntax.specs.declared.tree.Name.{Name}
@@ -19,7 +20,6 @@ use Rattle.ckc_bounds_stores.specs.Stores.{Placed}
 use Rattle.ckc_bounds_stores.specs.Targets.{local_of, memory_bounds}
 use Rattle.ckc_source.specs.declared.expr.Count.{Count}
 use Rattle.ckc_source.specs.declared.outcome.Halt.{Halt}
-use Rattle.ckc_source.specs.declared.outcome.Halt.TheVariants as halt
 use Rattle.ckc_source.specs.declared.outcome.Place.{Place}
 use Rattle.ckc_source.specs.declared.outcome.Place.TheVariants as place
 use Rattle.ckc_source.specs.Eval.{Store}
@@ -31,6 +31,7 @@ use Rattle.ckc_blame_sound.specs.Writes.{IsCellWrite}
 use Rattle.ckc_blame_sound.specs.Elements.{AreCounted}
 use Rattle.ckc_blame_pointers.specs.Covered.{DeclareOnes, IsInScope, IsCovered}
 pub use Rattle.ckc_blame_pointers.specs.Covered.{KeepRunsFree}
+use Rattle.ckc_blame_pointers.specs.Owed.{Comes}
 use Rattle.ckc_blame_given.specs.Planned.{IsTarget}
 
 -- a static object of a type that is no array
@@ -59,25 +60,25 @@ pub record IsMemberNamed (s : Setting) (u t : CType) (n : Name) : Type 0 where
   pub there : dot_type s.text.layout u n ≡ Some t
 
 -- The structures of which a target may be a member by `.`: a static object, and what `*` and `[` reach.
-abbrev pub IsCoveredPlace : Setting → Store → List ℕ → CType → NotedLayer → Type 0
-IsCoveredPlace s store seen t (Node-F.Name (name.Static k)) = IsStaticObject s t k
-IsCoveredPlace s store seen t (Node-F.Un op.Deref e) = IsCovered s store seen e × IsThrough s e
-IsCoveredPlace s store seen t (Node-F.Index e f) =
-    IsCovered s store seen e × IsCovered s store seen f × (is_counted_kind (kind_of e.note.ctype) ≡ true)
-IsCoveredPlace s store seen t _ = ⊥
+abbrev pub IsCoveredPlace : Mode → Setting → Store → List ℕ → CType → NotedLayer → Type 0
+IsCoveredPlace m s store seen t (Node-F.Name (name.Static k)) = IsStaticObject s t k
+IsCoveredPlace m s store seen t (Node-F.Un op.Deref e) = IsCovered m s store seen e × IsThrough s e
+IsCoveredPlace m s store seen t (Node-F.Index e f) =
+    IsCovered m s store seen e × IsCovered m s store seen f × (is_counted_kind (kind_of e.note.ctype) ≡ true)
+IsCoveredPlace m s store seen t _ = ⊥
 
 -- The targets: locals in scope, static integers and pointers, what `*` and `[` reach, and members.
-abbrev pub IsCoveredTarget : Setting → Store → List ℕ → NotedExpr → NotedLayer → Type 0
-IsCoveredTarget s store seen e (Node-F.Name (name.Local k)) = IsInScope s seen k
-IsCoveredTarget s store seen e (Node-F.Name (name.Static k)) = IsStaticTarget s e k
-IsCoveredTarget s store seen e (Node-F.Un op.Deref f) = IsCovered s store seen f × IsThrough s f
-IsCoveredTarget s store seen e (Node-F.Index f g) =
-    IsCovered s store seen f × IsCovered s store seen g × (is_counted_kind (kind_of f.note.ctype) ≡ true)
-IsCoveredTarget s store seen e (Node-F.Arrow f n at) =
-    IsCovered s store seen f × IsThrough s f × IsMemberNamed s (element_of f.note.ctype) e.note.ctype n
-IsCoveredTarget s store seen e (Node-F.Dot f n at) =
-    IsCoveredPlace s store seen f.note.ctype (out-Node Name Note f.node) × IsMemberNamed s f.note.ctype e.note.ctype n
-IsCoveredTarget s store seen e _ = ⊥
+abbrev pub IsCoveredTarget : Mode → Setting → Store → List ℕ → NotedExpr → NotedLayer → Type 0
+IsCoveredTarget m s store seen e (Node-F.Name (name.Local k)) = IsInScope s seen k
+IsCoveredTarget m s store seen e (Node-F.Name (name.Static k)) = IsStaticTarget s e k
+IsCoveredTarget m s store seen e (Node-F.Un op.Deref f) = IsCovered m s store seen f × IsThrough s f
+IsCoveredTarget m s store seen e (Node-F.Index f g) =
+    IsCovered m s store seen f × IsCovered m s store seen g × (is_counted_kind (kind_of f.note.ctype) ≡ true)
+IsCoveredTarget m s store seen e (Node-F.Arrow f n at) =
+    IsCovered m s store seen f × IsThrough s f × IsMemberNamed s (element_of f.note.ctype) e.note.ctype n
+IsCoveredTarget m s store seen e (Node-F.Dot f n at) =
+    IsCoveredPlace m s store seen f.note.ctype (out-Node Name Note f.node) × IsMemberNamed s f.note.ctype e.note.ctype n
+IsCoveredTarget m s store seen e _ = ⊥
 
 -- where the local that an expression is points
 abbrev pub pointed_by : List ℕ → NotedLayer → Option ℕ
@@ -110,12 +111,6 @@ pub record GoesThere (s : Setting) (store : Store) (p : Placed) (n : ℕ) (w : P
   pub written : IsCellWrite s.text.layout store.blocks w n
   pub lies : LiesIn s (begin_of s.text store.locals p.target) (view s.frame p.target).member w
 
--- An evaluation comes to what this holds of, or stops at a named check. It is not stuck.
-abbrev pub ComesTo : {A : Type 0} → (A → Type 0) → Result A Halt → Type 0
-ComesTo P (Ok a) = P a
-ComesTo P (Err (halt.Stopped why at)) = Unit {0}
-ComesTo P (Err halt.Stuck) = ⊥
-
 -- The evaluation of a target comes to a place; what may be written there goes there.
-abbrev pub IsAimed : Setting → Store → Placed → Result Place Halt → Type 0
-IsAimed s store p = ComesTo (λ to. (n : ℕ) (w : Place) → n < 2 ^ 32 → allowed to n ≡ Ok w → GoesThere s store p n w)
+abbrev pub IsAimed : Mode → Setting → Store → Placed → Result Place Halt → Type 0
+IsAimed m s store p = Comes m (λ to. (n : ℕ) (w : Place) → n < 2 ^ 32 → allowed to n ≡ Ok w → GoesThere s store p n w)

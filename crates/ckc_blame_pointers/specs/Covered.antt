@@ -1,6 +1,8 @@
 -- The expressions of which it is said what they come to, and what is taken for granted of the text around them.
 use Rattle.std.specs.Prelude.{◌≡◌, ◌⊎◌, ◌+◌, ◌<◌, ◌^◌, ℕ, Bool, false, true, List, slice_get, ℤ, Option, None, Some, length}
 use Rattle.std.specs.List.{Contains}
+use Rattle.ckc_base.specs.declared.arithmetic.Mode.{Mode}
+use Rattle.ckc_base.specs.declared.arithmetic.Mode.TheVariants.{Unchecked}
 use Rattle.ckc_types.specs.declared.types.Kind.{Kind}
 use Rattle.ckc_types.specs.declared.types.Kind.TheVariants as kind
 use Rattle.ckc_types.specs.declared.types.CType.{CType, CType-F, out-CType}
@@ -125,7 +127,7 @@ pub record IsStaticArray (s : Setting) (t : CType) (k : ℕ) : Type 0 where
   pub judged : slice_get s.frame.statics k ≡ Some object
   pub kind : Kind
   pub array : object.array ≡ Some kind
-  pub counted : is_counted_kind (Some kind) ≡ true
+  pub several : kind ≡ kind.One → ⊥
   pub ends : object.terminated ≡ is_terminated_kind (Some kind)
   pub free : slice_get (objects_elaborated s.text) k ≡ Some (object_elaborated s.text.layout (Some true) object)
   pub pointer : is_pointer t ≡ true
@@ -356,19 +358,51 @@ IsCoveredNode s store seen t (Node-F.Dot e n spot) = IsDot s store e n t
 IsCoveredNode s store seen t (Node-F.Tested w e l) = kind_of e.note.ctype ≡ Some kind.One → DeclareOnes s
 IsCoveredNode s store seen t _ = ⊥
 
--- Such an expression is no unchecked pointer, the size of what it points to is a word, and so is the number of its
--- values.
-pub record IsCoveredExpr (s : Setting) (store : Store) (seen : List ℕ)
+-- ---- expressions of unchecked code
+
+-- an unchecked pointer
+abbrev pub IsRaw : NotedExpr → Type 0
+IsRaw e = is_raw_kind (kind_of e.note.ctype) ≡ true
+
+-- what `*` and `[` give through an unchecked pointer
+abbrev pub IsRawPlace : NotedLayer → Type 0
+IsRawPlace (Node-F.Un op.Deref e) = IsRaw e
+IsRawPlace (Node-F.Index e f) = IsRaw e
+IsRawPlace _ = ⊥
+
+-- what else `&` gives the address of in unchecked code: a member, through an unchecked pointer
+abbrev pub IsAddressedRaw : Setting → CType → NotedLayer → Type 0
+IsAddressedRaw s t (Node-F.Arrow e n spot) = IsRaw e × IsScalarMember s (element_of e.note.ctype) t n
+IsAddressedRaw s t _ = ⊥
+
+-- The nodes of a type that only unchecked code has: what is read through unchecked pointers, members of structures there
+-- and their addresses, unchecked pointers that are members, and `_Assume_bounds_cast`.
+abbrev pub IsUncheckedNode : Setting → Store → CType → NotedLayer → Type 0
+IsUncheckedNode s store t (Node-F.Un op.Deref e) = IsRaw e
+IsUncheckedNode s store t (Node-F.Un op.Address e) = IsAddressedRaw s e.note.ctype (out-Node Name Note e.node)
+IsUncheckedNode s store t (Node-F.Index e f) = IsRaw e
+IsUncheckedNode s store t (Node-F.Arrow e n spot) =
+    IsIntegerMember s (element_of e.note.ctype) t n ⊎ IsPointerMember s store (element_of e.note.ctype) t n
+IsUncheckedNode s store t (Node-F.Dot e n spot) =
+    IsRawPlace (out-Node Name Note e.node)
+    × (IsIntegerMember s e.note.ctype t n ⊎ IsPointerMember s store e.note.ctype t n)
+IsUncheckedNode s store t (Node-F.Trusted w e l) = Unit {0}
+IsUncheckedNode s store t _ = ⊥
+
+-- In checked code such an expression is no unchecked pointer; the size of what it points to is a word, and so is the
+-- number of its values.
+pub record IsCoveredExpr (m : Mode) (s : Setting) (store : Store) (seen : List ℕ)
     (e : Expr-F Name Note NotedLimits NotedNode NotedExpr) : Type 0 where
   pub node : IsCoveredNode s store seen e.note.ctype (out-Node Name Note e.node)
-  pub checked : is_raw_kind (kind_of e.note.ctype) ≡ false
+      ⊎ ((m ≡ Unchecked) × IsUncheckedNode s store e.note.ctype (out-Node Name Note e.node))
+  pub checked : is_raw_kind (kind_of e.note.ctype) ≡ true → m ≡ Unchecked
   pub few : (view s.frame (record { node = e.node; pos = e.pos; note = e.note })).values + 1 < 2 ^ 32
   pub sized : size_behind s.text.layout e.note.ctype < 2 ^ 32
 
 -- An expression and each expression in it, however deep, is such a one.
-abbrev pub AreCovered : Setting → Store → List ℕ → NotedExpr → Type 0
-AreCovered s store seen = every-Expr Name Note AnyLimits AnyNode (IsCoveredExpr s store seen)
+abbrev pub AreCovered : Mode → Setting → Store → List ℕ → NotedExpr → Type 0
+AreCovered m s store seen = every-Expr Name Note AnyLimits AnyNode (IsCoveredExpr m s store seen)
 
 -- So is an expression that is itself a value, an integer or a pointer. A structure alone has a place, and no value.
-abbrev pub IsCovered : Setting → Store → List ℕ → NotedExpr → Type 0
-IsCovered s store seen e = AreCovered s store seen e × (is_scalar e.note.ctype ≡ true)
+abbrev pub IsCovered : Mode → Setting → Store → List ℕ → NotedExpr → Type 0
+IsCovered m s store seen e = AreCovered m s store seen e × (is_scalar e.note.ctype ≡ true)

@@ -1,3 +1,4 @@
+pub mod Owed
 pub mod Valuations
 pub mod Covered
 pub mod Meant

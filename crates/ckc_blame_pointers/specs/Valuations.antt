@@ -1,11 +1,13 @@
 -- What forms over values and fresh variables stand for: a valuation says it.
-use Rattle.std.specs.Prelude.{◌≡◌, ◌⊎◌, ℕ, ◌<◌, ◌≤◌, true, List, [], ◌∷◌, slice_index, ℤ, pos, Option, None, Some, IfSome}
+use Rattle.std.specs.Prelude.{◌≡◌, ◌⊎◌, ℕ, ◌<◌, ◌≤◌, false, true, List, [], ◌∷◌, slice_index, ℤ, pos, Option, None, Some, IfSome}
 use Rattle.ckc_types.specs.declared.types.CType.{CType}
 use Rattle.ckc_linear.specs.declared.forms.Base.{Base}
 use Rattle.ckc_linear.specs.declared.forms.Base.TheVariants as base
 use Rattle.ckc_linear.specs.declared.forms.Form.{Form}
 use Rattle.ckc_typed.specs.declared.typed.Range as noted
 use Rattle.ckc_typed.specs.declared.typed.Range.TheVariants as range
+use Rattle.ckc_typed.specs.Operands.{is_raw_kind}
+use Rattle.ckc_typed.specs.Types.{kind_of}
 use Rattle.ckc_bounds_points.specs.declared.frame.Frame.{Frame}
 use Rattle.ckc_bounds_points.specs.Shown.{Known}
 use Rattle.ckc_bounds_views.specs.Parts.{capped}
@@ -61,12 +63,13 @@ abbrev pub IsAtPlace : Setting → List ℕ → Valuation → CType → Option F
 IsAtPlace s locals v t place n =
     IfSome place (λ f. pos n ≡ address_by s locals v (size_behind s.text.layout t) f)
 
--- A pointer of a type has its range: it is between the addresses that the two ends stand for, and it is true.
+-- A pointer of a type has its range: it is between the addresses that the two ends stand for, and it is true. A value
+-- that is an unchecked pointer need not carry its range.
 pub record HasEnds (s : Setting) (store : Store) (v : Valuation) (t : CType) (low high : Form) (p : Value)
     : Type 0 where
   pub from : ℕ
   pub to : ℕ
-  pub range : p.range ≡ Within from to
+  pub range : is_raw_kind (kind_of t) ≡ false → p.range ≡ Within from to
   pub low_is : pos from ≡ address_by s store.locals v (size_behind s.text.layout t) low
   pub high_is : pos to ≡ address_by s store.locals v (size_behind s.text.layout t) high
   pub true_there : is_true store.shapes store.blocks (pointee_of s.text.layout t) p.number from to ≡ true

@@ -1,6 +1,7 @@
--- What is asked of the statement of a checked step before it is judged, and what is said of the arguments of a call and
+-- What is asked of the statement of a step before it is judged, and what is said of the arguments of a call and
 -- of what is returned once they are.
 use Rattle.std.specs.Prelude.{◌≡◌, ℕ, true, false, List, [], ◌∷◌, Option, None, Some, Ok}
+use Rattle.ckc_base.specs.declared.arithmetic.Mode.{Mode}
 use Rattle.ckc_typed.specs.declared.typed.Typed.{Typed}
 use Rattle.ckc_typed.specs.Conversions.{is_allocation}
 use Rattle.ckc_typed.specs.Trees.{NotedExpr, NotedStmt}
@@ -14,22 +15,22 @@ use Rattle.ckc_blame_sound.specs.Sized.{HasOnlySized}
 use Rattle.ckc_blame_sound.specs.Typed.{IsTyped}
 use Rattle.ckc_blame_pointers.specs.Covered.{IsCovered}
 use Rattle.ckc_blame_sound.specs.JudgedTexts.{globals_in}
-use Rattle.ckc_blame_steps.specs.Checked.{IsChecked}
+use Rattle.ckc_blame_steps.specs.Checked.{IsOfMode}
 use Rattle.ckc_blame_steps.specs.Told.{IsTold, IsSpoken}
 
 -- ---- before
 
--- Of each typed expression of a checked scope without calls it is said what it comes to, as it is judged at a point.
-abbrev pub AreSpoken : Typed → Setting → Here → Type 0
-AreSpoken p s here =
-    (before after : NotedExpr) (fresh : ℕ) → IsTyped (globals_in p) s before → IsChecked before
+-- Of each typed expression of code of a mode without calls it is said what it comes to, as it is judged at a point.
+abbrev pub AreSpoken : Mode → Typed → Setting → Here → Type 0
+AreSpoken m p s here =
+    (before after : NotedExpr) (fresh : ℕ) → IsTyped (globals_in p) s before → IsOfMode m before
     → callless_expr before ≡ true → (view s.frame before).judged fresh here.at ≡ Ok after → IsSpoken s after
 
 -- What is asked of a statement at a point: what is told of the names there, and what is said of expressions without
 -- calls; the grammar gives the statement, and what it allocates has a size.
-pub record Premises (p : Typed) (s : Setting) (store : Store) (here : Here) (st : NotedStmt) : Type 0 where
+pub record Premises (m : Mode) (p : Typed) (s : Setting) (store : Store) (here : Here) (st : NotedStmt) : Type 0 where
   pub told : IsTold (globals_in p) s store here.seen
-  pub spoken : AreSpoken p s here
+  pub spoken : AreSpoken m p s here
   pub given : (given_stmt st).fine ≡ true
   pub sized : HasOnlySized s.text.layout st
 
@@ -37,23 +38,23 @@ pub record Premises (p : Typed) (s : Setting) (store : Store) (here : Here) (st 
 
 -- A typed expression, which is no `calloc`, is judged at a point from a fresh variable on; what it is judged to be is
 -- covered.
-pub record IsCoveredThere (p : Typed) (s : Setting) (store : Store) (here : Here) (e f : NotedExpr) (fresh : ℕ)
+pub record IsCoveredThere (m : Mode) (p : Typed) (s : Setting) (store : Store) (here : Here) (e f : NotedExpr) (fresh : ℕ)
     : Type 0 where
   pub typed : IsTyped (globals_in p) s e
   pub whole : is_allocation e ≡ false
   pub judged : (view s.frame e).judged fresh here.at ≡ Ok f
-  pub covered : IsCovered s store here.seen f
+  pub covered : IsCovered m s store here.seen f
 
 -- this of each expression of a list, with the fresh variables of each after those in front of it
-abbrev pub AreCoveredThere : Typed → Setting → Store → Here → List NotedExpr → List NotedExpr → ℕ → Type 0
-AreCoveredThere p s store here [] [] fresh = Unit {0}
-AreCoveredThere p s store here (e ∷ es) (f ∷ fs) fresh =
-    IsCoveredThere p s store here e f fresh
-    × AreCoveredThere p s store here es fs (fresh_behind (view s.frame e) fresh here.at)
-AreCoveredThere p s store here _ _ fresh = ⊥
+abbrev pub AreCoveredThere : Mode → Typed → Setting → Store → Here → List NotedExpr → List NotedExpr → ℕ → Type 0
+AreCoveredThere m p s store here [] [] fresh = Unit {0}
+AreCoveredThere m p s store here (e ∷ es) (f ∷ fs) fresh =
+    IsCoveredThere m p s store here e f fresh
+    × AreCoveredThere m p s store here es fs (fresh_behind (view s.frame e) fresh here.at)
+AreCoveredThere m p s store here _ _ fresh = ⊥
 
 -- this of an expression that there may be
-abbrev pub IsCoveredIf : Typed → Setting → Store → Here → Option NotedExpr → Option NotedExpr → ℕ → Type 0
-IsCoveredIf p s store here None None fresh = Unit {0}
-IsCoveredIf p s store here (Some e) (Some f) fresh = IsCoveredThere p s store here e f fresh
-IsCoveredIf p s store here _ _ fresh = ⊥
+abbrev pub IsCoveredIf : Mode → Typed → Setting → Store → Here → Option NotedExpr → Option NotedExpr → ℕ → Type 0
+IsCoveredIf m p s store here None None fresh = Unit {0}
+IsCoveredIf m p s store here (Some e) (Some f) fresh = IsCoveredThere m p s store here e f fresh
+IsCoveredIf m p s store here _ _ fresh = ⊥

@@ -1,8 +1,8 @@
--- The expressions of checked statements, in which there is no unchecked pointer and no `_Assume_bounds_cast`.
+-- The expressions of code of a mode: in checked code there is no unchecked pointer and no `_Assume_bounds_cast`.
 use Rattle.std.specs.Prelude.{◌≡◌, false, IfSome}
 use Rattle.std.specs.List.{AllByRecursion}
 use Rattle.ckc_base.specs.declared.arithmetic.Mode.{Mode}
-use Rattle.ckc_base.specs.declared.arithmetic.Mode.TheVariants.{Unchecked}
+use Rattle.ckc_base.specs.declared.arithmetic.Mode.TheVariants.{Checked, Unchecked}
 use Rattle.ckc_syntax.specs.declared.tree.Name.{Name}
 use Rattle.ckc_syntax.specs.declared.tree.Init.TheVariants as init
 use Rattle.ckc_syntax.specs.declared.tree.Act.{Act-F, out-Act}
@@ -15,38 +15,38 @@ use Rattle.ckc_typed_welltyped.specs.Expressions.{AnyLimits, AnyNode}
 use Rattle.ckc_source.specs.Code.{Code, Assign, Bundle, Get, Put, Call, If, Loop, Return, Check}
 use Rattle.ckc_blame_sound.specs.Safe.{is_assumed}
 
--- An expression has a type with no unchecked pointer in it, and is no `_Assume_bounds_cast`.
-pub record IsCheckedPart (e : Expr-F Name Note NotedLimits NotedNode NotedExpr) : Type 0 where
-  pub type : has_raw e.note.ctype ≡ false
-  pub node : is_assumed (out-Node Name Note e.node) ≡ false
+-- In checked code, an expression has a type with no unchecked pointer in it, and is no `_Assume_bounds_cast`.
+pub record IsPartOfMode (m : Mode) (e : Expr-F Name Note NotedLimits NotedNode NotedExpr) : Type 0 where
+  pub type : m ≡ Checked → has_raw e.note.ctype ≡ false
+  pub node : m ≡ Checked → is_assumed (out-Node Name Note e.node) ≡ false
 
 -- this of an expression and each expression in it, however deep
-abbrev pub IsChecked : NotedExpr → Type 0
-IsChecked = every-Expr Name Note AnyLimits AnyNode IsCheckedPart
+abbrev pub IsOfMode : Mode → NotedExpr → Type 0
+IsOfMode m = every-Expr Name Note AnyLimits AnyNode (IsPartOfMode m)
 
 -- this of an initialiser
-abbrev pub IsCheckedInit : NotedInit → Type 0
-IsCheckedInit init.Nothing = Unit {0}
-IsCheckedInit (init.One e) = IsChecked e
-IsCheckedInit (init.Many es) = Unit {0}
+abbrev pub IsInitOfMode : Mode → NotedInit → Type 0
+IsInitOfMode m init.Nothing = Unit {0}
+IsInitOfMode m (init.One e) = IsOfMode m e
+IsInitOfMode m (init.Many es) = Unit {0}
 
 -- this of the two sides of an assignment
-abbrev pub AreCheckedSides : Act-F Name Note NotedAct NotedStmt → Type 0
-AreCheckedSides (Act-F.Assign e f) = IsChecked e × IsChecked f
-AreCheckedSides a = Unit {0}
+abbrev pub AreSidesOfMode : Mode → Act-F Name Note NotedAct NotedStmt → Type 0
+AreSidesOfMode m (Act-F.Assign e f) = IsOfMode m e × IsOfMode m f
+AreSidesOfMode m a = Unit {0}
 
 -- this of the expressions of a statement that is a step by itself
-abbrev pub IsCheckedAct : Act-F Name Note NotedAct NotedStmt → Type 0
-IsCheckedAct (Act-F.Local d) = IsCheckedInit d.init
-IsCheckedAct (Act-F.Call e) = IsChecked e
-IsCheckedAct (Act-F.Return e) = IfSome e IsChecked
-IsCheckedAct (Act-F.Check e) = IsChecked e
-IsCheckedAct (Act-F.Bundle ss) = AllByRecursion (λ (st : NotedStmt). AreCheckedSides (out-Act Name Note st.body)) ss
-IsCheckedAct a = AreCheckedSides a
+abbrev pub IsActOfMode : Mode → Act-F Name Note NotedAct NotedStmt → Type 0
+IsActOfMode m (Act-F.Local d) = IsInitOfMode m d.init
+IsActOfMode m (Act-F.Call e) = IsOfMode m e
+IsActOfMode m (Act-F.Return e) = IfSome e (IsOfMode m)
+IsActOfMode m (Act-F.Check e) = IsOfMode m e
+IsActOfMode m (Act-F.Bundle ss) = AllByRecursion (λ (st : NotedStmt). AreSidesOfMode m (out-Act Name Note st.body)) ss
+IsActOfMode m a = AreSidesOfMode m a
 
 -- the same of a statement
-abbrev pub IsCheckedStmt : NotedStmt → Type 0
-IsCheckedStmt st = IsCheckedAct (out-Act Name Note st.body)
+abbrev pub IsStmtOfMode : Mode → NotedStmt → Type 0
+IsStmtOfMode m st = IsActOfMode m (out-Act Name Note st.body)
 
 -- the mode of the first step of some code
 abbrev pub mode_of : Code → Mode

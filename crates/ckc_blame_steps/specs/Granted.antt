@@ -1,7 +1,7 @@
--- What is granted of a judged text: which expressions its steps of mode Checked have, and how small it is.
+-- What is granted of a judged text: which expressions its steps have, and how small it is.
 use Rattle.std.specs.Prelude.{◌≡◌, true, ℕ, ◌+◌, ◌<◌, ◌^◌, List, [], ◌∷◌, length, IfSome}
 use Rattle.std.specs.List.{AllByRecursion}
-use Rattle.ckc_base.specs.declared.arithmetic.Mode.TheVariants.{Checked}
+use Rattle.ckc_base.specs.declared.arithmetic.Mode.{Mode}
 use Rattle.ckc_syntax.specs.declared.tree.Name.{Name}
 use Rattle.ckc_syntax.specs.declared.tree.Name.TheVariants as name
 use Rattle.ckc_syntax.specs.declared.tree.Init.TheVariants as init
@@ -39,6 +39,7 @@ use Rattle.ckc_blame_pointers.specs.Covered.{DeclareLocals, IsSoundStore, IsCove
 use Rattle.ckc_blame_given.specs.Written.{IsDeclared}
 use Rattle.ckc_blame_given.specs.Targets.{KeepRunsFree, IsCoveredTarget}
 use Rattle.ckc_blame_given.specs.Together.{HaveSmallNames}
+use Rattle.ckc_blame_steps.specs.Unchecked.{StoresSafely}
 
 -- ---- expressions that are covered
 
@@ -50,63 +51,63 @@ pub record HasPlaces (s : Setting) (t : CType) : Type 0 where
 
 -- What is assigned in a bundle to a place of type t is covered; of a `calloc` what it counts is, and its blocks may be
 -- made there.
-abbrev pub IsCoveredValue : Setting → Store → List ℕ → CType → NotedExpr → NotedLayer → Type 0
-IsCoveredValue s store seen t e (Node-F.Calloc w n x) = HasPlaces s t × IsCovered s store seen n
-IsCoveredValue s store seen t e node = IsCovered s store seen e
+abbrev pub IsCoveredValue : Mode → Setting → Store → List ℕ → CType → NotedExpr → NotedLayer → Type 0
+IsCoveredValue m s store seen t e (Node-F.Calloc w n x) = HasPlaces s t × IsCovered m s store seen n
+IsCoveredValue m s store seen t e node = IsCovered m s store seen e
 
 -- the argument of `putchar`, which takes one
-abbrev pub IsCoveredFirst : Setting → Store → List ℕ → List NotedExpr → Type 0
-IsCoveredFirst s store seen [] = ⊥
-IsCoveredFirst s store seen (e ∷ es) = IsCovered s store seen e
+abbrev pub IsCoveredFirst : Mode → Setting → Store → List ℕ → List NotedExpr → Type 0
+IsCoveredFirst m s store seen [] = ⊥
+IsCoveredFirst m s store seen (e ∷ es) = IsCovered m s store seen e
 
 -- What is called is a function of the text, `getchar` or `putchar`.
-abbrev pub IsCoveredCall : Setting → Store → List ℕ → Name → List NotedExpr → Type 0
-IsCoveredCall s store seen (name.Function k) es = Unit {0}
-IsCoveredCall s store seen name.Getchar es = Unit {0}
-IsCoveredCall s store seen name.Putchar es = IsCoveredFirst s store seen es
-IsCoveredCall s store seen n es = ⊥
+abbrev pub IsCoveredCall : Mode → Setting → Store → List ℕ → Name → List NotedExpr → Type 0
+IsCoveredCall m s store seen (name.Function k) es = Unit {0}
+IsCoveredCall m s store seen name.Getchar es = Unit {0}
+IsCoveredCall m s store seen name.Putchar es = IsCoveredFirst m s store seen es
+IsCoveredCall m s store seen n es = ⊥
 
 -- the right side of an assignment alone, or an initialiser, which may be a call
-abbrev pub IsCoveredRight : Setting → Store → List ℕ → CType → NotedExpr → NotedLayer → Type 0
-IsCoveredRight s store seen t e (Node-F.Call n es) = IsCoveredCall s store seen n es
-IsCoveredRight s store seen t e node = IsCoveredValue s store seen t e node
+abbrev pub IsCoveredRight : Mode → Setting → Store → List ℕ → CType → NotedExpr → NotedLayer → Type 0
+IsCoveredRight m s store seen t e (Node-F.Call n es) = IsCoveredCall m s store seen n es
+IsCoveredRight m s store seen t e node = IsCoveredValue m s store seen t e node
 
 -- A statement that is an expression is a call, or a `calloc`, which gives an `_Array_ptr`.
-abbrev pub IsCoveredAlone : Setting → Store → List ℕ → NotedLayer → Type 0
-IsCoveredAlone s store seen (Node-F.Call n es) = IsCoveredCall s store seen n es
-IsCoveredAlone s store seen (Node-F.Calloc w n u) =
-    HasPlaces s (ctype.Pointer kind.Arr (type_written w)) × IsCovered s store seen n
-IsCoveredAlone s store seen node = ⊥
+abbrev pub IsCoveredAlone : Mode → Setting → Store → List ℕ → NotedLayer → Type 0
+IsCoveredAlone m s store seen (Node-F.Call n es) = IsCoveredCall m s store seen n es
+IsCoveredAlone m s store seen (Node-F.Calloc w n u) =
+    HasPlaces s (ctype.Pointer kind.Arr (type_written w)) × IsCovered m s store seen n
+IsCoveredAlone m s store seen node = ⊥
 
 -- an initialiser; no local has a list in braces
-abbrev pub IsCoveredInit : Setting → Store → List ℕ → CType → NotedInit → Type 0
-IsCoveredInit s store seen t init.Nothing = Unit {0}
-IsCoveredInit s store seen t (init.One e) = IsCoveredRight s store seen t e (out-Node Name Note e.node)
-IsCoveredInit s store seen t (init.Many es) = ⊥
+abbrev pub IsCoveredInit : Mode → Setting → Store → List ℕ → CType → NotedInit → Type 0
+IsCoveredInit m s store seen t init.Nothing = Unit {0}
+IsCoveredInit m s store seen t (init.One e) = IsCoveredRight m s store seen t e (out-Node Name Note e.node)
+IsCoveredInit m s store seen t (init.Many es) = ⊥
 
 -- an assignment of a bundle
-abbrev pub AreCoveredSides : Setting → Store → List ℕ → Act-F Name Note NotedAct NotedStmt → Type 0
-AreCoveredSides s store seen (Act-F.Assign e f) =
-    IsCoveredTarget s store seen e (out-Node Name Note e.node)
-    × IsCoveredValue s store seen e.note.ctype f (out-Node Name Note f.node)
-AreCoveredSides s store seen a = ⊥
+abbrev pub AreCoveredSides : Mode → Setting → Store → List ℕ → Act-F Name Note NotedAct NotedStmt → Type 0
+AreCoveredSides m s store seen (Act-F.Assign e f) =
+    IsCoveredTarget m s store seen e (out-Node Name Note e.node)
+    × IsCoveredValue m s store seen e.note.ctype f (out-Node Name Note f.node)
+AreCoveredSides m s store seen a = ⊥
 
 -- the assignments of a bundle
-abbrev pub AreCoveredParts : Setting → Store → List ℕ → List NotedStmt → Type 0
-AreCoveredParts s store seen ss =
-    AllByRecursion (λ (st : NotedStmt). AreCoveredSides s store seen (out-Act Name Note st.body)) ss
+abbrev pub AreCoveredParts : Mode → Setting → Store → List ℕ → List NotedStmt → Type 0
+AreCoveredParts m s store seen ss =
+    AllByRecursion (λ (st : NotedStmt). AreCoveredSides m s store seen (out-Act Name Note st.body)) ss
 
 -- The expressions of a statement that is a step by itself, after it is judged.
-abbrev pub IsCoveredAct : Setting → Store → List ℕ → Act-F Name Note NotedAct NotedStmt → Type 0
-IsCoveredAct s store seen (Act-F.Local d) = IsCoveredInit s store seen (type_written d.ctype) d.init
-IsCoveredAct s store seen (Act-F.Assign e f) =
-    IsCoveredTarget s store seen e (out-Node Name Note e.node)
-    × IsCoveredRight s store seen e.note.ctype f (out-Node Name Note f.node)
-IsCoveredAct s store seen (Act-F.Call e) = IsCoveredAlone s store seen (out-Node Name Note e.node)
-IsCoveredAct s store seen (Act-F.Return e) = IfSome e (IsCovered s store seen)
-IsCoveredAct s store seen (Act-F.Check e) = IsCovered s store seen e
-IsCoveredAct s store seen (Act-F.Bundle ss) = AreCoveredParts s store seen ss
-IsCoveredAct s store seen a = Unit {0}
+abbrev pub IsCoveredAct : Mode → Setting → Store → List ℕ → Act-F Name Note NotedAct NotedStmt → Type 0
+IsCoveredAct m s store seen (Act-F.Local d) = IsCoveredInit m s store seen (type_written d.ctype) d.init
+IsCoveredAct m s store seen (Act-F.Assign e f) =
+    IsCoveredTarget m s store seen e (out-Node Name Note e.node)
+    × IsCoveredRight m s store seen e.note.ctype f (out-Node Name Note f.node)
+IsCoveredAct m s store seen (Act-F.Call e) = IsCoveredAlone m s store seen (out-Node Name Note e.node)
+IsCoveredAct m s store seen (Act-F.Return e) = IfSome e (IsCovered m s store seen)
+IsCoveredAct m s store seen (Act-F.Check e) = IsCovered m s store seen e
+IsCoveredAct m s store seen (Act-F.Bundle ss) = AreCoveredParts m s store seen ss
+IsCoveredAct m s store seen a = Unit {0}
 
 -- ---- room for numbers
 
@@ -146,8 +147,8 @@ HasRoomAct frame at fresh a = Unit {0}
 -- ---- a text
 
 -- What is granted of a text: it is judged, its literals are words, its functions have few variables, its declared bounds
--- name locals and static arrays alone, and each expression of a step of mode Checked is covered and small, in each store
--- whose blocks are sound and whose pointers may be read.
+-- name locals and static arrays alone, and each expression of a step that stores safely is covered and small, in each
+-- store whose blocks are sound and whose pointers may be read.
 pub record IsGranted (p : Typed) : Type 0 where
   pub judged : IsJudged p
   pub words : HaveWords p
@@ -157,10 +158,11 @@ pub record IsGranted (p : Typed) : Type 0 where
   pub counts : NameIntegerMembers p.layout
   pub few : (s : Setting) (f : Function) → IsFunction p s f → length s.variables < 1024
   pub declares : (s : Setting) (f : Function) → IsFunction p s f → DeclareLocals s
-  pub covered : (s : Setting) (f : Function) (here there : Here) (step : Code → Code) (end : Spot) (store : Store)
-      (next : ℕ) → IsFunction p s f → (is : IsStep s here step there) → (spot_in end (step End)).mode ≡ Checked
+  pub covered : (m : Mode) (s : Setting) (f : Function) (here there : Here) (step : Code → Code) (end : Spot)
+      (store : Store) (next : ℕ) → IsFunction p s f → (is : IsStep s here step there)
+      → (spot_in end (step End)).mode ≡ m → StoresSafely m (step End)
       → IsSoundStore s store next → AreFilled p store
-      → IsCoveredAct s store here.seen (out-Act Name Note is.after.body)
+      → IsCoveredAct m s store here.seen (out-Act Name Note is.after.body)
   pub declared : (s : Setting) (f : Function) (here there : Here) (step : Code → Code) (d : NotedDecl)
       → IsFunction p s f → (is : IsStep s here step there) → out-Act Name Note is.before.body ≡ Act-F.Local d
       → (k : ℕ) × (l : Local) × IsDeclared s here d k l

@@ -1,6 +1,6 @@
--- What is known of a text, so that each of its checked steps keeps a state sound.
+-- What is known of a text, so that each of its steps that stores through no unchecked pointer keeps a state sound.
 use Rattle.std.specs.Prelude.{◌≡◌, ℕ, true, List, Option}
-use Rattle.ckc_base.specs.declared.arithmetic.Mode.TheVariants.{Checked}
+use Rattle.ckc_base.specs.declared.arithmetic.Mode.{Mode}
 use Rattle.ckc_syntax_limits.specs.Small.{Small}
 use Rattle.ckc_typed.specs.declared.typed.Typed.{Typed}
 use Rattle.ckc_typed_welltyped.specs.Productions.{given_tree}
@@ -23,27 +23,27 @@ use Rattle.ckc_blame_steps.specs.Spared.{SpareResults}
 
 -- ---- words that are given
 
--- The arguments of each call of mode Checked give words.
+-- The arguments of each call give words, or are stuck as they may be in code of its mode.
 abbrev pub ArgumentsGiveWords : Typed → Type 0
 ArgumentsGiveWords p =
-    (s : State) (h : Sound p s) (spot : Spot) (target : Option Kept) (number : ℕ) (es : List Expr) (next : List Work)
+    (m : Mode) (s : State) (h : Sound p s) (spot : Spot) (target : Option Kept) (number : ℕ) (es : List Expr) (next : List Work)
     (f : Faces h.setting (store_in p s.blocks s.frame) s.frame.entry (Call spot target number es) next)
-    → spot.mode ≡ Checked
-    → GiveWords h.setting (store_in p s.blocks s.frame) f.here.at (literals_before f.judged.after f.judged.literals)
+    → spot.mode ≡ m
+    → GiveWords m h.setting (store_in p s.blocks s.frame) f.here.at (literals_before f.judged.after f.judged.literals)
     (arguments_of f.judged.before) (arguments_of f.judged.after) (record { value = 0; fresh = f.here.next })
 
--- What each return of mode Checked returns gives a word.
+-- What each return returns does so.
 abbrev pub ReturnsGiveWords : Typed → Type 0
 ReturnsGiveWords p =
-    (s : State) (h : Sound p s) (spot : Spot) (e : Expr) (next : List Work)
+    (m : Mode) (s : State) (h : Sound p s) (spot : Spot) (e : Expr) (next : List Work)
     (f : Faces h.setting (store_in p s.blocks s.frame) s.frame.entry (Return spot e) next)
-    → spot.mode ≡ Checked
-    → GivesWordIf h.setting (store_in p s.blocks s.frame) f.here.at f.judged.literals (returned_by f.judged.before)
+    → spot.mode ≡ m
+    → GivesWordIf m h.setting (store_in p s.blocks s.frame) f.here.at f.judged.literals (returned_by f.judged.before)
     (returned_by f.judged.after) (record { value = 0; fresh = f.here.next })
 
 -- ---- a text
 
--- The expressions of the checked steps and conditions of a text are covered, no result has bounds that name a local that
+-- The expressions of the steps and conditions of a text are covered, where it stores through no unchecked pointer, no result has bounds that name a local that
 -- is declared, and what is passed and returned gives words.
 pub record IsKnown (p : Typed) : Type 0 where
   pub granted : IsGranted p

@@ -15,5 +15,6 @@ pub mod Pointees
 pub mod Values
 pub mod ExpressionRooms
 pub mod Checked
+pub mod Unchecked
 pub mod Told
 pub mod Stores

@@ -1,5 +1,6 @@
 -- What assignments that are judged at a point become, and what it is to plan them.
 use Rattle.std.specs.Prelude.{◌≡◌, ℕ, ◌+◌, ◌<◌, ◌^◌, true, List, [], ◌∷◌, ◌++◌, length, Option, None, Some, Ok}
+use Rattle.ckc_base.specs.declared.arithmetic.Mode.{Mode}
 use Rattle.ckc_types.specs.declared.types.CType.{CType}
 use Rattle.ckc_syntax.specs.declared.tree.Name.{Name}
 use Rattle.ckc_syntax.specs.declared.tree.Node.{Node-F, out-Node}
@@ -31,10 +32,10 @@ use Rattle.ckc_blame_sound.specs.Valuations.{Valuation, IsValuationOf}
 use Rattle.ckc_blame_sound.specs.Typed.{IsTyped}
 use Rattle.ckc_blame_sound.specs.JudgedTexts.{globals_in}
 use Rattle.ckc_blame_pointers.specs.Covered.{IsSoundStore, IsCovered}
+use Rattle.ckc_blame_pointers.specs.Owed.{Comes}
 use Rattle.ckc_blame_given.specs.Gives.{Continues}
 use Rattle.ckc_blame_given.specs.Planned.{ArePlanned}
 use Rattle.ckc_blame_given.specs.Written.{IsReceived}
-use Rattle.ckc_blame_given.specs.Targets.{ComesTo}
 use Rattle.ckc_blame_given.specs.Together.{AreIn}
 use Rattle.ckc_blame_steps.specs.Granted.{HasRoom, HasPlaces}
 
@@ -116,18 +117,18 @@ counted_in (Node-F.Calloc w n u) = Some n
 counted_in node = None
 
 -- Each `calloc` on a right side gives a null pointer or a new block, which have the range that it is judged to have.
-abbrev pub AllocationsDraw : Globals → Setting → List Shape → List ℕ → Here → Type 0
-AllocationsDraw globals s shapes entry here =
+abbrev pub AllocationsDraw : Mode → Globals → Setting → List Shape → List ℕ → Here → Type 0
+AllocationsDraw m globals s shapes entry here =
     (b : State) → IsAt s shapes entry here b → (t : CType) (f g n : NotedExpr)
     (fresh literals : ℕ) → counted_in (out-Node Name Note g.node) ≡ Some n → IsTyped globals s f → converts t f ≡ true
     → HasPlaces s t → (view s.frame f).judged fresh here.at ≡ Ok g
     → fresh + length ((view s.frame g).fresh here.at) < 2 ^ 32 → AreFresh s.frame fresh
-    → IsCovered s (store_of shapes b) here.seen n → AreStrings s literals (strings_of_expr n)
-    → ComesTo (IsDrawn s shapes entry here b t g)
+    → IsCovered m s (store_of shapes b) here.seen n → AreStrings s literals (strings_of_expr n)
+    → Comes m (IsDrawn s shapes entry here b t g)
     (drawn shapes b (right_of s.text s.variables literals (is_terminated t) g))
 
 -- this at each step of a text
 abbrev pub AllocateSoundly : Typed → Type 0
 AllocateSoundly p =
-    (s : Setting) (f : Function) (here there : Here) (step : Code → Code) (entry : List ℕ) → IsFunction p s f
-    → IsStep s here step there → AllocationsDraw (globals_in p) s (shapes_elaborated p.layout) entry here
+    (m : Mode) (s : Setting) (f : Function) (here there : Here) (step : Code → Code) (entry : List ℕ)
+    → IsFunction p s f → IsStep s here step there → AllocationsDraw m (globals_in p) s (shapes_elaborated p.layout) entry here

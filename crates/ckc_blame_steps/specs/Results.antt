@@ -1,6 +1,7 @@
 -- What is asked of returns, and of the places that keep results.
 use Rattle.std.specs.Prelude.{◌≡◌, ℕ, ◌<◌, ◌^◌, List, slice_set, Option, None, Some}
 use Rattle.ckc_base.specs.Memory.{kept_part}
+use Rattle.ckc_base.specs.declared.arithmetic.Mode.{Mode}
 use Rattle.ckc_base.specs.declared.arithmetic.Width.{Width}
 use Rattle.ckc_linear.specs.declared.forms.Form.{Form}
 use Rattle.ckc_syntax.specs.declared.tree.Name.{Name}
@@ -50,10 +51,10 @@ abbrev pub returned_by : NotedStmt → Option NotedExpr
 returned_by st = returned_by_act (out-Act Name Note st.body)
 
 -- What is returned gives a word, if there is something. The second expression is what judging makes of the first.
-abbrev pub GivesWordIf : Setting → Store → Point → ℕ → Option NotedExpr → Option NotedExpr → Numbered → Type 0
-GivesWordIf s store at k (Some e) (Some f) from =
-    GivesWord s store at e (expr_elaborated s.text s.variables k f) from
-GivesWordIf s store at k _ _ from = Unit {0}
+abbrev pub GivesWordIf : Mode → Setting → Store → Point → ℕ → Option NotedExpr → Option NotedExpr → Numbered → Type 0
+GivesWordIf m s store at k (Some e) (Some f) from =
+    GivesWord m s store at e (expr_elaborated s.text s.variables k f) from
+GivesWordIf m s store at k _ _ from = Unit {0}
 
 -- The bounds of each result that a program reads are known to the judgement.
 abbrev pub ResultsAreKnown : Typed → Type 0

@@ -12,7 +12,7 @@ use Rattle.ckc_typed.specs.declared.environment.Globals.{Globals}
 use Rattle.ckc_typed.specs.declared.typed.Note.{Note}
 use Rattle.ckc_typed.specs.Conversions.{is_terminated_kind}
 use Rattle.ckc_typed.specs.Environment.{type_of_name}
-use Rattle.ckc_typed.specs.Operands.{is_raw_kind, dot_type}
+use Rattle.ckc_typed.specs.Operands.{dot_type}
 use Rattle.ckc_typed.specs.Trees.{NotedLimits, NotedNode, NotedExpr, NotedLayer}
 use Rattle.ckc_typed.specs.Types.{is_integer, is_pointer, kind_of, element_of}
 use Rattle.ckc_typed_welltyped.specs.Expressions.{AnyLimits, AnyNode}
@@ -38,8 +38,7 @@ pub record IsTold (globals : Globals) (s : Setting) (store : Store) (seen : List
   pub free : KeepRunsFree s.text
   pub filled : AreFilled s.text store
   pub locals : (k : ℕ) → Contains seen k → IsInScope s seen k
-  pub statics : (k : ℕ) (t : CType) → type_of_name globals s.variables (name.Static k) ≡ Some t
-      → is_raw_kind (kind_of t) ≡ false → IsStaticOf s store t k
+  pub statics : (k : ℕ) (t : CType) → type_of_name globals s.variables (name.Static k) ≡ Some t → IsStaticOf s store t k
   pub members : (u t : CType) (n : Name) → dot_type s.text.layout u n ≡ Some t
       → IsIntegerMember s u t n ⊎ IsPointerMember s store u t n
 
