@@ -24,7 +24,7 @@ use Rattle.ckc_blame_steps.specs.Told.{IsTold, IsSpoken}
 abbrev pub AreSpoken : Mode → Typed → Setting → Here → Type 0
 AreSpoken m p s here =
     (before after : NotedExpr) (fresh : ℕ) → IsTyped (globals_in p) s before → IsOfMode m before
-    → callless_expr before ≡ true → (view s.frame before).judged fresh here.at ≡ Ok after → IsSpoken s after
+    → callless_expr before ≡ true → (view s.frame before).judged fresh here.at ≡ Ok after → IsSpoken m s after
 
 -- What is asked of a statement at a point: what is told of the names there, and what is said of expressions without
 -- calls; the grammar gives the statement, and what it allocates has a size.

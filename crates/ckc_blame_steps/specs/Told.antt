@@ -1,7 +1,9 @@
--- What of a text lets its checked expressions be those of which it is said what they come to, and the nodes that are
--- still left out.
+-- What of a text lets its expressions be those of which it is said what they come to, and the nodes that are still left
+-- out.
 use Rattle.std.specs.Prelude.{◌≡◌, ◌⊎◌, ℕ, true, false, List, Some}
 use Rattle.std.specs.List.{Contains}
+use Rattle.ckc_base.specs.declared.arithmetic.Mode.{Mode}
+use Rattle.ckc_base.specs.declared.arithmetic.Mode.TheVariants.{Unchecked}
 use Rattle.ckc_types.specs.declared.types.CType.{CType, CType-F, out-CType}
 use Rattle.ckc_syntax.specs.declared.tree.Name.{Name}
 use Rattle.ckc_syntax.specs.declared.tree.Name.TheVariants as name
@@ -19,7 +21,7 @@ use Rattle.ckc_typed_welltyped.specs.Expressions.{AnyLimits, AnyNode}
 use Rattle.ckc_source.specs.Eval.{Store}
 use Rattle.ckc_blame_sound.specs.Settings.{Setting}
 use Rattle.ckc_blame_sound.specs.Slots.{AreFilled}
-use Rattle.ckc_blame_pointers.specs.Covered.{DeclareOnes, KeepRunsFree, IsInScope, IsStaticInteger, IsStaticArray, IsStaticPointer, IsStaticBounded, IsStaticStructure, IsIntegerMember, IsPointerMember, IsStructureNode, IsAddressed}
+use Rattle.ckc_blame_pointers.specs.Covered.{DeclareOnes, KeepRunsFree, IsInScope, IsStaticInteger, IsStaticArray, IsStaticPointer, IsStaticBounded, IsStaticStructure, IsIntegerMember, IsPointerMember, IsStructureNode, IsAddressed, IsAddressedRaw}
 
 -- ---- the text
 
@@ -53,25 +55,27 @@ pub record IsOtherElement (e : NotedExpr) : Type 0 where
 abbrev pub IsReadElement : NotedExpr → Type 0
 IsReadElement e = (is_integer (element_of e.note.ctype) ≡ true) ⊎ IsOtherElement e
 
--- Of which nodes it is said what they come to: no call, no allocation, and no address but those that may be taken; `.`
--- gives a member of what has a place.
-abbrev pub IsSpokenNode : Setting → NotedLayer → Type 0
-IsSpokenNode s (Node-F.Name (name.Local k)) = Unit {0}
-IsSpokenNode s (Node-F.Name (name.Static k)) = Unit {0}
-IsSpokenNode s (Node-F.Name n) = ⊥
-IsSpokenNode s (Node-F.Un op.Deref e) = IsReadElement e
-IsSpokenNode s (Node-F.Un op.Address e) = IsAddressed s e.note.ctype (out-Node Name Note e.node)
-IsSpokenNode s (Node-F.Index e f) = IsReadElement e
-IsSpokenNode s (Node-F.Dot e n spot) = IsStructureNode (out-Node Name Note e.node)
-IsSpokenNode s (Node-F.Arrow e n spot) = is_terminated_kind (kind_of e.note.ctype) ≡ false
-IsSpokenNode s (Node-F.Call n es) = ⊥
-IsSpokenNode s (Node-F.Calloc w e u) = ⊥
-IsSpokenNode s n = Unit {0}
+-- Of which nodes of code of a mode it is said what they come to: no call, no allocation, and no address but those that
+-- may be taken; `.` gives a member of what has a place.
+abbrev pub IsSpokenNode : Mode → Setting → NotedLayer → Type 0
+IsSpokenNode m s (Node-F.Name (name.Local k)) = Unit {0}
+IsSpokenNode m s (Node-F.Name (name.Static k)) = Unit {0}
+IsSpokenNode m s (Node-F.Name n) = ⊥
+IsSpokenNode m s (Node-F.Un op.Deref e) = IsReadElement e
+IsSpokenNode m s (Node-F.Un op.Address e) =
+    IsAddressed s e.note.ctype (out-Node Name Note e.node)
+    ⊎ ((m ≡ Unchecked) × IsAddressedRaw s e.note.ctype (out-Node Name Note e.node))
+IsSpokenNode m s (Node-F.Index e f) = IsReadElement e
+IsSpokenNode m s (Node-F.Dot e n spot) = IsStructureNode (out-Node Name Note e.node)
+IsSpokenNode m s (Node-F.Arrow e n spot) = is_terminated_kind (kind_of e.note.ctype) ≡ false
+IsSpokenNode m s (Node-F.Call n es) = ⊥
+IsSpokenNode m s (Node-F.Calloc w e u) = ⊥
+IsSpokenNode m s n = Unit {0}
 
 -- the same of the node of an expression
-abbrev pub IsSpokenPart : Setting → Expr-F Name Note NotedLimits NotedNode NotedExpr → Type 0
-IsSpokenPart s e = IsSpokenNode s (out-Node Name Note e.node)
+abbrev pub IsSpokenPart : Mode → Setting → Expr-F Name Note NotedLimits NotedNode NotedExpr → Type 0
+IsSpokenPart m s e = IsSpokenNode m s (out-Node Name Note e.node)
 
 -- this of an expression and each expression in it, however deep
-abbrev pub IsSpoken : Setting → NotedExpr → Type 0
-IsSpoken s = every-Expr Name Note AnyLimits AnyNode (IsSpokenPart s)
+abbrev pub IsSpoken : Mode → Setting → NotedExpr → Type 0
+IsSpoken m s = every-Expr Name Note AnyLimits AnyNode (IsSpokenPart m s)
