@@ -48,3 +48,4 @@ pub mod Literals
 pub mod Strings
 pub mod ReadThrough
 pub mod RawReads
+pub mod Trusted
