@@ -390,13 +390,19 @@ IsUncheckedNode s store t (Node-F.Dot e n spot) =
 IsUncheckedNode s store t (Node-F.Trusted w e l) = Unit {0}
 IsUncheckedNode s store t _ = ⊥
 
--- In checked code such an expression is no unchecked pointer; the size of what it points to is a word, and so is the
--- number of its values.
+-- An address is an unchecked pointer.
+abbrev pub IsRawAddress : CType → NotedLayer → Type 0
+IsRawAddress t (Node-F.Un op.Address e) = is_raw_kind (kind_of t) ≡ true
+IsRawAddress t _ = Unit {0}
+
+-- In checked code such an expression is no unchecked pointer, and in unchecked code an address is one; the size of what
+-- it points to is a word, and so is the number of its values.
 pub record IsCoveredExpr (m : Mode) (s : Setting) (store : Store) (seen : List ℕ)
     (e : Expr-F Name Note NotedLimits NotedNode NotedExpr) : Type 0 where
   pub node : IsCoveredNode s store seen e.note.ctype (out-Node Name Note e.node)
       ⊎ ((m ≡ Unchecked) × IsUncheckedNode s store e.note.ctype (out-Node Name Note e.node))
   pub checked : is_raw_kind (kind_of e.note.ctype) ≡ true → m ≡ Unchecked
+  pub address : m ≡ Unchecked → IsRawAddress e.note.ctype (out-Node Name Note e.node)
   pub few : (view s.frame (record { node = e.node; pos = e.pos; note = e.note })).values + 1 < 2 ^ 32
   pub sized : size_behind s.text.layout e.note.ctype < 2 ^ 32
 
