@@ -49,3 +49,4 @@ pub mod Strings
 pub mod ReadThrough
 pub mod RawReads
 pub mod Trusted
+pub mod RawNames
