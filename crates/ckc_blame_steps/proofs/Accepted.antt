@@ -1,6 +1,6 @@
 -- What is known of each text that the phases accept.
-use Rattle.std.proofs.Common.{◌≡◌, ◌∙◌, refl, sym, ap, subst, arith, ℕ, ◌+◌, ◌<◌, List, [], ◌∷◌, length}
-use Rattle.std.specs.Prelude.{◌^◌, ◌-◌, ◌≤◌, true, Option, None, Some, Ok, IfSome}
+use Rattle.std.proofs.Common.{◌≡◌, ◌⊎◌, ◌∙◌, refl, sym, ap, subst, arith, ℕ, ◌+◌, ◌<◌, List, [], ◌∷◌, length}
+use Rattle.std.specs.Prelude.{◌≢◌, ◌^◌, ◌-◌, ◌≤◌, true, false, Option, None, Some, Ok, IfSome, IsSome}
 use Rattle.std.specs.List.{Contains, flat_map}
 use Rattle.ckc_syntax.specs.declared.tree.Name.{Name}
 use Rattle.ckc_syntax.specs.declared.tree.Expr.{every_here-Expr}
@@ -10,7 +10,12 @@ use Rattle.ckc_blame_steps.specs.ExpressionRooms.{HasPlaces}
 use Rattle.ckc_blame_steps.specs.Values.{HasFewValues}
 use Rattle.ckc_blame_steps.proofs.Modes.{step_spot, step_mode}
 use Rattle.ckc_blame_steps.proofs.Ones.{ones_declared}
-use Rattle.ckc_base.specs.declared.arithmetic.Mode.TheVariants.{Checked}
+use Rattle.ckc_base.specs.declared.arithmetic.Mode.{Mode}
+use Rattle.ckc_base.specs.declared.arithmetic.Mode.TheVariants.{Unchecked}
+use Rattle.ckc_base.specs.Lists.{AreBytes}
+use Rattle.ckc_base.specs.States.{state_at}
+use Rattle.ckc_base.specs.Steps.{Halts}
+use Rattle.ckc_base.specs.Traces.{Event, Stuck}
 use Rattle.ckc_syntax_limits.specs.Small.{Small}
 use Rattle.ckc_typed.specs.declared.typed.Typed.{Typed}
 use Rattle.ckc_typed.specs.Statics.{strings_of_expr}
@@ -27,7 +32,9 @@ use Rattle.ckc_source.specs.declared.stmt.Kept.{Kept}
 use Rattle.ckc_source.specs.declared.stmt.Spot.{Spot}
 use Rattle.ckc_source.specs.Code.{Code, Expr, Function, Call, Return}
 use Rattle.ckc_source.specs.Eval.{Store}
+use Rattle.ckc_source.specs.Source.{source_system, first_state, source}
 use Rattle.ckc_source.specs.States.{State, Work}
+use Rattle.ckc_source.specs.Steps.{source_step}
 use Rattle.ckc_build_elaborate.specs.Elaborated.{elaborated}
 use Rattle.ckc_build_elaborate.specs.Shapes.{shapes_elaborated}
 use Rattle.ckc_blame.specs.Blamed.{IsBlamed, IsNeverStuck}
@@ -38,6 +45,7 @@ use Rattle.ckc_blame_sound.specs.Given.{AreGiven}
 use Rattle.ckc_blame_sound.specs.Safe.{AreSafe}
 use Rattle.ckc_blame_sound.specs.Settings.{Setting, IsFunction, AreStrings, setting_of}
 use Rattle.ckc_blame_sound.specs.Sized.{AllocateSizes}
+use Rattle.ckc_blame_sound.specs.Moves.{IsSoundMove}
 use Rattle.ckc_blame_sound.specs.Slots.{AreFilled}
 use Rattle.ckc_blame_sound.specs.Sound.{Sound}
 use Rattle.ckc_blame_sound.specs.Steps.{IsStep, IsCondition}
@@ -58,9 +66,9 @@ use Rattle.ckc_blame_walk.proofs.NamedStatics.{members_named}
 use Rattle.ckc_blame_declared.proofs.Integers.{members_count_integers}
 use Rattle.ckc_blame_control.specs.Ready.{Faces}
 use Rattle.ckc_blame_control.proofs.Typed.{condition_typed, point_known}
-use Rattle.ckc_blame_steps.specs.Checked.{IsChecked}
+use Rattle.ckc_blame_steps.specs.Checked.{IsOfMode}
 use Rattle.ckc_blame_steps.specs.Told.{IsTold, IsSpoken}
-use Rattle.ckc_blame_steps.proofs.Checked.{condition_checked}
+use Rattle.ckc_blame_steps.proofs.Checked.{condition_of_mode}
 use Rattle.ckc_blame_steps.proofs.GivenBodies.{texts_given}
 use Rattle.ckc_blame_steps.proofs.Judged.{condition_covered, judged_as}
 use Rattle.ckc_blame_steps.proofs.LaidOut.{programs_laid_out}
@@ -69,7 +77,7 @@ use Rattle.ckc_blame_steps.proofs.Runs.{runs_free}
 use Rattle.ckc_blame_steps.proofs.Scoped.{texts_are_safe}
 use Rattle.ckc_blame_steps.proofs.Small.{few_locals}
 use Rattle.ckc_blame_steps.proofs.SmallNames.{names_small}
-use Rattle.ckc_blame_steps.proofs.Spoken.{checked_spoken}
+use Rattle.ckc_blame_steps.proofs.Spoken.{expressions_are_spoken}
 use Rattle.ckc_blame_steps.proofs.Texts.{texts_are_told}
 use Rattle.ckc_blame_steps.proofs.Variables.{locals_declared, step_scope, test_scope}
 use Rattle.ckc_blame_steps.specs.Accepted.{IsAccepted}
@@ -81,11 +89,14 @@ use Rattle.ckc_blame_steps.specs.Known.{IsKnown, Begins}
 use Rattle.ckc_blame_steps.specs.Results.{GivesWordIf, returned_by}
 use Rattle.ckc_blame_steps.specs.Rooms.{HasRoomFrom, HaveRoomEach}
 use Rattle.ckc_blame_steps.specs.Tests.{AreTestsCovered}
+use Rattle.ckc_blame_steps.specs.Unchecked.{stores_unchecked, unchecked_store_since, mode_after}
+use Rattle.ckc_blame_steps.proofs.AllSteps.{every_step}
 use Rattle.ckc_blame_steps.proofs.CoveredActs.{act_covered}
 use Rattle.ckc_blame_steps.proofs.CoveredCalls.{arguments_there, returned_there}
 use Rattle.ckc_blame_steps.proofs.Declaring.{results_are_spared, steps_declare}
 use Rattle.ckc_blame_steps.proofs.Promised.{stuck_blamed, wholly_never}
 use Rattle.ckc_blame_steps.proofs.Rooms.{arguments_have_room, returned_has_room, steps_have_places, conditions_have_places}
+use Rattle.ckc_blame_steps.proofs.RunStores.{run_blamed, run_sound}
 use Rattle.ckc_blame_steps.proofs.Stepping.{call_step}
 use Rattle.ckc_blame_steps.proofs.Strings.{returned_strings}
 use Rattle.ckc_blame_steps.proofs.Words.{gives_word, give_words}
@@ -98,8 +109,8 @@ some_same e = cc
 
 -- ---- what gives words
 
-module _ (p : Typed) (s : Setting) (store : Store) (here : Here) where
-  one_givable : (e f : NotedExpr) (from : Numbered) → IsCoveredThere p s store here e f from.fresh → HasRoomFrom s here from e → IsGivable (globals_in p) s store here e f from
+module _ (m : Mode) (p : Typed) (s : Setting) (store : Store) (here : Here) where
+  one_givable : (e f : NotedExpr) (from : Numbered) → IsCoveredThere m p s store here e f from.fresh → HasRoomFrom s here from e → IsGivable m (globals_in p) s store here e f from
   one_givable e f from c r = record {
     typed = c.typed;
     whole = c.whole;
@@ -110,7 +121,7 @@ module _ (p : Typed) (s : Setting) (store : Store) (here : Here) where
     fresh = r.fresh;
   }
 
-  each_givable : (es fs : List NotedExpr) (from : Numbered) → AreCoveredThere p s store here es fs from.fresh → HaveRoomEach s here from es → AreGivable (globals_in p) s store here es fs from
+  each_givable : (es fs : List NotedExpr) (from : Numbered) → AreCoveredThere m p s store here es fs from.fresh → HaveRoomEach s here from es → AreGivable m (globals_in p) s store here es fs from
   unfolding HaveRoomEach AreGivable
   each_givable [] [] from c r = tt
   each_givable [] (f ∷ fs) from c r = absurd c
@@ -169,47 +180,47 @@ module _ (text : List ℕ) (p : Typed) (a : IsAccepted text p) where
     told store seen filled scope =
         texts_are_told p s f store seen j is counts ones (subst KeepRunsFree (sym same) (runs_free p j)) (subst (λ (q : Typed). AreFilled q store) (sym same) filled) scope
 
-    premises : (store : Store) (here there : Here) (step : Code → Code) (i : IsStep s here step there) → AreFilled p store → Premises p s store here i.before
-    premises store here there step i filled = record {
+    premises : (m : Mode) (store : Store) (here there : Here) (step : Code → Code) (i : IsStep s here step there) → AreFilled p store → Premises m p s store here i.before
+    premises m store here there step i filled = record {
       told = told store here.seen filled (step_scope p s f j is here there step (few s f is) i);
-      spoken = λ before after fresh typed checked callless judged. checked_spoken p s f before after fresh here.at j is ones typed checked callless judged;
+      spoken = λ before after fresh typed of_mode callless judged. expressions_are_spoken m p s f before after fresh here.at j is ones typed of_mode callless judged;
       given = i.inside.given (subst AreGiven (sym same) bodies);
       sized = i.inside.sized (subst AllocateSizes (sym same) sizes);
     }
 
     -- ---- conditions
 
-    module _ (here one other : Here) (e : Expr) (c : IsCondition s Checked here e one other) where
+    module _ (m : Mode) (here one other : Here) (e : Expr) (c : IsCondition s m here e one other) where
       few_there : IfSome c.before (λ x. (view s.frame x).values + 1 < 2 ^ 32)
-      few_there = by c.before (condition_places p s f j small is Checked here one other e c)
+      few_there = by c.before (condition_places p s f j small is m here one other e c)
         where
           by : (o : Option NotedExpr) → IfSome o (HasPlaces s.frame here.at here.next) → IfSome o (λ x. (view s.frame x).values + 1 < 2 ^ 32)
           by None h = tt
           by (Some x) h = every_here-Expr Name Note AnyLimits AnyNode (HasFewValues s.frame) x h.values
 
-      spoken_there : IfSome c.after (IsSpoken s)
+      spoken_there : IfSome c.after (IsSpoken m s)
       spoken_there =
-          by c.before c.after c.judged (condition_typed p s f Checked words is c.before c.inside) (condition_checked s here one other e (subst AreSafe (sym same) safe) c)
+          by c.before c.after c.judged (condition_typed p s f m words is c.before c.inside) (condition_of_mode m s here one other e (subst AreSafe (sym same) safe) c)
           (c.inside.given (subst AreGiven (sym same) bodies))
         where
-          by : (before after : Option NotedExpr) → maybe_judged s.frame before here ≡ Ok (after, c.behind) → IsTypedIf (globals_in p) s before → IfSome before IsChecked
-              → callless_value before ≡ true → IfSome after (IsSpoken s)
-          by None None judged typed checked callless = tt
-          by None (Some y) judged typed checked callless = absurd (none_some y (pair_same None (Some y) here c.behind judged).0)
-          by (Some x) None judged typed checked callless = tt
-          by (Some x) (Some y) judged typed checked callless =
-              let m = judged_as s.frame here x (Some y) c.behind c.counting judged in
-              checked_spoken p s f x y here.next here.at j is ones typed checked callless (m.2 ∙ ap Ok (some_same m.1))
+          by : (before after : Option NotedExpr) → maybe_judged s.frame before here ≡ Ok (after, c.behind) → IsTypedIf (globals_in p) s before → IfSome before (IsOfMode m)
+              → callless_value before ≡ true → IfSome after (IsSpoken m s)
+          by None None judged typed of_mode callless = tt
+          by None (Some y) judged typed of_mode callless = absurd (none_some y (pair_same None (Some y) here c.behind judged).0)
+          by (Some x) None judged typed of_mode callless = tt
+          by (Some x) (Some y) judged typed of_mode callless =
+              let made = judged_as s.frame here x (Some y) c.behind c.counting judged in
+              expressions_are_spoken m p s f x y here.next here.at j is ones typed of_mode callless (made.2 ∙ ap Ok (some_same made.1))
 
-      covered_there : (store : Store) → AreFilled p store → IfSome c.after (IsCovered s store here.seen)
+      covered_there : (store : Store) → AreFilled p store → IfSome c.after (IsCovered m s store here.seen)
       covered_there store filled =
-          condition_covered p s f store here one other e c words is (subst AreSafe (sym same) safe)
-          (told store here.seen filled (test_scope p s f j is Checked here one other e (few s f is) c)) few_there spoken_there
+          condition_covered m p s f store here one other e c words is (subst AreSafe (sym same) safe)
+          (told store here.seen filled (test_scope p s f j is m here one other e (few s f is) c)) few_there spoken_there
 
     tests : AreTestsCovered s
     tests = record {
-      covered = λ here one other e store next c ready filled. covered_there here one other e c store (subst (λ (q : Typed). AreFilled q store) same filled);
-      room = λ here one other e c. conditions_have_places p s f j small is Checked here one other e c;
+      covered = λ m here one other e store next c ready filled. covered_there m here one other e c store (subst (λ (q : Typed). AreFilled q store) same filled);
+      room = λ m here one other e c. conditions_have_places p s f j small is m here one other e c;
     }
 
   -- ---- arguments and results
@@ -240,37 +251,37 @@ module _ (text : List ℕ) (p : Typed) (a : IsAccepted text p) where
     abbrev first_from : Here → Numbered
     first_from here = record { value = 0; fresh = here.next }
 
-    arguments : (spot : Spot) (target : Option Kept) (number : ℕ) (es : List Expr) (next : List Work) (f : Faces set store s.frame.entry (Call spot target number es) next) → spot.mode ≡ Checked
-        → GiveWords set store f.here.at (literals_before f.judged.after f.judged.literals) (arguments_of f.judged.before) (arguments_of f.judged.after) (first_from f.here)
-    arguments spot target number es next f checked =
+    arguments : (m : Mode) (spot : Spot) (target : Option Kept) (number : ℕ) (es : List Expr) (next : List Work) (f : Faces set store s.frame.entry (Call spot target number es) next) → spot.mode ≡ m
+        → GiveWords m set store f.here.at (literals_before f.judged.after f.judged.literals) (arguments_of f.judged.before) (arguments_of f.judged.after) (first_from f.here)
+    arguments m spot target number es next f mode =
         let known = point_known p set s.frame.function f.here j h.stands.function word_variables f.judged.fresh f.judged.named in
         let called = call_step set f.here f.exits.ends spot target number es f.judged (word_there f.here f.judged.fresh) in
-        let there = arguments_there p j small words safe set s.frame.function h.stands.function store f.here f.exits.ends spot target number es f.judged checked
-        (premises set s.frame.function h.stands.function store f.here f.exits.ends (Call spot target number es) f.judged h.filled) in
+        let there = arguments_there m p j small words safe set s.frame.function h.stands.function store f.here f.exits.ends spot target number es f.judged mode
+        (premises set s.frame.function h.stands.function m store f.here f.exits.ends (Call spot target number es) f.judged h.filled) in
         let room = arguments_have_room p set s.frame.function j small h.stands.function f.here f.exits.ends (Call spot target number es) f.judged in
-        give_words (globals_in p) set s.frame.entry f.here s.next store known.agrees (locals_declared p set s.frame.function j h.stands.function) ready f.holds
+        give_words m (globals_in p) set s.frame.entry f.here s.next store known.agrees (locals_declared p set s.frame.function j h.stands.function) ready f.holds
         (arguments_of f.judged.before) (arguments_of f.judged.after) (literals_before f.judged.after f.judged.literals) (first_from f.here)
-        (each_givable p set store f.here (arguments_of f.judged.before) (arguments_of f.judged.after) (first_from f.here) there room)
+        (each_givable m p set store f.here (arguments_of f.judged.before) (arguments_of f.judged.after) (first_from f.here) there room)
         (subst (λ (xs : List NotedExpr). AreStrings set (literals_before f.judged.after f.judged.literals) (flat_map strings_of_expr xs)) (sym called.after) called.strings)
 
-    returned : (spot : Spot) (e : Expr) (next : List Work) (f : Faces set store s.frame.entry (Return spot e) next) → spot.mode ≡ Checked
-        → GivesWordIf set store f.here.at f.judged.literals (returned_by f.judged.before) (returned_by f.judged.after) (first_from f.here)
-    returned spot e next f checked =
+    returned : (m : Mode) (spot : Spot) (e : Expr) (next : List Work) (f : Faces set store s.frame.entry (Return spot e) next) → spot.mode ≡ m
+        → GivesWordIf m set store f.here.at f.judged.literals (returned_by f.judged.before) (returned_by f.judged.after) (first_from f.here)
+    returned m spot e next f mode =
         by (returned_by f.judged.before) (returned_by f.judged.after) (λ y is. returned_strings set f.judged.literals f.judged.after f.judged.strings y is)
-        (returned_there p j small words safe set s.frame.function h.stands.function store f.here f.exits.ends spot e f.judged checked
-        (premises set s.frame.function h.stands.function store f.here f.exits.ends (Return spot e) f.judged h.filled))
+        (returned_there m p j small words safe set s.frame.function h.stands.function store f.here f.exits.ends spot e f.judged mode
+        (premises set s.frame.function h.stands.function m store f.here f.exits.ends (Return spot e) f.judged h.filled))
         (returned_has_room p set s.frame.function j small h.stands.function f.here f.exits.ends (Return spot e) f.judged)
       where
         by : (x y : Option NotedExpr) → ((g : NotedExpr) → y ≡ Some g → AreStrings set f.judged.literals (strings_of_expr g))
-            → IsCoveredIf p set store f.here x y f.here.next → IfSome x (HasRoomFrom set f.here (first_from f.here))
-            → GivesWordIf set store f.here.at f.judged.literals x y (first_from f.here)
+            → IsCoveredIf m p set store f.here x y f.here.next → IfSome x (HasRoomFrom set f.here (first_from f.here))
+            → GivesWordIf m set store f.here.at f.judged.literals x y (first_from f.here)
         by None None strings c r = tt
         by None (Some y) strings c r = tt
         by (Some x) None strings c r = tt
         by (Some x) (Some y) strings c r =
-            gives_word (globals_in p) set s.frame.entry f.here s.next store
+            gives_word m (globals_in p) set s.frame.entry f.here s.next store
             (point_known p set s.frame.function f.here j h.stands.function word_variables f.judged.fresh f.judged.named).agrees (locals_declared p set s.frame.function j h.stands.function) ready f.holds x y f.judged.literals (first_from f.here)
-            (one_givable p set store f.here x y (first_from f.here) c r) (strings y refl)
+            (one_givable m p set store f.here x y (first_from f.here) c r) (strings y refl)
 
   -- ---- all that is known
 
@@ -284,8 +295,8 @@ module _ (text : List ℕ) (p : Typed) (a : IsAccepted text p) where
     counts = counts;
     few = few;
     declares = λ s f is. locals_declared p s f j is;
-    covered = λ s f here there step end store next is i mode ready filled.
-        act_covered p j small words safe s f is store here there step i (step_mode s here there step i ∙ sym (step_spot s here there step i end) ∙ mode) (premises s f is store here there step i filled);
+    covered = λ m s f here there step end store next is i mode safely ready filled.
+        act_covered m p j small words safe s f is store here there step i (step_mode s here there step i ∙ sym (step_spot s here there step i end) ∙ mode) (premises s f is m store here there step i filled) safely;
     declared = λ s f here there step d is i out. steps_declare p j few s f here there step d is i out;
     room = λ s f here there step is i. steps_have_places p s f j small is here there step i;
   }
@@ -297,8 +308,8 @@ module _ (text : List ℕ) (p : Typed) (a : IsAccepted text p) where
     nested = typed_nested a.tokens a.spelled a.named a.typed a.has_tree a.has_names a.has_types;
     tests = tests;
     spares = results_are_spared p j;
-    arguments = arguments;
-    returned = returned;
+    arguments = λ m s h spot target number es next f mode. arguments s h m spot target number es next f mode;
+    returned = λ m s h spot e next f mode. returned s h m spot e next f mode;
   }
 
   begins : Begins p known
@@ -311,6 +322,18 @@ module _ (text : List ℕ) (p : Typed) (a : IsAccepted text p) where
 
   pub accepted_known : (k : IsKnown p) × Begins p k
   accepted_known = (known, begins)
+
+  pub accepted_step : (s : State) → Sound p s → stores_unchecked s ≡ false → ((events : List Event) → source_step (elaborated p) s ≢ Halts events Stuck)
+      → IsSoundMove p (source_step (elaborated p) s)
+  accepted_step s h safe runs = every_step p known s h safe runs
+
+  pub accepted_store : (input : List ℕ) (n : ℕ) → AreBytes input → (source (elaborated p) input n).standing ≡ Stuck
+      → IsSome (unchecked_store_since (elaborated p) input n) ⊎ (mode_after (elaborated p) input n ≡ Unchecked)
+  accepted_store input n bytes stuck = run_blamed p input n known begins bytes stuck
+
+  pub accepted_sound : (input : List ℕ) (n : ℕ) → AreBytes input → unchecked_store_since (elaborated p) input n ≡ None
+      → Sound p (state_at (source_system (elaborated p)) (first_state (elaborated p) input) n)
+  accepted_sound input n bytes none = run_sound p input n known begins bytes none
 
   pub accepted_blamed : IsBlamed (elaborated p)
   accepted_blamed input n bytes stuck = stuck_blamed p input n known begins bytes stuck

@@ -1,7 +1,8 @@
--- A condition of mode Checked leads to a side that holds.
+-- A condition that is not stuck leads to a side that holds, and one of checked code is not stuck.
 use Rattle.std.proofs.Common.{◌≡◌, ◌∙◌, ℕ, List, refl, sym, ap, subst}
 use Rattle.std.specs.Prelude.{◌+◌, ◌<◌, ◌^◌, length, IfSome, Option, None, Some, Result, Ok, Err}
-use Rattle.ckc_base.specs.declared.arithmetic.Mode.TheVariants.{Checked}
+use Rattle.ckc_base.specs.declared.arithmetic.Mode.{Mode}
+use Rattle.ckc_base.specs.declared.arithmetic.Mode.TheVariants.{Checked, Unchecked}
 use Rattle.ckc_typed.specs.declared.typed.Typed.{Typed}
 use Rattle.ckc_typed.specs.Statics.{strings_of_expr, strings_of_value}
 use Rattle.ckc_typed.specs.Trees.{NotedExpr}
@@ -28,7 +29,8 @@ use Rattle.ckc_blame_sound.specs.JudgedTexts.{IsJudged, globals_in}
 use Rattle.ckc_blame_sound.proofs.Members.{have_own_names}
 use Rattle.ckc_blame_sound.specs.Typed.{IsTyped, IsTypedIf}
 use Rattle.ckc_blame_pointers.specs.Covered.{DeclareLocals, IsSoundStore, IsCovered}
-use Rattle.ckc_blame_pointers.specs.Meant.{IsNotStuck, IsMeant}
+use Rattle.ckc_blame_pointers.specs.Meant.{IsMeant}
+use Rattle.ckc_blame_pointers.specs.Owed.{Comes, Runs}
 use Rattle.ckc_blame_pointers.proofs.Whole.{judged_meant}
 use Rattle.ckc_blame_control.specs.Decided.{LeadsTo, HasSides}
 use Rattle.ckc_blame_control.specs.Known.{IsKnownPoint}
@@ -61,35 +63,36 @@ module _ (p : Typed) (s : State) (h : Sound p s) (j : IsJudged p) (words : HaveW
   filled : AreFilled set.text store
   filled = subst (λ q. AreFilled q store) (sym text_is) h.filled
 
-  sides : (here : Here) (f : NotedExpr) (r : Result Value Halt) → IsNotStuck (IsMeant set store entry here (view set.frame f)) r → HasSides set store entry here f r
-  sides here f (Ok v) m = m.sides
-  sides here f (Err (halt.Stopped why at)) m = tt
-  sides here f (Err halt.Stuck) m = m
+  sides : (m : Mode) (here : Here) (f : NotedExpr) (r : Result Value Halt) → Runs m r → Comes m (IsMeant set store entry here (view set.frame f)) r → HasSides set store entry here f r
+  sides m here f (Ok v) runs c = c.sides
+  sides m here f (Err (halt.Stopped why at)) runs c = tt
+  sides Checked here f (Err halt.Stuck) runs c = c
+  sides Unchecked here f (Err halt.Stuck) runs c = absurd (runs refl)
 
-  module _ (here one other : Here) (e : Expr) (c : IsCondition set Checked here e one other) (holds : HoldsAt set store entry here) where
+  module _ (m : Mode) (here one other : Here) (e : Expr) (runs : Runs m (evaluated store e)) (c : IsCondition set m here e one other) (holds : HoldsAt set store entry here) where
     known : IsKnownPoint (globals_in p) set here
     known = point_known p set s.frame.function here j h.stands.function few c.fresh c.named
 
     typed : IsTypedIf (globals_in p) set c.before
-    typed = condition_typed p set s.frame.function Checked words h.stands.function c.before c.inside
+    typed = condition_typed p set s.frame.function m words h.stands.function c.before c.inside
 
     some : (f : NotedExpr) → c.before ≡ Some f → LeadsTo set store entry one other (evaluated store e)
     some f is =
-        let k : Judges set store entry Checked here one other e c f is = judges set store entry Checked here one other e c f is in
+        let k : Judges set store entry m here one other e c f is = judges set store entry m here one other e c f is in
         let whole : IsTyped (globals_in p) set f = subst (λ o. IfSome o (IsTyped (globals_in p) set)) is typed in
         let room : here.next + length ((view set.frame f).fresh here.at) < 2 ^ 32 =
-        subst (λ o. IfSome o (λ g. here.next + length ((view set.frame g).fresh here.at) < 2 ^ 32)) is (tests.room here one other e c) in
-        let covered : IsCovered set store here.seen k.expr = subst (λ o. IfSome o (IsCovered set store here.seen)) k.after (tests.covered here one other e store s.next c ready filled) in
+        subst (λ o. IfSome o (λ g. here.next + length ((view set.frame g).fresh here.at) < 2 ^ 32)) is (tests.room m here one other e c) in
+        let covered : IsCovered m set store here.seen k.expr = subst (λ o. IfSome o (IsCovered m set store here.seen)) k.after (tests.covered m here one other e store s.next c ready filled) in
         let strings : AreStrings set c.literals (strings_of_expr k.expr) = subst (λ o. AreStrings set c.literals (strings_of_value o)) k.after c.strings in
         let value : e ≡ expr_elaborated set.text set.variables c.literals k.expr = c.becomes ∙ ap (condition set.text set.variables c.literals) k.after in
-        some_leads set store entry Checked here one other e c f is
-        (sides here f (evaluated store e)
-        (subst (λ x. IsNotStuck (IsMeant set store entry here (view set.frame f)) (evaluated store x)) (sym value)
-        (judged_meant (globals_in p) set known.agrees declares store entry s.next ready here f k.expr here.next c.literals room known.fresh whole k.judged covered strings holds)))
+        some_leads set store entry m here one other e c f is
+        (sides m here f (evaluated store e) runs
+        (subst (λ x. Comes m (IsMeant set store entry here (view set.frame f)) (evaluated store x)) (sym value)
+        (judged_meant m (globals_in p) set known.agrees declares store entry s.next ready here f k.expr here.next c.literals room known.fresh whole k.judged covered strings holds)))
 
     by : (o : Option NotedExpr) → c.before ≡ o → LeadsTo set store entry one other (evaluated store e)
     by (Some f) is = some f is
-    by None is = none_leads set store entry Checked here one other e c is holds
+    by None is = none_leads set store entry m here one other e c is holds
 
     pub decided : LeadsTo set store entry one other (evaluated store e)
     decided = by c.before refl

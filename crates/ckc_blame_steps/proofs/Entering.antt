@@ -6,7 +6,7 @@ use Rattle.std.specs.Option.{option_map}
 use Rattle.std.proofs.lemmas.List.{length-map}
 use Rattle.std.proofs.lemmas.List.Elements.{Contains-append_cases}
 use Rattle.std.proofs.lemmas.Option.{slice_get-map}
-use Rattle.ckc_base.specs.declared.arithmetic.Mode.TheVariants.{Checked}
+use Rattle.ckc_base.specs.declared.arithmetic.Mode.{Mode}
 use Rattle.ckc_base.specs.declared.runtime_checks.Check.TheVariants as check
 use Rattle.ckc_base.specs.Activations.{has_room}
 use Rattle.ckc_base.specs.Steps.{Halts}
@@ -74,25 +74,28 @@ use Rattle.ckc_blame_walk.specs.Entries.{params_seen, MayEnter}
 use Rattle.ckc_blame_walk.proofs.Entered.{filled_at, params_many, entered_stands}
 use Rattle.ckc_blame_control.specs.Ready.{Faces}
 use Rattle.ckc_blame_control.proofs.Called.{entered_sound}
-use Rattle.ckc_blame_control.proofs.Moved.{move_by}
+use Rattle.ckc_blame_pointers.specs.Owed.{Comes}
 use Rattle.ckc_blame_given.specs.Gives.{Continues}
 use Rattle.ckc_blame_steps.specs.Arguments.{GiveWords, literals_before}
 use Rattle.ckc_blame_steps.specs.Callees.{IsCallee, HaveCallees, HaveFewVariables}
-use Rattle.ckc_blame_given.proofs.Converted.{becomes_checked}
-use Rattle.ckc_blame_steps.proofs.Evaluated.{AllBecome, AllGiven, AreNotStuck, all_given}
+use Rattle.ckc_blame_steps.specs.Unchecked.{MovesSoundly}
+use Rattle.ckc_blame_given.proofs.Converted.{becomes}
+use Rattle.ckc_blame_steps.proofs.Evaluated.{AllBecome, AllGiven, all_given}
 use Rattle.ckc_blame_steps.proofs.Numbering.{AreWords, numbers_after, values_are, own_valuation, own_values, valuation_with, with_values, with_own, with_continues}
 use Rattle.ckc_blame_steps.proofs.Passed.{AreTaken, AreEntered, taken_many, taken_words, taken_numbers, are_arguments, are_new}
+use Rattle.ckc_blame_steps.proofs.Comes.{stops_soundly}
+use Rattle.ckc_blame_steps.proofs.SoundMoves.{soundly, moves_by}
 use Rattle.ckc_blame_steps.proofs.Stepping.{IsCallStep, call_step}
 
 -- ---- typing
 
-module _ (globals : Globals) (variables : List Variable) (s : Setting) (store : Store) (at : Point) where
-  all_become : (ts : List CType) (es fs : List NotedExpr) (k : ℕ) (from : Numbered) → AllByRecursion (WellTypedExpr globals variables Checked) es → typing.AreArguments ts es
-      → GiveWords s store at k es fs from → AllBecome ts es
+module _ (m : Mode) (globals : Globals) (variables : List Variable) (s : Setting) (store : Store) (at : Point) where
+  all_become : (ts : List CType) (es fs : List NotedExpr) (k : ℕ) (from : Numbered) → AllByRecursion (WellTypedExpr globals variables m) es → typing.AreArguments ts es
+      → GiveWords m s store at k es fs from → AllBecome ts es
   unfolding GiveWords
   all_become [] [] fs k from typed h g = tt
   all_become (t ∷ ts) (e ∷ es) (f ∷ fs) k from typed h g = (
-    becomes_checked globals variables t e ((expr_by_parts globals variables Checked e).0 typed.0).noted.row h.0 g.0.whole,
+    becomes globals variables t e m ((expr_by_parts globals variables m e).0 typed.0).noted.row h.0 g.0.whole,
     all_become ts es fs _ _ typed.1 h.1 g.1,
   )
   all_become (t ∷ ts) (e ∷ es) [] k from typed h g = absurd g
@@ -148,11 +151,11 @@ params_few p s f i few =
 
 -- ---- the step
 
-pub stopped : (p : Typed) (events : List Event) (why : _) (at : _) → IsSoundMove p (Halts events (Stopped why at))
+stopped : (p : Typed) (events : List Event) (why : _) (at : _) → IsSoundMove p (Halts events (Stopped why at))
 stopped p events why at e = cc
 
 module _ (p : Typed) (s : State) (h : Sound p s) (j : IsJudged p) (nested : AreNested j.typed.tree.items) (few : HaveFewVariables p) (spot : Spot) (target : Option Kept) (number : ℕ) (es : List Expr)
-    (rest : Code) (next : List Work) (checked : spot.mode ≡ Checked) (f : Faces h.setting (store_in p s.blocks s.frame) s.frame.entry (Call spot target number es) (Rest rest ∷ next))
+    (rest : Code) (next : List Work) (m : Mode) (mode : spot.mode ≡ m) (f : Faces h.setting (store_in p s.blocks s.frame) s.frame.entry (Call spot target number es) (Rest rest ∷ next))
     (named : All (NamesIntegers h.setting.frame) f.here.at.facts.list) where
   abbrev store : Store
   store = store_in p s.blocks s.frame
@@ -181,13 +184,13 @@ module _ (p : Typed) (s : State) (h : Sound p s) (j : IsJudged p) (nested : AreN
       subst (λ (n : NotedLayer). HasType (globals_of_text h.setting.text) h.setting.variables f.judged.inside.mode n step.call.note.ctype) step.is.node
       ((expr_by_parts (globals_of_text h.setting.text) h.setting.variables f.judged.inside.mode step.call).0 step.typed).noted.row
 
-  args_typed : AllByRecursion (WellTypedExpr (globals_of_text h.setting.text) h.setting.variables Checked) step.is.args
+  args_typed : AllByRecursion (WellTypedExpr (globals_of_text h.setting.text) h.setting.variables m) step.is.args
   args_typed =
-      subst (λ m. AllByRecursion (WellTypedExpr (globals_of_text h.setting.text) h.setting.variables m) step.is.args) (sym step.mode ∙ checked)
+      subst (λ n. AllByRecursion (WellTypedExpr (globals_of_text h.setting.text) h.setting.variables n) step.is.args) (sym step.mode ∙ mode)
       (subst (λ (n : NotedLayer). NodeParts (globals_of_text h.setting.text) h.setting.variables f.judged.inside.mode n) step.is.node
       ((expr_by_parts (globals_of_text h.setting.text) h.setting.variables f.judged.inside.mode step.call).0 step.typed).parts)
 
-  module _ (c : IsCallee p h.setting.frame step.function row.0) (gives : GiveWords h.setting store f.here.at (literals_before f.judged.after f.judged.literals) (arguments_of f.judged.before) (arguments_of f.judged.after) first) where
+  module _ (c : IsCallee p h.setting.frame step.function row.0) (gives : GiveWords m h.setting store f.here.at (literals_before f.judged.after f.judged.literals) (arguments_of f.judged.before) (arguments_of f.judged.after) first) where
     abbrev params : List Local
     params = c.called.head.params
 
@@ -212,10 +215,10 @@ module _ (p : Typed) (s : State) (h : Sound p s) (j : IsJudged p) (nested : AreN
     typing_is : typing.AreArguments types step.is.args
     typing_is = subst (λ ts. typing.AreArguments ts step.is.args) c.types row.2
 
-    given : GiveWords h.setting store f.here.at (literals_before f.judged.after f.judged.literals) step.is.args step.afters first
+    given : GiveWords m h.setting store f.here.at (literals_before f.judged.after f.judged.literals) step.is.args step.afters first
     given =
-        subst (λ es. GiveWords h.setting store f.here.at (literals_before f.judged.after f.judged.literals) es step.afters first) step.before
-        (subst (λ fs. GiveWords h.setting store f.here.at (literals_before f.judged.after f.judged.literals) (arguments_of f.judged.before) fs first) step.after gives)
+        subst (λ es. GiveWords m h.setting store f.here.at (literals_before f.judged.after f.judged.literals) es step.afters first) step.before
+        (subst (λ fs. GiveWords m h.setting store f.here.at (literals_before f.judged.after f.judged.literals) (arguments_of f.judged.before) fs first) step.after gives)
 
     expressions_are : es ≡ arguments h.setting.text h.setting.variables (literals_before f.judged.after f.judged.literals) c.function.head.params step.afters
     expressions_are =
@@ -226,12 +229,12 @@ module _ (p : Typed) (s : State) (h : Sound p s) (j : IsJudged p) (nested : AreN
     abbrev Given : List ℕ → Type 0
     Given = AllGiven h.setting store f.here.at types step.is.args first (own_valuation h.setting s.frame.locals)
 
-    evaluation : AreNotStuck Given (all_evaluated store es)
+    evaluation : Comes m Given (all_evaluated store es)
     evaluation =
-        subst (λ xs. AreNotStuck Given (all_evaluated store xs)) (sym expressions_are)
-        (all_given h.setting store f.here.at c.function.head.params step.is.args step.afters (literals_before f.judged.after f.judged.literals) first (own_valuation h.setting s.frame.locals) words
+        subst (λ xs. Comes m Given (all_evaluated store xs)) (sym expressions_are)
+        (all_given m h.setting store f.here.at c.function.head.params step.is.args step.afters (literals_before f.judged.after f.judged.literals) first (own_valuation h.setting s.frame.locals) words
         (own_values h.setting s.frame.locals)
-        (all_become (globals_of_text h.setting.text) h.setting.variables h.setting store f.here.at types step.is.args step.afters (literals_before f.judged.after f.judged.literals) first args_typed typing_is given) given)
+        (all_become m (globals_of_text h.setting.text) h.setting.variables h.setting store f.here.at types step.is.args step.afters (literals_before f.judged.after f.judged.literals) first args_typed typing_is given) given)
 
     module _ (ns : List ℕ) (g : Given ns) where
       abbrev views : List View
@@ -352,15 +355,15 @@ module _ (p : Typed) (s : State) (h : Sound p s) (j : IsJudged p) (nested : AreN
           by true e = goes e
           by false e = stopped p [] check.Depth spot.at
 
-    by_result : (o : Result (List ℕ) Halt) → AreNotStuck Given o → IsSoundMove p (and_moves o (calls (functions_elaborated p) (at_work s step_work) target number spot.at))
-    by_result (Ok ns) g = called_soundly ns g
-    by_result (Err (halt.Stopped why at)) g = stopped p [] why at
-    by_result (Err halt.Stuck) g = absurd g
+    by_result : (o : Result (List ℕ) Halt) → Comes m Given o → MovesSoundly m p (and_moves o (calls (functions_elaborated p) (at_work s step_work) target number spot.at))
+    by_result (Ok ns) g = soundly m p (calls (functions_elaborated p) (at_work s step_work) target number spot.at ns) (called_soundly ns g)
+    by_result (Err (halt.Stopped why at)) g = stops_soundly m why at
+    by_result (Err halt.Stuck) g = λ e. g
 
-    call_sound : settled s.frame.work ≡ Rest (Call spot target number es rest) ∷ next → IsSoundMove p (source_step (elaborated p) s)
-    call_sound is = move_by p s (Rest (Call spot target number es rest) ∷ next) is (by_result (all_evaluated store es) evaluation)
+    call_sound : settled s.frame.work ≡ Rest (Call spot target number es rest) ∷ next → MovesSoundly m p (source_step (elaborated p) s)
+    call_sound is = moves_by m p s (Rest (Call spot target number es rest) ∷ next) is (by_result (all_evaluated store es) evaluation)
 
-  pub call_keeps : HaveCallees p → GiveWords h.setting store f.here.at (literals_before f.judged.after f.judged.literals) (arguments_of f.judged.before) (arguments_of f.judged.after) first
-      → settled s.frame.work ≡ Rest (Call spot target number es rest) ∷ next → IsSoundMove p (source_step (elaborated p) s)
+  pub call_keeps : HaveCallees p → GiveWords m h.setting store f.here.at (literals_before f.judged.after f.judged.literals) (arguments_of f.judged.before) (arguments_of f.judged.after) first
+      → settled s.frame.work ≡ Rest (Call spot target number es rest) ∷ next → MovesSoundly m p (source_step (elaborated p) s)
   call_keeps have gives is =
       call_sound (have h.setting s.frame.function step.function row.0 h.stands.function (subst (λ (t : Typed). signature_named (globals_of_text t) (name.Function step.function) ≡ Some row.0) text_is row.1)) gives is

@@ -1,6 +1,7 @@
 -- The arguments of a call are evaluated, one after another.
 use Rattle.std.proofs.Common.{◌≡◌, refl, sym, subst, ℕ, ◌+◌, List, [], ◌∷◌}
 use Rattle.std.specs.Prelude.{Result, Ok, Err}
+use Rattle.ckc_base.specs.declared.arithmetic.Mode.{Mode}
 use Rattle.ckc_types.specs.declared.types.CType.{CType}
 use Rattle.ckc_typed.specs.Trees.{NotedDecl, NotedExpr}
 use Rattle.ckc_typed.specs.Types.{type_written}
@@ -17,7 +18,7 @@ use Rattle.ckc_build_elaborate.specs.Steps.{arguments}
 use Rattle.ckc_blame_sound.specs.Settings.{Setting}
 use Rattle.ckc_blame_sound.specs.Valuations.{Valuation, IsValuationOf}
 use Rattle.ckc_blame_sound.proofs.Frames.{types_declared}
-use Rattle.ckc_blame_pointers.specs.Meant.{IsNotStuck}
+use Rattle.ckc_blame_pointers.specs.Owed.{Comes}
 use Rattle.ckc_blame_given.specs.Gives.{Continues, GivesOn}
 use Rattle.ckc_blame_steps.specs.Arguments.{GivesWord, GiveWords, numbers_behind}
 use Rattle.ckc_blame_given.proofs.Converted.{Becomes}
@@ -39,15 +40,9 @@ pub record AllGiven (s : Setting) (store : Store) (at : State) (ts : List CType)
   pub given : (later : Valuation) → IsValuationOf s store.locals later → Continues (numbers_after s at es from).value (numbers_after s at es from).fresh after later
       → AreTaken s store later at ts es from ns
 
--- An evaluation gives such words, or stops at a named check. It is not stuck.
-abbrev pub AreNotStuck : (List ℕ → Type 0) → Result (List ℕ) Halt → Type 0
-AreNotStuck P (Ok ns) = P ns
-AreNotStuck P (Err (halt.Stopped why at)) = Unit {0}
-AreNotStuck P (Err halt.Stuck) = ⊥
-
-module _ (s : Setting) (store : Store) (at : State) where
+module _ (m : Mode) (s : Setting) (store : Store) (at : State) where
   module _ (d : NotedDecl) (ds : List NotedDecl) (e : NotedExpr) (es : List NotedExpr) (from : Numbered) (before : Valuation) (words : AreWords from) (become : Becomes (type_written d.ctype) e) (x : Expr) (xs : List Expr)
-      (one : GivesWord s store at e x from) where
+      (one : GivesWord m s store at e x from) where
     abbrev Given : List ℕ → Type 0
     Given = AllGiven s store at (types_declared (d ∷ ds)) (e ∷ es) from before
 
@@ -76,28 +71,28 @@ module _ (s : Setting) (store : Store) (at : State) where
           );
         }
 
-    with_rest : (w : ℕ) (g : GivesOn s store before at e from w) (n : ℕ) → n ≡ taken (type_written d.ctype) w → (o : Result (List ℕ) Halt) → AreNotStuck (Rest g.after) o
-        → AreNotStuck Given (given o (λ ns. Ok (n ∷ ns)))
+    with_rest : (w : ℕ) (g : GivesOn s store before at e from w) (n : ℕ) → n ≡ taken (type_written d.ctype) w → (o : Result (List ℕ) Halt) → Comes m (Rest g.after) o
+        → Comes m Given (given o (λ ns. Ok (n ∷ ns)))
     with_rest w g n is (Ok ns) h = added w g n is ns h
     with_rest w g n is (Err (halt.Stopped why pos)) h = tt
-    with_rest w g n is (Err halt.Stuck) h = absurd h
+    with_rest w g n is (Err halt.Stuck) h = h
 
-    pub one_more : IsValuationOf s store.locals before → ((after : Valuation) → IsValuationOf s store.locals after → AreNotStuck (Rest after) (all_evaluated store xs))
-        → AreNotStuck Given (all_evaluated store (converted (type_written d.ctype) x ∷ xs))
+    pub one_more : IsValuationOf s store.locals before → ((after : Valuation) → IsValuationOf s store.locals after → Comes m (Rest after) (all_evaluated store xs))
+        → Comes m Given (all_evaluated store (converted (type_written d.ctype) x ∷ xs))
     one_more values rest = by (evaluated store x) refl (one.gives before values)
       where
         goes : Result Value Halt → Result (List ℕ) Halt
         goes o = given o (λ v. given (all_evaluated store xs) (λ ns. Ok (v.number ∷ ns)))
 
-        by : (o : Result Value Halt) → evaluated store x ≡ o → IsNotStuck (λ w. GivesOn s store before at e from w.number) o → AreNotStuck Given (goes (evaluated store (converted (type_written d.ctype) x)))
+        by : (o : Result Value Halt) → evaluated store x ≡ o → Comes m (λ w. GivesOn s store before at e from w.number) o → Comes m Given (goes (evaluated store (converted (type_written d.ctype) x)))
         by (Ok v) is g =
             let u = converted_is store (type_written d.ctype) x v is in
-            subst (λ o. AreNotStuck Given (goes o)) (sym u.1) (with_rest v.number g u.0.number u.2 (all_evaluated store xs) (rest g.after g.values))
-        by (Err (halt.Stopped why pos)) is g = subst (λ o. AreNotStuck Given (goes o)) (sym (converted_halts store (type_written d.ctype) x (halt.Stopped why pos) is)) tt
-        by (Err halt.Stuck) is g = absurd g
+            subst (λ o. Comes m Given (goes o)) (sym u.1) (with_rest v.number g u.0.number u.2 (all_evaluated store xs) (rest g.after g.values))
+        by (Err (halt.Stopped why pos)) is g = subst (λ o. Comes m Given (goes o)) (sym (converted_halts store (type_written d.ctype) x (halt.Stopped why pos) is)) tt
+        by (Err halt.Stuck) is g = subst (λ o. Comes m Given (goes o)) (sym (converted_halts store (type_written d.ctype) x halt.Stuck is)) g
 
   pub all_given : (ds : List NotedDecl) (es fs : List NotedExpr) (k : ℕ) (from : Numbered) (before : Valuation) → AreWords from → IsValuationOf s store.locals before → AllBecome (types_declared ds) es
-      → GiveWords s store at k es fs from → AreNotStuck (AllGiven s store at (types_declared ds) es from before) (all_evaluated store (arguments s.text s.variables k ds fs))
+      → GiveWords m s store at k es fs from → Comes m (AllGiven s store at (types_declared ds) es from before) (all_evaluated store (arguments s.text s.variables k ds fs))
   unfolding GiveWords
   all_given [] [] [] k from before words values become h = record { after = before; values = values; continues = record { address = λ n l. refl; number = λ x l. refl }; given = λ later v c. tt }
   all_given (d ∷ ds) (e ∷ es) (f ∷ fs) k from before words values become h =

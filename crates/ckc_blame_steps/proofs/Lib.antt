@@ -1,3 +1,4 @@
+pub mod SoundMoves
 pub mod Comes
 pub mod Drawn
 pub mod Plans
@@ -44,7 +45,9 @@ pub mod Valued
 pub mod Made
 pub mod Allocations
 pub mod KeptSound
+pub mod AllSteps
 pub mod Promised
+pub mod RunStores
 pub mod Rooms
 pub mod ScalarValues
 pub mod CallsMade

@@ -17,7 +17,7 @@ use Rattle.ckc_bounds_stores.specs.declared.values.Numbered.{Numbered}
 use Rattle.ckc_bounds_stores.specs.Values.{narrow}
 use Rattle.ckc_source.specs.Eval.{Store}
 use Rattle.ckc_source.specs.Words.{exact}
-use Rattle.ckc_build_values.specs.Kinds.{integer_of, size_behind, pointee_of}
+use Rattle.ckc_build_values.specs.Kinds.{integer_of, size_behind}
 use Rattle.ckc_blame_sound.specs.Settings.{Setting}
 use Rattle.ckc_blame_sound.specs.Values.{number_of, IsNumberOf}
 use Rattle.ckc_blame_sound.specs.Valuations.{Valuation, form_address, AreFacts}
@@ -27,9 +27,9 @@ use Rattle.ckc_blame_sound.proofs.IntegerWords.{InType, exact_is, read_back, nar
 use Rattle.ckc_blame_sound.specs.Containment.{IsReadWithin}
 use Rattle.ckc_blame_sound.specs.GivenValues.{memory_of}
 use Rattle.ckc_blame_given.specs.Gives.{Gives}
-use Rattle.ckc_blame_given.proofs.Converted.{Becomes, element_looser}
+use Rattle.ckc_blame_given.proofs.Converted.{Becomes, element_looser, ending_looser}
+use Rattle.ckc_blame_given.proofs.From.{wide, narrow_there}
 use Rattle.ckc_blame_steps.proofs.Converted.{taken, taken_zero, taken_pointer}
-use Rattle.ckc_blame_given.proofs.Looser.{read_looser}
 use Rattle.ckc_blame_given.proofs.Views.{known_range, placed_pointer}
 
 -- no form is a number of a pointer type
@@ -69,24 +69,28 @@ module _ (s : Setting) (store : Store) (at : State) (v : Valuation) (zero_is : v
   both : {A : Type 0} → is_integer e.note.ctype ≡ true → is_pointer e.note.ctype ≡ true → A
   both i p = let n = no_pointer e.note.ctype i in absurd cc
 
-  read_taken : (r : Range) → ((low high : Form) → r ≡ range.Known low high → (is_pointer e.note.ctype ≡ true) × (is_null e ≡ false)) → IsReadWithin (memory_of s store e.note.ctype) v w r
+  -- a pointer is taken as it is, and integers have no range
+  read_taken : (r : Range) → ((low high : Form) → r ≡ range.Known low high → (is_pointer e.note.ctype ≡ true) × (is_null e ≡ false)) → IsReadWithin (memory_of s store t) v w r
       → IsReadWithin (memory_of s store t) v (taken t w) r
-  read_taken (range.Known low high) known h = by how (known low high refl)
+  read_taken (range.Known low high) known h = by how
     where
-      by : Becomes t e → (is_pointer e.note.ctype ≡ true) × (is_null e ≡ false) → IsReadWithin (memory_of s store t) v (taken t w) (range.Known low high)
-      by (Becomes.Integers to from) k = both from k.0
-      by (Becomes.Null to null bare) k = let n = k.1 in absurd cc
-      by (Becomes.Pointers to element terminated) k =
-          subst (λ n. IsReadWithin (memory_of s store t) v n (range.Known low high)) (sym (taken_pointer t w to))
-          (read_looser (memory_of s store e.note.ctype) (pointee_of s.text.layout t) v w (range.Known low high) (element_looser s.text.layout t e.note.ctype element terminated) h)
+      same : is_pointer t ≡ true → IsReadWithin (memory_of s store t) v (taken t w) (range.Known low high)
+      same to = subst (λ n. IsReadWithin (memory_of s store t) v n (range.Known low high)) (sym (taken_pointer t w to)) h
+
+      by : Becomes t e → IsReadWithin (memory_of s store t) v (taken t w) (range.Known low high)
+      by (Becomes.Integers to from) = both from (known low high refl).0
+      by (Becomes.Null to null bare) = same to
+      by (Becomes.Literal to string ends element) = same to
+      by (Becomes.Pointers to element terminated) = same to
   read_taken range.Any known h = tt
   read_taken range.Missing known h = tt
 
   pub wide_taken : IsReadWithin (memory_of s store t) v (taken t w) ((view s.frame e).range from.value from.fresh at)
-  wide_taken = read_taken ((view s.frame e).range from.value from.fresh at) (λ low high is. known_range s.frame e from.value from.fresh at low high is) g.wide
+  wide_taken = read_taken ((view s.frame e).range from.value from.fresh at) (λ low high is. known_range s.frame e from.value from.fresh at low high is) (wide s store at v e from w t how g)
 
   pub narrow_taken : IsReadWithin (memory_of s store t) v (taken t w) ((view s.frame e).range from.value from.fresh (narrow at))
-  narrow_taken = read_taken ((view s.frame e).range from.value from.fresh (narrow at)) (λ low high is. known_range s.frame e from.value from.fresh (narrow at) low high is) g.narrow
+  narrow_taken = read_taken ((view s.frame e).range from.value from.fresh (narrow at)) (λ low high is. known_range s.frame e from.value from.fresh (narrow at) low high is)
+      (narrow_there s store at v e from w t how g)
 
   pub placed_taken : (facts : Known) (f : Form) → AreFacts v facts → (view s.frame e).place from.value facts ≡ Some f → form_address v (size_behind s.text.layout t) f ≡ pos (taken t w)
   placed_taken facts f all is = by how
@@ -97,6 +101,7 @@ module _ (s : Setting) (store : Store) (at : State) (v : Valuation) (zero_is : v
       by : Becomes t e → form_address v (size_behind s.text.layout t) f ≡ pos (taken t w)
       by (Becomes.Integers to integer) = both integer (placed_pointer s.frame e from.value facts f is)
       by (Becomes.Null to null bare) = let n = bare s.frame from.value facts in absurd cc
+      by (Becomes.Literal to string ends element) = ap (λ size. form_address v size f) (ending_looser s.text.layout t e.note.ctype element).size ∙ there ∙ ap pos (sym (taken_pointer t w to))
       by (Becomes.Pointers to element terminated) =
           ap (λ size. form_address v size f) (element_looser s.text.layout t e.note.ctype element terminated).size ∙ there ∙ ap pos (sym (taken_pointer t w to))
 
@@ -109,4 +114,5 @@ module _ (s : Setting) (store : Store) (at : State) (v : Valuation) (zero_is : v
           let z = g.form facts f all n.0 in
           sym (exact_taken t e.note.ctype w (number_of v.number f) to word_is n.1 z)
       by (Becomes.Null to null bare) = absurd (no_form t facts ((view s.frame e).form facts) f to is)
+      by (Becomes.Literal to string ends element) = absurd (no_form t facts ((view s.frame e).form facts) f to is)
       by (Becomes.Pointers to element terminated) = absurd (no_form t facts ((view s.frame e).form facts) f to is)

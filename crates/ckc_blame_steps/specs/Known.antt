@@ -26,8 +26,8 @@ use Rattle.ckc_blame_steps.specs.Spared.{SpareResults}
 -- The arguments of each call give words, or are stuck as they may be in code of its mode.
 abbrev pub ArgumentsGiveWords : Typed → Type 0
 ArgumentsGiveWords p =
-    (m : Mode) (s : State) (h : Sound p s) (spot : Spot) (target : Option Kept) (number : ℕ) (es : List Expr) (next : List Work)
-    (f : Faces h.setting (store_in p s.blocks s.frame) s.frame.entry (Call spot target number es) next)
+    (m : Mode) (s : State) (h : Sound p s) (spot : Spot) (target : Option Kept) (number : ℕ) (es : List Expr)
+    (next : List Work) (f : Faces h.setting (store_in p s.blocks s.frame) s.frame.entry (Call spot target number es) next)
     → spot.mode ≡ m
     → GiveWords m h.setting (store_in p s.blocks s.frame) f.here.at (literals_before f.judged.after f.judged.literals)
     (arguments_of f.judged.before) (arguments_of f.judged.after) (record { value = 0; fresh = f.here.next })
@@ -43,8 +43,8 @@ ReturnsGiveWords p =
 
 -- ---- a text
 
--- The expressions of the steps and conditions of a text are covered, where it stores through no unchecked pointer, no result has bounds that name a local that
--- is declared, and what is passed and returned gives words.
+-- The expressions of the steps of a text that store through no unchecked pointer, and of its conditions, are covered, no
+-- result has bounds that name a local that is declared, and what is passed and returned gives words.
 pub record IsKnown (p : Typed) : Type 0 where
   pub granted : IsGranted p
   pub nested : AreNested granted.judged.typed.tree.items

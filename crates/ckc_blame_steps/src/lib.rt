@@ -1,5 +1,5 @@
-//! Steps of mode Checked keep states sound: assignments, declarations, conditions, calls and returns; and what follows for
-//! runs.
+//! Steps of mode Checked keep states sound, and so do those of mode Unchecked that are not stuck and store through no
+//! unchecked pointer: assignments, declarations, conditions, calls and returns; and what follows for runs.
 #![tactic(auto)]
 
 mod accepted_laws;
@@ -19,7 +19,9 @@ mod spoken_laws;
 mod stores_laws;
 mod whole_laws;
 
-pub use accepted_laws::accepted_texts_are_blamed;
+pub use accepted_laws::{
+    accepted_steps_stay_sound, accepted_texts_are_blamed, stores_are_to_blame,
+};
 pub use allocated_laws::allocations_draw;
 pub use calls_laws::{calls_keep_sound, ends_keep_sound, results_are_known, returns_keep_sound};
 pub use covered_laws::checked_steps_are_covered;
@@ -51,6 +53,6 @@ pub use stores_laws::{
     planned_stores_lie,
 };
 pub use whole_laws::{
-    checked_never_stuck, checked_steps_keep_sound, first_state_sound, steps_stay_sound,
-    stuck_is_blamed, wholly_checked_never_stuck,
+    checked_never_stuck, checked_steps_keep_sound, every_step_stays_sound, first_state_sound,
+    steps_stay_sound, stuck_is_blamed, wholly_checked_never_stuck,
 };

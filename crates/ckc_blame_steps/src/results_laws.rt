@@ -2,6 +2,7 @@
 
 ghost use Rattle.std.specs.Prelude.{ℕ, List};
 ghost use Rattle.std.specs.List.{flat_map};
+ghost use Rattle.ckc_base.specs.declared.arithmetic.Mode.{Mode};
 ghost use Rattle.ckc_typed.specs.declared.environment.Globals.{Globals};
 ghost use Rattle.ckc_typed.specs.declared.typed.Typed.{Typed};
 ghost use Rattle.ckc_typed.specs.Statics.{strings_of_expr};
@@ -40,17 +41,17 @@ pub fn objects_keep_results()
 {}
 
 /// An expression that is covered, whose string literals are static objects from a number on, gives
-/// a word to what it is returned or passed as, and the arguments of a call do if each is, with
-/// their numbers one after another.
+/// a word to what it is returned or passed as, or is stuck as it may be in code of a mode, and the
+/// arguments of a call do if each is, with their numbers one after another.
 pub fn covered_give_words()
-    ensures one { (globals : Globals) (s : Setting) (entry : List ℕ) (here : Here) (next : ℕ)
-        (store : Store) → Agrees globals s → DeclareLocals s → IsSoundStore s store next
+    ensures one { (m : Mode) (globals : Globals) (s : Setting) (entry : List ℕ) (here : Here)
+        (next : ℕ) (store : Store) → Agrees globals s → DeclareLocals s → IsSoundStore s store next
         → HoldsAt s store entry here → (e f : NotedExpr) (k : ℕ) (from : Numbered)
-        → IsGivable globals s store here e f from → AreStrings s k (strings_of_expr f)
-        → GivesWord s store here.at e (expr_elaborated s.text s.variables k f) from }
-    ensures each { (globals : Globals) (s : Setting) (entry : List ℕ) (here : Here) (next : ℕ)
-        (store : Store) → Agrees globals s → DeclareLocals s → IsSoundStore s store next
+        → IsGivable m globals s store here e f from → AreStrings s k (strings_of_expr f)
+        → GivesWord m s store here.at e (expr_elaborated s.text s.variables k f) from }
+    ensures each { (m : Mode) (globals : Globals) (s : Setting) (entry : List ℕ) (here : Here)
+        (next : ℕ) (store : Store) → Agrees globals s → DeclareLocals s → IsSoundStore s store next
         → HoldsAt s store entry here → (es fs : List NotedExpr) (k : ℕ) (from : Numbered)
-        → AreGivable globals s store here es fs from
-        → AreStrings s k (flat_map strings_of_expr fs) → GiveWords s store here.at k es fs from }
+        → AreGivable m globals s store here es fs from
+        → AreStrings s k (flat_map strings_of_expr fs) → GiveWords m s store here.at k es fs from }
 {}

@@ -1,6 +1,6 @@
 //! What follows from the definitions alone, each the contract of a function that does nothing.
 
-ghost use Rattle.std.specs.Prelude.{◌≡◌, ◌≢◌, ℕ, List, IsSome};
+ghost use Rattle.std.specs.Prelude.{◌≡◌, ◌≢◌, ℕ, false, List, IsSome};
 ghost use Rattle.ckc_base.specs.declared.arithmetic.Mode.TheVariants.{Checked};
 ghost use Rattle.ckc_base.specs.Lists.{AreBytes};
 ghost use Rattle.ckc_base.specs.Steps.{Halts};
@@ -15,6 +15,7 @@ ghost use Rattle.ckc_blame_sound.specs.Sound.{Sound};
 ghost use Rattle.ckc_blame_sound.specs.Moves.{IsSoundMove};
 ghost use Rattle.ckc_blame_control.specs.Whole.{KeepSound};
 ghost use Rattle.ckc_blame_steps.specs.Known.{IsKnown, Begins};
+ghost use Rattle.ckc_blame_steps.specs.Unchecked.{stores_unchecked};
 
 /// Each step of mode Checked of a known text keeps a state sound.
 pub fn checked_steps_keep_sound()
@@ -32,6 +33,14 @@ pub fn steps_stay_sound()
 pub fn checked_never_stuck()
     ensures { (p : Typed) (s : State) (events : List Event) → IsKnown p → Sound p s
         → (spot_of s).mode ≡ Checked → source_step (elaborated p) s ≢ Halts events Stuck }
+{}
+
+/// A step of whatever mode from a sound state of a known text, if it is not stuck and stores through
+/// no unchecked pointer, leads to a sound state, or the run ends or stops.
+pub fn every_step_stays_sound()
+    ensures { (p : Typed) (s : State) → IsKnown p → Sound p s → stores_unchecked s ≡ false
+        → ((events : List Event) → source_step (elaborated p) s ≢ Halts events Stuck)
+        → IsSoundMove p (source_step (elaborated p) s) }
 {}
 
 /// The first state of a known text is sound, with any input of bytes.
