@@ -50,3 +50,4 @@ pub mod ReadThrough
 pub mod RawReads
 pub mod Trusted
 pub mod RawNames
+pub mod RawCasts
