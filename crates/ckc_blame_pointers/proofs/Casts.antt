@@ -15,7 +15,7 @@ use Rattle.ckc_typed.specs.declared.typed.Range as noted
 use Rattle.ckc_typed.specs.declared.typed.Range.TheVariants as range
 use Rattle.ckc_typed.specs.Constants.{size_of}
 use Rattle.ckc_typed.specs.Conversions.{limits_fit_kind, is_terminated_kind, kind_is_tested, kinds_allow}
-use Rattle.ckc_typed.specs.Operands.{same_element}
+use Rattle.ckc_typed.specs.Operands.{is_raw_kind, same_element}
 use Rattle.ckc_typed.specs.Trees.{NotedExpr, TypeTree}
 use Rattle.ckc_typed.specs.Types.{is_integer, is_object_type, is_pointer, kind_of, element_of}
 use Rattle.ckc_bounds_views.specs.declared.variables.Own.{Own}
@@ -62,10 +62,11 @@ use Rattle.ckc_blame_pointers.proofs.Truths.{true_bare}
 
 -- ---- types
 
--- A pointer of the second type may point to what one of the first may.
+-- A pointer of the second type may point to what one of the first may, which is no unchecked pointer.
 pub record IsLooser (t r : CType) : Type 0 where
   pub element : element_of r ≡ element_of t
   pub ends : is_terminated_kind (kind_of r) ≡ true → is_terminated_kind (kind_of t) ≡ true
+  pub checked : is_raw_kind (kind_of t) ≡ false
 
 ends_by : (j k : Option Kind) → kinds_allow kind_is_tested j k ≡ true → is_terminated_kind k ≡ true → is_terminated_kind j ≡ true
 ends_by (Some kind.Nt) (Some k) e ends = refl
@@ -81,11 +82,19 @@ ends_by (Some kind.Arr) (Some kind.Arr) e ends = absurd (cc)
 ends_by (Some j) None e ends = absurd (cc)
 ends_by None k e ends = absurd (cc)
 
+checked_by : (j k : Option Kind) → kinds_allow kind_is_tested j k ≡ true → is_raw_kind j ≡ false
+checked_by (Some kind.Raw) (Some k) e = absurd (cc)
+checked_by (Some kind.Raw) None e = absurd (cc)
+checked_by (Some kind.One) k e = refl
+checked_by (Some kind.Arr) k e = refl
+checked_by (Some kind.Nt) k e = refl
+checked_by None k e = refl
+
 pub tested_looser : (t r : CType) → same_element r t ≡ true → kinds_allow kind_is_tested (kind_of t) (kind_of r) ≡ true → IsLooser t r
 tested_looser t r same kinds =
     let p = and_parts (is_pointer r) (is_pointer t && same_type (element_of r) (element_of t)) same in
     let q = and_parts (is_pointer t) (same_type (element_of r) (element_of t)) p.1 in
-    record { element = same_equal (element_of r) (element_of t) q.1; ends = ends_by (kind_of t) (kind_of r) kinds }
+    record { element = same_equal (element_of r) (element_of t) q.1; ends = ends_by (kind_of t) (kind_of r) kinds; checked = checked_by (kind_of t) (kind_of r) kinds }
 
 module _ (s : Setting) (store : Store) (t r : CType) (c : IsLooser t r) where
   looser_true : (n low high : ℕ) → is_true store.shapes store.blocks (pointee_of s.text.layout t) n low high ≡ true → is_true store.shapes store.blocks (pointee_of s.text.layout r) n low high ≡ true
@@ -122,7 +131,7 @@ module _ (s : Setting) (store : Store) (entry : List ℕ) (next : ℕ) (ready : 
       by range.Missing m i = absurd (cc)
       by range.Any m i = inl i
       by (range.Known low high) m (inl z) = inl z
-      by (range.Known low high) m (inr g) = inr (g.from, g.to, g.range, looser_true s store e.note.ctype r looser x.number g.from g.to g.true_there)
+      by (range.Known low high) m (inr g) = inr (g.from, g.to, g.range looser.checked, looser_true s store e.note.ctype r looser x.number g.from g.to g.true_there)
 
 -- ---- the cast
 

@@ -46,3 +46,4 @@ pub mod Operands
 pub mod Literals
 pub mod Strings
 pub mod ReadThrough
+pub mod RawNames

@@ -168,6 +168,16 @@ module _ (s : Setting) (store : Store) (entry : List ℕ) (here : Here) (h : Hol
       room_of : (first m : ℕ) → first + capped m 1 + 1 < 2 ^ 32 → (first ≤ capped first m) × (capped first m < first + capped m 1)
       room_of first m low = (omega arith, omega arith)
 
+-- ---- a pointer that stands for itself and may be read within no known range
+
+module _ (s : Setting) (store : Store) (entry : List ℕ) (here : Here) (h : HoldsAt s store entry here) (t : CType) (pointer : is_pointer t ≡ true) (several : kind_of t ≡ Some kind.One → ⊥) (n : NodeView) where
+  pub missing_claims : n.stands_alone ≡ true → n.null ≡ false → ((first : ℕ) (facts : Known) → n.place t first facts ≡ None) → ((widened : List ℕ) → n.fresh (record here.at { widened = widened }) ≡ n.fresh here.at)
+      → ((own : Own) (first fresh : ℕ) (widened : List ℕ) → n.range t own first fresh (record here.at { widened = widened }) ≡ range.Missing) → own_fresh t n here.at.facts ≡ None
+      → n.behind ≡ None → n.is_zero ≡ false → ((b : Bool) → n.side b here.at ≡ here.at) → (x : Value) → x.number < 2 ^ 32 → NodeClaims s store entry here h t n x
+  missing_claims alone known nowhere kept ranged needs none some quiet x small =
+      own_claims s store entry here h t pointer n alone known nowhere kept (λ own. range.Missing) ranged (λ own first limit more less. tt) x (pos 0) none some quiet small
+      (subst (λ (o : Option CType). IfSome o (λ u. IsNumberOf u (pos 0))) (sym needs) tt) (λ own v fits at number. tt) (λ ones one. absurd (several one))
+
 -- ---- its range
 
 -- so many elements from a pointer up, by a form of their number
@@ -188,7 +198,7 @@ module _ (s : Setting) (store : Store) (t : CType) (x : Value) (z c : ℤ) (ther
       by (inr g') = inr (record {
         from = g'.from;
         to = g'.upto;
-        range = g'.range;
+        range = λ checked. g'.range;
         low_is = g'.low_is ∙ sym (at_base s store.locals t v (fits 0 (inl refl)) (base.Value at_own.value) ∙ ap pos at);
         high_is = g'.high_is ∙ sym (ap (λ a. elements_behind a (size_behind s.text.layout t) (number_of v.numbers (g at_own.fresh))) at ∙ ap (elements_behind x.number (size_behind s.text.layout t)) (counts at_own.fresh v fits number));
         true_there = g'.true_there;

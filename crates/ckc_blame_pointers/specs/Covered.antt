@@ -5,6 +5,7 @@ use Rattle.ckc_base.specs.declared.arithmetic.Mode.{Mode}
 use Rattle.ckc_base.specs.declared.arithmetic.Mode.TheVariants.{Unchecked}
 use Rattle.ckc_types.specs.declared.types.Kind.{Kind}
 use Rattle.ckc_types.specs.declared.types.Kind.TheVariants as kind
+use Rattle.ckc_types.specs.declared.types.Kind.TheVariants.{One}
 use Rattle.ckc_types.specs.declared.types.CType.{CType, CType-F, out-CType}
 use Rattle.ckc_types.specs.declared.types.MemberShape.{MemberShape}
 use Rattle.ckc_types.specs.declared.types.MemberBounds.{MemberBounds}
@@ -127,7 +128,7 @@ pub record IsStaticArray (s : Setting) (t : CType) (k : ℕ) : Type 0 where
   pub judged : slice_get s.frame.statics k ≡ Some object
   pub kind : Kind
   pub array : object.array ≡ Some kind
-  pub several : kind ≡ kind.One → ⊥
+  pub several : kind ≡ One → ⊥
   pub ends : object.terminated ≡ is_terminated_kind (Some kind)
   pub free : slice_get (objects_elaborated s.text) k ≡ Some (object_elaborated s.text.layout (Some true) object)
   pub pointer : is_pointer t ≡ true
@@ -389,13 +390,19 @@ IsUncheckedNode s store t (Node-F.Dot e n spot) =
 IsUncheckedNode s store t (Node-F.Trusted w e l) = Unit {0}
 IsUncheckedNode s store t _ = ⊥
 
--- In checked code such an expression is no unchecked pointer; the size of what it points to is a word, and so is the
--- number of its values.
+-- An address is an unchecked pointer.
+abbrev pub IsRawAddress : CType → NotedLayer → Type 0
+IsRawAddress t (Node-F.Un op.Address e) = is_raw_kind (kind_of t) ≡ true
+IsRawAddress t _ = Unit {0}
+
+-- In checked code such an expression is no unchecked pointer, and in unchecked code an address is one; the size of what
+-- it points to is a word, and so is the number of its values.
 pub record IsCoveredExpr (m : Mode) (s : Setting) (store : Store) (seen : List ℕ)
     (e : Expr-F Name Note NotedLimits NotedNode NotedExpr) : Type 0 where
   pub node : IsCoveredNode s store seen e.note.ctype (out-Node Name Note e.node)
       ⊎ ((m ≡ Unchecked) × IsUncheckedNode s store e.note.ctype (out-Node Name Note e.node))
   pub checked : is_raw_kind (kind_of e.note.ctype) ≡ true → m ≡ Unchecked
+  pub address : m ≡ Unchecked → IsRawAddress e.note.ctype (out-Node Name Note e.node)
   pub few : (view s.frame (record { node = e.node; pos = e.pos; note = e.note })).values + 1 < 2 ^ 32
   pub sized : size_behind s.text.layout e.note.ctype < 2 ^ 32
 
