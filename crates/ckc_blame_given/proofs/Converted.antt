@@ -7,7 +7,7 @@ use Rattle.ckc_base.specs.declared.arithmetic.Mode.TheVariants.{Checked, Uncheck
 use Rattle.ckc_linear.specs.declared.forms.Form.{Form}
 use Rattle.ckc_types.specs.declared.types.Kind.{Kind}
 use Rattle.ckc_types.specs.declared.types.Kind.TheVariants as kind
-use Rattle.ckc_types.specs.declared.types.CType.{CType, CType-F, out-CType, the_lemmas as ctype_lemmas}
+use Rattle.ckc_types.specs.declared.types.CType.{CType, the_lemmas as ctype_lemmas}
 use Rattle.ckc_types.specs.declared.types.CType.TheVariants as ctype
 use Rattle.ckc_types.specs.declared.types.Structs.{Structs}
 use Rattle.ckc_syntax.specs.declared.tree.Name.{Name}
@@ -19,7 +19,7 @@ use Rattle.ckc_typed.specs.Conversions.{is_null, is_null_form, is_string, is_all
 use Rattle.ckc_typed.specs.Expressions.{number_type, string_type}
 use Rattle.ckc_typed.specs.Operands.{same_element}
 use Rattle.ckc_typed.specs.Trees.{NotedExpr, NotedLayer}
-use Rattle.ckc_typed.specs.Types.{is_integer, is_pointer, is_char, element_of, element_in, kind_of, same_type}
+use Rattle.ckc_typed.specs.Types.{is_integer, is_pointer, is_char, element_of, kind_of, same_type}
 use Rattle.ckc_typed_welltyped.specs.Expressions.{HasType}
 use Rattle.ckc_bounds_points.specs.declared.frame.Frame.{Frame}
 use Rattle.ckc_bounds_points.specs.Shown.{Known}
@@ -29,7 +29,7 @@ use Rattle.ckc_bounds_views.specs.Views.{node_view, view}
 use Rattle.ckc_build_values.specs.Kinds.{pointee_of, size_behind}
 use Rattle.ckc_blame_sound.proofs.Facts.{one_of}
 use Rattle.ckc_blame_sound.proofs.Same.{same_equal}
-use Rattle.ckc_blame_pointers.proofs.Strings.{char_type, ends_in, string_row}
+use Rattle.ckc_blame_pointers.proofs.Strings.{char_type, checked_string, ends_in, raw_string, string_row}
 use Rattle.ckc_blame_given.proofs.Looser.{IsLooser}
 use Rattle.ckc_blame_given.proofs.Views.{viewed_layer, view_is}
 
@@ -57,14 +57,8 @@ allowed_keep (Some j) None a b = absurd cc
 
 -- what literals point to
 pub string_element : (mode : Mode) → element_of (string_type mode) ≡ ctype.Char
-string_element Checked = ap element_in checked
-  where
-    checked : out-CType (string_type Checked) ≡ CType-F.Pointer kind.Nt ctype.Char
-    checked = search (rules, ctype_lemmas)
-string_element Unchecked = ap element_in unchecked
-  where
-    unchecked : out-CType (string_type Unchecked) ≡ CType-F.Pointer kind.Raw ctype.Char
-    unchecked = search (rules, ctype_lemmas)
+string_element Checked = checked_string.element
+string_element Unchecked = (raw_string (string_type Unchecked) refl).element
 
 module _ (globals : Globals) (variables : List Variable) (t : CType) (e : NotedExpr) (mode : Mode) (row : HasType globals variables mode (out-Node Name Note e.node) e.note.ctype) where
   string_is : is_string e ≡ true → e.note.ctype ≡ string_type mode

@@ -1,11 +1,11 @@
 -- A string literal is read as what a terminator ends, of whatever type it is.
-use Rattle.std.proofs.Common.{◌≡◌, refl, sym, ap, subst, ◌∙◌, ℕ, Bool, true, false, List, [], ◌∷◌, rules, arith}
-use Rattle.std.specs.Prelude.{◌+◌, ◌-◌, ◌*◌, if◌then◌else◌, length, ℤ, pos, ◌+ℤ◌, ◌*ℤ◌, None, Some, Ok}
+use Rattle.std.proofs.Common.{◌≡◌, refl, sym, ap, subst, ◌∙◌, ℕ, Bool, true, false, List, [], arith}
+use Rattle.std.specs.Prelude.{◌+◌, ◌-◌, ◌*◌, if◌then◌else◌, length, ℤ, pos, ◌+ℤ◌, ◌*ℤ◌, Option, None, Some, Ok}
 use Rattle.std.proofs.Math.IntN.{pos-*ℤ-pos}
 use Rattle.std.proofs.lemmas.Int.{ints}
 use Rattle.ckc_base.specs.declared.arithmetic.Mode.TheVariants.{Checked}
-use Rattle.ckc_types.specs.declared.types.Kind.TheVariants as kind
-use Rattle.ckc_types.specs.declared.types.CType.{CType, CType-F, out-CType, the_lemmas as ctype_lemmas}
+use Rattle.ckc_types.specs.declared.types.Kind.{Kind}
+use Rattle.ckc_types.specs.declared.types.CType.{CType}
 use Rattle.ckc_types.specs.declared.types.CType.TheVariants as ctype
 use Rattle.ckc_linear.specs.declared.forms.Base.{Base}
 use Rattle.ckc_linear.specs.declared.forms.Base.TheVariants as base
@@ -16,16 +16,14 @@ use Rattle.ckc_syntax.specs.declared.tree.Expr.{every_here-Expr, fold-Expr, fold
 use Rattle.ckc_syntax.specs.declared.tree.Limits.{fold-Limits}
 use Rattle.ckc_typed.specs.declared.environment.Globals.{Globals}
 use Rattle.ckc_typed.specs.declared.typed.Note.{Note}
-use Rattle.ckc_typed.specs.declared.typed.Range.{Range}
 use Rattle.ckc_typed.specs.declared.typed.Range.TheVariants as range
 use Rattle.ckc_typed.specs.Constants.{size_of}
 use Rattle.ckc_typed.specs.Conversions.{is_string, is_string_form, is_terminated_kind}
 use Rattle.ckc_typed.specs.Expressions.{string_type}
 use Rattle.ckc_typed.specs.Statics.{strings_of_expr}
 use Rattle.ckc_typed.specs.Trees.{NotedLimits, NotedNode, NotedExpr, NotedLayer}
-use Rattle.ckc_typed.specs.Types.{is_pointer, is_pointer_form, element_of, element_in, kind_in}
+use Rattle.ckc_typed.specs.Types.{is_pointer, element_of, kind_of}
 use Rattle.ckc_typed_welltyped.specs.Expressions.{AnyLimits, AnyNode}
-use Rattle.ckc_bounds_points.specs.declared.frame.Frame.{Frame}
 use Rattle.ckc_bounds_points.specs.Flow.{State}
 use Rattle.ckc_bounds_points.specs.Forms.{base_form, constant_form}
 use Rattle.ckc_bounds_points.specs.Shown.{Known}
@@ -50,7 +48,7 @@ use Rattle.ckc_blame_sound.specs.Typed.{IsRow, HasRow, IsTyped}
 use Rattle.ckc_blame_sound.proofs.KeptTrees.{same_fold}
 use Rattle.ckc_blame_pointers.specs.Covered.{IsSoundStore}
 use Rattle.ckc_blame_pointers.proofs.Arrays.{array_true}
-use Rattle.ckc_blame_pointers.proofs.Strings.{IsStringType, strings_in_node, string_literal, string_row}
+use Rattle.ckc_blame_pointers.proofs.Strings.{checked_string, strings_in_node, string_literal, string_row}
 use Rattle.ckc_blame_given.specs.Gives.{ending}
 use Rattle.ckc_blame_given.proofs.Converted.{string_element}
 use Rattle.ckc_blame_given.proofs.Layers.{node_whole, view_by, view_is, part_is, part_by, strings_are}
@@ -62,9 +60,9 @@ use Rattle.ckc_blame_given.proofs.Looser.{true_read}
 abbrev chars : Setting → Pointee
 chars s = record { element = ctype.Char; size = size_of s.text.layout ctype.Char; terminated = true }
 
--- what a type of this form points to
-abbrev pointee_in : Setting → CType-F CType → Pointee
-pointee_in s f = record { element = element_in f; size = size_of s.text.layout (element_in f); terminated = is_terminated_kind (kind_in f) }
+-- what a kind of pointer to such elements points to
+abbrev pointee_as : Setting → CType → Option Kind → Pointee
+pointee_as s t k = record { element = t; size = size_of s.text.layout t; terminated = is_terminated_kind k }
 
 module _ (s : Setting) (store : Store) (entry : List ℕ) (next : ℕ) (ready : IsSoundStore s store next) (here : Here) (h : HoldsAt s store entry here) (bytes : List ℕ) (k : ℕ) (string : IsString s bytes k) where
   bytes_are : bytes_of s.text k ≡ size_of s.text.layout ctype.Char * length bytes
@@ -74,20 +72,14 @@ module _ (s : Setting) (store : Store) (entry : List ℕ) (next : ℕ) (ready : 
       less : (n : ℕ) → n + 1 - 1 ≡ n
       less n = omega arith
 
-  checked_out : out-CType (string_type Checked) ≡ CType-F.Pointer kind.Nt ctype.Char
-  checked_out = search (rules, ctype_lemmas)
-
-  typed : IsStringType (string_type Checked)
-  typed = record { pointer = ap is_pointer_form checked_out; kind_is = ap kind_in checked_out; element = ap element_in checked_out }
-
   literal_true : is_true store.shapes store.blocks (chars s) (address_of s.text k) (address_of s.text k) (address_of s.text k + size_of s.text.layout ctype.Char * length bytes) ≡ true
   literal_true =
       subst (λ n. is_true store.shapes store.blocks (chars s) (address_of s.text k) (address_of s.text k) (address_of s.text k + n) ≡ true) bytes_are
       (subst (λ to. is_true store.shapes store.blocks to (address_of s.text k) (address_of s.text k) (address_of s.text k + bytes_of s.text k) ≡ true) points
-      (array_true s store entry next ready here h (string_type Checked) k (string_literal s (string_type Checked) bytes k typed string).array))
+      (array_true s store entry next ready here h (string_type Checked) k (string_literal s (string_type Checked) bytes k checked_string string).array))
     where
       points : pointee_of s.text.layout (string_type Checked) ≡ chars s
-      points = ap (pointee_in s) checked_out
+      points = ap (λ t. pointee_as s t (kind_of (string_type Checked))) checked_string.element ∙ ap (pointee_as s ctype.Char) checked_string.kind_is
 
 -- ---- its range
 
@@ -108,7 +100,9 @@ far a z size count n zero begins =
     sums a (pos size *ℤ (z +ℤ pos 0)) n (size * count) begins (by 0 ∙ ap pos none) ∙ ap (λ x. a +ℤ x) (sym (by count))
   where
     by : (k : ℕ) → pos size *ℤ (z +ℤ pos k) ≡ pos (size * k)
-    by k = ap (λ x. pos size *ℤ (x +ℤ pos k)) zero ∙ pos-*ℤ-pos size k
+    by k =
+        let alone : z +ℤ pos k ≡ pos k = omega (arith, ints) in
+        ap (λ x. pos size *ℤ x) alone ∙ pos-*ℤ-pos size k
 
     none : size * 0 ≡ 0
     none = omega arith
@@ -118,37 +112,40 @@ module _ (s : Setting) (store : Store) (at : State) (e : NotedExpr) (bytes : Lis
   viewed : view s.frame e ≡ view_by s.frame e (Node-F.Text bytes)
   viewed = view_is s.frame e ∙ ap (view_by s.frame e) out
 
+  abbrev count : Form
+  count = constant_form (pos (length bytes))
+
+  abbrev sized : ℕ
+  sized = size_behind s.text.layout e.note.ctype
+
+  -- no facts
+  abbrev none : Known
+  none = record { vars = 0; list = [] }
+
+  abbrev own : ℕ → Base
+  own first = base.Value (capped first 0)
+
+  range_is : (first fresh : ℕ) → (view s.frame e).range first fresh at ≡ (if is_pointer e.note.ctype then range_from (own first) count else range.Missing)
+  range_is first fresh = ap (λ (w : View). w.range first fresh at) viewed
+
+  place_is : (first : ℕ) → is_pointer e.note.ctype ≡ true → (view s.frame e).place first none ≡ Some (base_form (own first))
+  place_is first p = ap (λ (w : View). w.place first none) viewed ∙ ap (λ b. if b then Some (base_form (own first)) else None) p
+
+  true_here : is_true store.shapes store.blocks (ending (memory_of s store e.note.ctype)).to n n (n + sized * length bytes) ≡ true
+  true_here =
+      subst (λ u. is_true store.shapes store.blocks (record { element = u; size = size_of s.text.layout u; terminated = true }) n n (n + size_of s.text.layout u * length bytes) ≡ true) (sym char) true_there
+
   text_ended : IsEndedAt s store at (view s.frame e) e.note.ctype n
-  text_ended v zero first fresh place = subst (IsReadWithin (ending (memory_of s store e.note.ctype)) v n) (sym range_is) (by (is_pointer e.note.ctype) refl)
+  text_ended v zero first fresh place = subst (IsReadWithin (ending (memory_of s store e.note.ctype)) v n) (sym (range_is first fresh)) (by (is_pointer e.note.ctype) refl)
     where
-      abbrev own : Base
-      own = base.Value (capped first 0)
+      begins : is_pointer e.note.ctype ≡ true → form_address v sized (base_form (own first)) ≡ pos n
+      begins p = place none (base_form (own first)) (λ k d less. let no : ⊥ = omega arith in absurd no) (place_is first p)
 
-      abbrev count : Form
-      count = constant_form (pos (length bytes))
-
-      abbrev sized : ℕ
-      sized = size_behind s.text.layout e.note.ctype
-
-      range_is : (view s.frame e).range first fresh at ≡ (if is_pointer e.note.ctype then range_from own count else range.Missing)
-      range_is = ap (λ (w : View). w.range first fresh at) viewed
-
-      -- no facts
-      abbrev none : Known
-      none = record { vars = 0; list = [] }
-
-      begins : is_pointer e.note.ctype ≡ true → form_address v sized (base_form own) ≡ pos n
-      begins p = place none (base_form own) (λ k d less. omega arith) (ap (λ (w : View). w.place first none) viewed ∙ ap (λ b. if b then Some (base_form own) else None) p)
-
-      true_here : is_true store.shapes store.blocks (ending (memory_of s store e.note.ctype)).to n n (n + sized * length bytes) ≡ true
-      true_here =
-          subst (λ u. is_true store.shapes store.blocks (record { element = u; size = size_of s.text.layout u; terminated = true }) n n (n + size_of s.text.layout u * length bytes) ≡ true) (sym char) true_there
-
-      by : (b : Bool) → is_pointer e.note.ctype ≡ b → IsReadWithin (ending (memory_of s store e.note.ctype)) v n (if b then range_from own count else range.Missing)
+      by : (b : Bool) → is_pointer e.note.ctype ≡ b → IsReadWithin (ending (memory_of s store e.note.ctype)) v n (if b then range_from (own first) count else range.Missing)
       by false p = tt
       by true p =
-          true_read store.shapes store.blocks (ending (memory_of s store e.note.ctype)).to n n (n + sized * length bytes) (form_address v sized (base_form own)) (form_address v sized (record count { base = Some own }))
-          (sym (begins p)) (far (v.address (Some own)) (v.number 0) sized (length bytes) n zero (begins p)) true_here
+          true_read store.shapes store.blocks (ending (memory_of s store e.note.ctype)).to n n (n + sized * length bytes) (form_address v sized (base_form (own first)))
+          (form_address v sized (record count { base = Some (own first) })) (sym (begins p)) (far (v.address (Some (own first))) (v.number 0) sized (length bytes) n zero (begins p)) true_here
 
 -- ---- a literal that is judged
 
@@ -181,20 +178,14 @@ module _ (globals : Globals) (s : Setting) (store : Store) (entry : List ℕ) (n
   literal_ended : (e : NotedExpr) (k : ℕ) → IsTyped globals s e → AreStrings s k (strings_of_expr e) → (p : Value) → evaluated store ((part_of e).value s.text s.variables k) ≡ Ok p
       → is_string e ≡ true → IsEndedAt s store here.at (view s.frame e) e.note.ctype p.number
   literal_ended e k typed strings p there string =
-      text_ended s store here.at e bytes out char p.number
-      (subst (λ a. is_true store.shapes store.blocks (chars s) a a (a + size_of s.text.layout ctype.Char * length bytes) ≡ true) address (literal_true s store entry next ready here h bytes k is_there))
+      text_ended s store here.at e text.0 text.1 char p.number
+      (subst (λ a. is_true store.shapes store.blocks (chars s) a a (a + size_of s.text.layout ctype.Char * length text.0) ≡ true) address (literal_true s store entry next ready here h text.0 k is_there))
     where
       text : (bytes : List ℕ) × (out-Node Name Note e.node ≡ Node-F.Text bytes)
       text = text_of (out-Node Name Note e.node) string
 
-      abbrev bytes : List ℕ
-      bytes = text.0
-
-      out : out-Node Name Note e.node ≡ Node-F.Text bytes
-      out = text.1
-
-      is_there : IsString s bytes k
-      is_there = (subst (AreStrings s k) (strings_are e ∙ ap strings_in_node out) strings).0
+      is_there : IsString s text.0 k
+      is_there = (subst (AreStrings s k) (strings_are e ∙ ap strings_in_node text.1) strings).0
 
       char : element_of e.note.ctype ≡ ctype.Char
       char =
@@ -203,7 +194,7 @@ module _ (globals : Globals) (s : Setting) (store : Store) (entry : List ℕ) (n
 
       address : address_of s.text k ≡ p.number
       address =
-          let made : evaluated store (Array (address_of s.text k) (length bytes)) ≡ Ok p = sym (ap (λ (q : Part). evaluated store (q.value s.text s.variables k)) (part_is e ∙ ap (part_by e) out)) ∙ there in
+          let made : evaluated store (Array (address_of s.text k) (length text.0)) ≡ Ok p = sym (ap (λ (q : Part). evaluated store (q.value s.text s.variables k)) (part_is e ∙ ap (part_by e) text.1)) ∙ there in
           cc
 
   -- of what becomes of a literal

@@ -139,7 +139,7 @@ char_type t e = by (out-CType t) refl e
     by CType-F.Void is e = absurd cc
     by (CType-F.Struct tag) is e = absurd cc
 
-ends_in : (k : Option Kind) → is_terminated_kind k ≡ true → k ≡ Some kind.Nt
+pub ends_in : (k : Option Kind) → is_terminated_kind k ≡ true → k ≡ Some kind.Nt
 ends_in (Some kind.Nt) e = refl
 ends_in k e = absurd cc
 
