@@ -50,3 +50,8 @@ pub mod ReadThrough
 pub mod RawReads
 pub mod Trusted
 pub mod RawNames
+pub mod RawCasts
+pub mod Runs
+pub mod Carried
+pub mod Locations
+pub mod BoundsCasts

@@ -79,8 +79,8 @@ module _ (s : Setting) (store : Store) (entry : List ℕ) (next : ℕ) (ready : 
   abbrev IsTrueFor : CType → Type 0
   IsTrueFor r = is_true store.shapes store.blocks (pointee_of s.text.layout r) a a (a + length bytes) ≡ true
 
-  there : IsTrueFor t
-  there = subst (λ n. is_true store.shapes store.blocks (pointee_of s.text.layout t) a a (a + n) ≡ true) bytes_are (array_true s store entry next ready here h t k c.array)
+  pub literal_true : IsTrueFor t
+  literal_true = subst (λ n. is_true store.shapes store.blocks (pointee_of s.text.layout t) a a (a + n) ≡ true) bytes_are (array_true s store entry next ready here h t k c.array)
 
   claims_for : (r : CType) → is_pointer r ≡ true → (kind_of r ≡ Some kind.One → ⊥) → size_behind s.text.layout r ≡ 1 → IsTrueFor r
       → IsNotStuck (NodeClaims s store entry here h r node) (evaluated store (Array (address_of s.text k) (length bytes)))
@@ -108,10 +108,10 @@ module _ (s : Setting) (store : Store) (entry : List ℕ) (next : ℕ) (ready : 
       }
 
   pub literal_claims : IsNotStuck (NodeClaims s store entry here h t node) (evaluated store (Array (address_of s.text k) (length bytes)))
-  literal_claims = claims_for t c.array.pointer (λ one. absurd (c.array.several (some_is c.array.kind kind.One (sym c.array.kind_is ∙ one)))) size_there there
+  literal_claims = claims_for t c.array.pointer (λ one. absurd (c.array.several (some_is c.array.kind kind.One (sym c.array.kind_is ∙ one)))) size_there literal_true
 
   -- It is also a pointer of a type to the same elements that is not null-terminated.
   pub bare_literal_claims : (r : CType) → is_pointer r ≡ true → (kind_of r ≡ Some kind.One → ⊥) → is_terminated_kind (kind_of r) ≡ false → element_of r ≡ element_of t
       → IsNotStuck (NodeClaims s store entry here h r node) (evaluated store (Array (address_of s.text k) (length bytes)))
   bare_literal_claims r pointer several bare same =
-      claims_for r pointer several (ap (size_of s.text.layout) same ∙ size_there) (true_retyped s store t r same bare a a (a + length bytes) there)
+      claims_for r pointer several (ap (size_of s.text.layout) same ∙ size_there) (true_retyped s store t r same bare a a (a + length bytes) literal_true)

@@ -1,33 +1,48 @@
--- The claims of `_Assume_bounds_cast`, if it gives something.
-use Rattle.std.proofs.Common.{◌≡◌, ◌⊎◌, refl, sym, subst, ℕ, true, List}
-use Rattle.std.specs.Prelude.{◌<◌, ◌^◌, pos, Option, None, Some, Ok}
+-- The claims of `_Assume_bounds_cast`, if it gives something, and what a string literal is as the operand of a bounds cast
+-- that is tested.
+use Rattle.std.proofs.Common.{◌≡◌, ◌⊎◌, inr, refl, sym, ap, subst, ◌∙◌, ℕ, ◌+◌, true, List}
+use Rattle.std.specs.Prelude.{◌<◌, ◌^◌, ◌&&◌, length, pos, Option, None, Some, Ok}
+use Rattle.std.proofs.lemmas.Bool.{and_parts}
 use Rattle.ckc_types.specs.declared.types.Kind.TheVariants as kind
 use Rattle.ckc_types.specs.declared.types.CType.{CType}
-use Rattle.ckc_syntax.specs.declared.tree.Node.{Node-F}
-use Rattle.ckc_typed.specs.Trees.{NotedExpr, TypeTree}
-use Rattle.ckc_typed.specs.Types.{is_integer, is_pointer, kind_of}
+use Rattle.ckc_types.specs.declared.types.CType.TheVariants as ctype
+use Rattle.ckc_syntax.specs.declared.tree.Name.{Name}
+use Rattle.ckc_syntax.specs.declared.tree.Node.{Node-F, map-Node, out-Node, fold_out-Node}
+use Rattle.ckc_syntax.specs.declared.tree.Expr.{fold_out-Expr}
+use Rattle.ckc_syntax.specs.Inside.{listed, inside_limits}
+use Rattle.ckc_typed.specs.declared.typed.Note.{Note}
+use Rattle.ckc_typed.specs.Conversions.{is_string, is_string_form, is_terminated_kind, takes_string}
+use Rattle.ckc_typed.specs.Statics.{Strings, node_strings, expr_strings, strings_of_expr}
+use Rattle.ckc_typed.specs.Trees.{NotedLimits, NotedNode, NotedExpr, NotedLayer, TypeTree}
+use Rattle.ckc_typed.specs.Types.{is_integer, is_char, is_pointer, kind_of, element_of}
 use Rattle.ckc_bounds_views.specs.Parts.{LimitsView, NodeView}
 use Rattle.ckc_bounds_views.specs.Views.{node_view, view}
 use Rattle.ckc_bounds_statements.specs.Paths.{Here}
 use Rattle.ckc_source.specs.declared.expr.Integer.{Integer}
 use Rattle.ckc_source.specs.declared.expr.Integer.TheVariants.{Int}
 use Rattle.ckc_source.specs.declared.expr.Pointee.{Pointee}
+use Rattle.ckc_source.specs.declared.outcome.Range.TheVariants.{Within}
 use Rattle.ckc_source.specs.declared.outcome.Value.{Value}
 use Rattle.ckc_source.specs.Code.{Expr, Number, Trusted}
 use Rattle.ckc_source.specs.Eval.{Store, given, reads, trusts, evaluated}
 use Rattle.ckc_source.specs.Words.{exact, elements_behind}
+use Rattle.ckc_build_values.specs.Expressions.{Part, NodePart, LimitsPart, limits_parts, node_parts, expr_parts, node_value, part_of, part_of_node, part_of_limits}
 use Rattle.ckc_build_values.specs.Kinds.{integer_of, pointee_of}
-use Rattle.ckc_blame_sound.specs.Settings.{Setting}
+use Rattle.ckc_build_values.specs.Names.{address_of}
+use Rattle.ckc_blame_sound.specs.Settings.{Setting, IsString, AreStrings}
 use Rattle.ckc_blame_sound.specs.Points.{HoldsAt}
 use Rattle.ckc_blame_sound.proofs.Types.{word_wide}
+use Rattle.ckc_blame_pointers.specs.Covered.{IsSoundStore}
 use Rattle.ckc_blame_pointers.specs.Meant.{IsNotStuck}
 use Rattle.ckc_blame_pointers.specs.Owed.{IfGives}
 use Rattle.ckc_blame_pointers.proofs.Binary.{ExprClaims}
 use Rattle.ckc_blame_pointers.proofs.Bytes.{IsAmount, amount_sized}
-use Rattle.ckc_blame_pointers.proofs.Casts.{IsSize, IsSized, cast_comes, one_sized}
+use Rattle.ckc_blame_pointers.proofs.Casts.{IsTestable, IsSize, IsSized, cast_comes, one_sized}
 use Rattle.ckc_blame_pointers.proofs.Given.{given_gives, gives_weaker, gives_of}
+use Rattle.ckc_blame_pointers.proofs.Literals.{literal_true}
 use Rattle.ckc_blame_pointers.proofs.Nodes.{NodeClaims}
 use Rattle.ckc_blame_pointers.proofs.Reading.{Ranged, Reads, read_gives}
+use Rattle.ckc_blame_pointers.proofs.Strings.{strings_in_node, string_literal, char_type, ends_in}
 use Rattle.ckc_blame_pointers.proofs.Sums.{IsIndex}
 
 -- ---- the cast
@@ -92,3 +107,44 @@ module _ (s : Setting) (store : Store) (entry : List ℕ) (here : Here) (h : Hol
   trusted_amount f l same counted w integer right index several u is =
       trusted_claims s store entry here h e t pointer v left (node_view s.frame (Node-F.Trusted x (view s.frame e) (Some l))) (integer_of f.note.ctype) u
       (assumed_sized s store here x e (Some l) t (integer_of f.note.ctype) u (amount_sized s store entry here x e t f l same counted w integer right index several u is))
+
+-- ---- the operand of a cast that is tested
+
+-- A string literal may be tested for a pointer to characters that end with a zero.
+pub string_testable : (s : Setting) (store : Store) (entry : List ℕ) (next : ℕ) → IsSoundStore s store next → (here : Here) → HoldsAt s store entry here → (t : CType) → is_pointer t ≡ true → kind_of t ≡ Some kind.Nt → element_of t ≡ ctype.Char
+    → (bytes : List ℕ) (k : ℕ) → IsString s bytes k → IsTestable s store t (record { number = address_of s.text k; range = Within (address_of s.text k) (address_of s.text k + length bytes) })
+string_testable s store entry next ready here h t pointer ends element bytes k string =
+    inr (
+      address_of s.text k,
+      address_of s.text k + length bytes,
+      refl,
+      literal_true s store entry next ready here h t bytes k (string_literal s t bytes k (record { pointer = pointer; kind_is = ends; element = element }) string),
+    )
+
+-- So may an operand that is a string literal, whatever its own type.
+module _ (s : Setting) (store : Store) (entry : List ℕ) (next : ℕ) (ready : IsSoundStore s store next) (here : Here) (h : HoldsAt s store entry here) (t : CType) (e : NotedExpr) (pointer : is_pointer t ≡ true) (k : ℕ) (v : Value) where
+  abbrev part_node : NotedLayer → Node-F Name Note LimitsPart NodePart Part
+  part_node = map-Node Name Note NotedLimits NotedNode NotedExpr LimitsPart NodePart Part part_of_limits part_of_node part_of
+
+  by_node : (x : NotedLayer) → is_string_form x ≡ true → (is_terminated_kind (kind_of t) && is_char (element_of t)) ≡ true → AreStrings s k (strings_in_node x)
+      → evaluated store (node_value (part_node x) e.note e.pos s.text s.variables k) ≡ Ok v → IsTestable s store t v
+  by_node (Node-F.Text bytes) string ends strings is =
+      let p = and_parts (is_terminated_kind (kind_of t)) (is_char (element_of t)) ends in
+      let same : record { number = address_of s.text k; range = Within (address_of s.text k) (address_of s.text k + length bytes) } ≡ v = cc in
+      subst (λ v. IsTestable s store t v) same (string_testable s store entry next ready here h t pointer (ends_in (kind_of t) p.0) (char_type (element_of t) p.1) bytes k strings.0)
+  by_node x string ends strings is = absurd (cc)
+
+  pub string_operand : takes_string t e ≡ true → AreStrings s k (strings_of_expr e) → evaluated store ((part_of e).value s.text s.variables k) ≡ Ok v → IsTestable s store t v
+  string_operand takes strings is =
+      let p = and_parts (is_string e) (is_terminated_kind (kind_of t) && is_char (element_of t)) takes in
+      by_node (out-Node Name Note e.node) p.0 p.1 (subst (λ xs. AreStrings s k xs) strings_are strings) (sym (ap (λ (x : Expr). evaluated store x) value_is) ∙ is)
+    where
+      strings_are : strings_of_expr e ≡ strings_in_node (out-Node Name Note e.node)
+      strings_are =
+          fold_out-Expr Name Note Strings Strings Strings (inside_limits listed (λ e. e)) node_strings expr_strings e
+          ∙ fold_out-Node Name Note Strings Strings Strings (inside_limits listed (λ e. e)) node_strings expr_strings e.node
+
+      value_is : (part_of e).value s.text s.variables k ≡ node_value (part_node (out-Node Name Note e.node)) e.note e.pos s.text s.variables k
+      value_is =
+          ap (λ (q : Part). q.value s.text s.variables k) (fold_out-Expr Name Note LimitsPart NodePart Part limits_parts node_parts expr_parts e)
+          ∙ ap (λ (q : NodePart). q.value e.note e.pos s.text s.variables k) (fold_out-Node Name Note LimitsPart NodePart Part limits_parts node_parts expr_parts e.node)
