@@ -5,6 +5,7 @@ use Rattle.ckc_base.specs.declared.arithmetic.Mode.{Mode}
 use Rattle.ckc_base.specs.declared.arithmetic.Mode.TheVariants.{Unchecked}
 use Rattle.ckc_types.specs.declared.types.Kind.{Kind}
 use Rattle.ckc_types.specs.declared.types.Kind.TheVariants as kind
+use Rattle.ckc_types.specs.declared.types.Kind.TheVariants.{One}
 use Rattle.ckc_types.specs.declared.types.CType.{CType, CType-F, out-CType}
 use Rattle.ckc_types.specs.declared.types.MemberShape.{MemberShape}
 use Rattle.ckc_types.specs.declared.types.MemberBounds.{MemberBounds}
@@ -127,7 +128,7 @@ pub record IsStaticArray (s : Setting) (t : CType) (k : ℕ) : Type 0 where
   pub judged : slice_get s.frame.statics k ≡ Some object
   pub kind : Kind
   pub array : object.array ≡ Some kind
-  pub several : kind ≡ kind.One → ⊥
+  pub several : kind ≡ One → ⊥
   pub ends : object.terminated ≡ is_terminated_kind (Some kind)
   pub free : slice_get (objects_elaborated s.text) k ≡ Some (object_elaborated s.text.layout (Some true) object)
   pub pointer : is_pointer t ≡ true

@@ -48,6 +48,7 @@ pub mod Promised
 pub mod Rooms
 pub mod ScalarValues
 pub mod CallsMade
+mod SafeTargets
 pub mod CoveredTargets
 pub mod FitExprs
 pub mod CoveredRights

@@ -1,5 +1,5 @@
 -- Steps of either mode: which stores go through unchecked pointers, and what a step does that stores through none.
-use Rattle.std.specs.Prelude.{◌≡◌, ◌×◌, Bool, true, false, List, [], ◌∷◌}
+use Rattle.std.specs.Prelude.{◌≡◌, Bool, true, false, List, ◌∷◌}
 use Rattle.std.specs.List.{list_any}
 use Rattle.ckc_base.specs.declared.arithmetic.Mode.{Mode}
 use Rattle.ckc_base.specs.declared.arithmetic.Mode.TheVariants.{Checked, Unchecked}
