@@ -1,7 +1,8 @@
 -- What an expression comes to, in the words of containment.
 use Rattle.std.proofs.Common.{◌≡◌, inl, inr, refl, sym, ap, subst, ◌∙◌, ℕ, suc, Bool, true, false, List, [], ◌∷◌, arith}
-use Rattle.std.specs.Prelude.{◌+◌, ◌==◌, ◌<◌, ◌≤◌, ◌^◌, length, slice_index, nat_lt, if◌then◌else◌, ℤ, pos, ◌+ℤ◌, ◌*ℤ◌, Option, None, Some, IfSome, Ok, Err, IsOk}
+use Rattle.std.specs.Prelude.{◌+◌, ◌<◌, ◌≤◌, ◌^◌, length, slice_index, nat_lt, if◌then◌else◌, ℤ, pos, ◌+ℤ◌, ◌*ℤ◌, Option, None, Some, IfSome, Ok, IsOk}
 use Rattle.std.proofs.lemmas.Bool.Decides.{nat_tests}
+use Rattle.ckc_base.specs.declared.arithmetic.Mode.{Mode}
 use Rattle.ckc_types.specs.declared.types.CType.{CType}
 use Rattle.ckc_linear.specs.declared.forms.Base.{Base}
 use Rattle.ckc_linear.specs.declared.forms.Base.TheVariants as base
@@ -12,6 +13,7 @@ use Rattle.ckc_typed.specs.declared.environment.Globals.{Globals}
 use Rattle.ckc_typed.specs.declared.typed.Note.{Note}
 use Rattle.ckc_typed.specs.declared.typed.Range.{Range}
 use Rattle.ckc_typed.specs.declared.typed.Range.TheVariants as range
+use Rattle.ckc_typed.specs.Conversions.{is_string}
 use Rattle.ckc_typed.specs.Statics.{strings_of_expr}
 use Rattle.ckc_typed.specs.Trees.{NotedLimits, NotedNode, NotedExpr}
 use Rattle.ckc_typed.specs.Types.{is_pointer}
@@ -23,10 +25,8 @@ use Rattle.ckc_bounds_views.specs.Ranges.{own_numbers}
 use Rattle.ckc_bounds_views.specs.Views.{limits_view, node_view, expr_view, view_of_limits, view_of_node, view}
 use Rattle.ckc_bounds_statements.specs.Paths.{Here}
 use Rattle.ckc_bounds_stores.specs.declared.values.Numbered.{Numbered}
-use Rattle.ckc_source.specs.declared.outcome.Halt.TheVariants as halt
 use Rattle.ckc_source.specs.declared.outcome.Value.{Value}
-use Rattle.ckc_source.specs.Eval.{Store, plain, ranged, reads_within, reads, evaluated}
-use Rattle.ckc_source.specs.Runs.{is_true}
+use Rattle.ckc_source.specs.Eval.{Store, reads, evaluated}
 use Rattle.ckc_source.specs.Words.{exact}
 use Rattle.ckc_build_values.specs.Expressions.{expr_elaborated}
 use Rattle.ckc_build_values.specs.Kinds.{integer_of, pointee_of, size_behind}
@@ -46,12 +46,15 @@ use Rattle.ckc_blame_sound.specs.GivenValues.{memory_of}
 use Rattle.ckc_blame_sound.proofs.SameViews.{same_view}
 use Rattle.ckc_blame_pointers.specs.Valuations.{Valuation, Fits, Extends, AreNumbers, address_in, address_by, IsAtPlace, IsReadIn, IsInRange, BaseBetween, RangeBetween}
 use Rattle.ckc_blame_pointers.specs.Covered.{DeclareLocals, IsSoundStore, IsCovered}
-use Rattle.ckc_blame_pointers.specs.Meant.{IsNotStuck, HasPlace, IsMeant}
-use Rattle.ckc_blame_pointers.proofs.Claims.{weaker}
+use Rattle.ckc_blame_pointers.specs.Owed.{Comes}
+use Rattle.ckc_blame_pointers.specs.Meant.{HasPlace, IsMeant}
 use Rattle.ckc_blame_pointers.proofs.Later.{still_fits}
 use Rattle.ckc_blame_pointers.proofs.Whole.{judged_meant}
 use Rattle.ckc_blame_given.specs.Gives.{Continues, Gives, GivesOn}
 use Rattle.ckc_blame_given.specs.At.{GivesAt}
+use Rattle.ckc_blame_given.proofs.Comes.{comes_as}
+use Rattle.ckc_blame_given.proofs.Ended.{IsEndedAt, judged_ended}
+use Rattle.ckc_blame_given.proofs.Looser.{true_read}
 
 -- ---- null
 
@@ -100,16 +103,6 @@ module _ (s : Setting) (store : Store) (first limit : ℕ) (w : contained.Valuat
   form_same : (size : ℕ) (f : Form) → BaseBetween first limit f.base → address_by s store.locals (of_numbers w addresses) size f ≡ form_address w size f
   form_same size f h = ap (λ a. a +ℤ (pos size *ℤ number_of w.number f)) (base_same f.base h)
 
-  reads_ok : (t : CType) (low high : ℤ) (n from to : ℕ) → pos from ≡ low → pos to ≡ high → is_true store.shapes store.blocks (pointee_of s.text.layout t) n from to ≡ true
-      → IsOk (reads store.shapes store.blocks (pointee_of s.text.layout t) n low high)
-  reads_ok t low high n from to low_is high_is true_there =
-      subst (λ low. IsOk (reads store.shapes store.blocks (pointee_of s.text.layout t) n low high)) low_is
-      (subst (λ high. IsOk (reads store.shapes store.blocks (pointee_of s.text.layout t) n (pos from) high)) high_is (by (n == 0)))
-    where
-      by : (b : Bool) → IsOk (if b then plain 0 else reads_within store.shapes store.blocks (pointee_of s.text.layout t) n (pos from) (pos to))
-      by true = refl
-      by false = subst (λ c. IsOk (if c then ranged n from to else Err halt.Stuck)) (sym true_there) refl
-
   null_ok : (t : CType) (low high : ℤ) (n : ℕ) → n ≡ 0 → IsOk (reads store.shapes store.blocks (pointee_of s.text.layout t) n low high)
   null_ok t low high n z = subst (λ n. IsOk (reads store.shapes store.blocks (pointee_of s.text.layout t) n low high)) (sym z) refl
 
@@ -118,7 +111,7 @@ module _ (s : Setting) (store : Store) (first limit : ℕ) (w : contained.Valuat
   read_within t range.Any n b i = tt
   read_within t (range.Known low high) n b (inl z) = null_ok t (form_address w (size_behind s.text.layout t) low) (form_address w (size_behind s.text.layout t) high) n z
   read_within t (range.Known low high) n b (inr e) =
-      reads_ok t (form_address w (size_behind s.text.layout t) low) (form_address w (size_behind s.text.layout t) high) n e.from e.to
+      true_read store.shapes store.blocks (pointee_of s.text.layout t) n e.from e.to (form_address w (size_behind s.text.layout t) low) (form_address w (size_behind s.text.layout t) high)
       (e.low_is ∙ form_same (size_behind s.text.layout t) low b.0) (e.high_is ∙ form_same (size_behind s.text.layout t) high b.1) e.true_there
 
   at_place : (t : CType) (o : Option Form) (n : ℕ) → IfSome o (λ f. BaseBetween first limit f.base) → IsAtPlace s store.locals (of_numbers w addresses) t o n → (f : Form) → o ≡ Some f
@@ -130,7 +123,8 @@ module _ (s : Setting) (store : Store) (first limit : ℕ) (w : contained.Valuat
 
 module _ (globals : Globals) (s : Setting) (agrees : Agrees globals s) (declares : DeclareLocals s) (store : Store) (entry : List ℕ) (next : ℕ) (ready : IsSoundStore s store next) (here : Here) (h : HoldsAt s store entry here)
     (e : NotedExpr) (p : Value) (m : IsMeant s store entry here (view s.frame e) p) (type_is : (view s.frame e).ctype ≡ e.note.ctype)
-    (form_is : (w : contained.Valuation) → IsValuationOf s store.locals w → (facts : Known) (f : Form) → AreFacts w facts → (view s.frame e).form facts ≡ Some f → number_of w.number f ≡ exact (integer_of e.note.ctype) p.number) where
+    (form_is : (w : contained.Valuation) → IsValuationOf s store.locals w → (facts : Known) (f : Form) → AreFacts w facts → (view s.frame e).form facts ≡ Some f → number_of w.number f ≡ exact (integer_of e.note.ctype) p.number)
+    (ended_is : is_string e ≡ true → IsEndedAt s store here.at (view s.frame e) e.note.ctype p.number) where
   module _ (from : Numbered) (before : contained.Valuation) (low : from.value + (view s.frame e).values + 1 < 2 ^ 32) (little : from.fresh + length ((view s.frame e).fresh here.at) < 2 ^ 32) (are : AreFresh s.frame from.fresh)
       (values : IsValuationOf s store.locals before) where
     abbrev limit : ℕ
@@ -183,11 +177,11 @@ module _ (globals : Globals) (s : Setting) (agrees : Agrees globals s) (declares
     unfolding after
     gives later ok goes = record {
       word = subst (λ t. IsWordOf t p.number) type_is m.word;
-      place = λ facts f told there. subst (λ t. form_address later (size_behind s.text.layout t) f ≡ pos p.number) type_is
-          (at_place s store from.value limit later ok place.after.addresses known (view s.frame e).ctype ((view s.frame e).place from.value facts) p.number (place.place_between facts) (place.place_in back goes_back facts told) f there);
+      place = placed;
       form = λ facts f told there. form_is later ok facts f told there;
       null = λ null. subst (λ q. IsInRange s store place.after (view s.frame e).ctype q p) (null_range s.frame e null from.value from.fresh here.at) place.range;
       wide = read here.at.widened h.widened;
+      ended = λ string. ended_is string later ok.zero from.value from.fresh placed;
       narrow = read [] h.bounded;
       fresh = numbers_of later (capped from.fresh 1) ((view s.frame e).fresh here.at) (place.numbers back goes_back);
     }
@@ -204,6 +198,11 @@ module _ (globals : Globals) (s : Setting) (agrees : Agrees globals s) (declares
             over : nat_lt n from.value ≡ false
             over = grind (arith, nat_tests)
 
+        placed : (facts : Known) (f : Form) → AreFacts later facts → (view s.frame e).place from.value facts ≡ Some f → form_address later (size_behind s.text.layout e.note.ctype) f ≡ pos p.number
+        placed facts f told there =
+            subst (λ t. form_address later (size_behind s.text.layout t) f ≡ pos p.number) type_is
+            (at_place s store from.value limit later ok place.after.addresses known (view s.frame e).ctype ((view s.frame e).place from.value facts) p.number (place.place_between facts) (place.place_in back goes_back facts told) f there)
+
         read : (widened : List ℕ) → AreBounded s store widened here.seen
             → IsReadWithin (memory_of s store e.note.ctype) later p.number ((view s.frame e).range from.value from.fresh (record here.at { widened = widened }))
         read widened bounded =
@@ -217,16 +216,18 @@ module _ (globals : Globals) (s : Setting) (agrees : Agrees globals s) (declares
   pub gives_at : GivesAt s store here.at e p.number
   gives_at from before low little are values = gives_on from before low little are values
 
-pub judged_gives : (globals : Globals) (s : Setting) (agrees : Agrees globals s) (declares : DeclareLocals s) (store : Store) (entry : List ℕ) (next : ℕ) (ready : IsSoundStore s store next) (here : Here) (before after : NotedExpr)
-    (fresh literals : ℕ) → fresh + length ((view s.frame before).fresh here.at) < 2 ^ 32 → AreFresh s.frame fresh → IsTyped globals s before → (view s.frame before).judged fresh here.at ≡ Ok after → IsCovered s store here.seen after
+pub judged_gives : (m : Mode) (globals : Globals) (s : Setting) (agrees : Agrees globals s) (declares : DeclareLocals s) (store : Store) (entry : List ℕ) (next : ℕ) (ready : IsSoundStore s store next) (here : Here) (before after : NotedExpr)
+    (fresh literals : ℕ) → fresh + length ((view s.frame before).fresh here.at) < 2 ^ 32 → AreFresh s.frame fresh → IsTyped globals s before → (view s.frame before).judged fresh here.at ≡ Ok after → IsCovered m s store here.seen after
     → AreStrings s literals (strings_of_expr after) → HoldsAt s store entry here
-    → IsNotStuck (λ p. GivesAt s store here.at before p.number) (evaluated store (expr_elaborated s.text s.variables literals after))
-judged_gives globals s agrees declares store entry next ready here before after fresh literals little are typed is covered strings h =
-    weaker (evaluated store (expr_elaborated s.text s.variables literals after)) (judged_meant globals s agrees declares store entry next ready here before after fresh literals little are typed is covered strings h)
-    (λ p there m. gives_at globals s agrees declares store entry next ready here h before p m (type_of before)
+    → Comes m (λ p. GivesAt s store here.at before p.number) (evaluated store (expr_elaborated s.text s.variables literals after))
+judged_gives m globals s agrees declares store entry next ready here before after fresh literals little are typed is covered strings h =
+    comes_as m (IsMeant s store entry here (view s.frame before)) (λ p. GivesAt s store here.at before p.number) (evaluated store (expr_elaborated s.text s.variables literals after))
+    (judged_meant m globals s agrees declares store entry next ready here before after fresh literals little are typed is covered strings h)
+    (λ p there meant. gives_at globals s agrees declares store entry next ready here h before p meant (type_of before)
     (λ w values facts f told formed.
     sym (subst (λ t. exact (integer_of t) p.number ≡ number_of w.number f) types_are
-    (form_exact_in globals s agrees after literals store p good h.words there w.number (fits_of s store.locals w (λ n. 0) values) facts told f (subst (λ (v : View). v.form facts ≡ Some f) (sym same) formed)))))
+    (form_exact_in globals s agrees after literals store p good h.words there w.number (fits_of s store.locals w (λ n. 0) values) facts told f (subst (λ (v : View). v.form facts ≡ Some f) (sym same) formed))))
+    (judged_ended globals s store entry next ready here h before after fresh literals is good same types_are strings p there))
   where
     same : view s.frame after ≡ view s.frame before
     same = same_view s.frame before after fresh here.at is s.frame

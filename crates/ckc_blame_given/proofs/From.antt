@@ -10,12 +10,11 @@ use Rattle.ckc_syntax.specs.declared.tree.Node.{out-Node}
 use Rattle.ckc_syntax.specs.declared.tree.Expr.{every_here-Expr}
 use Rattle.ckc_typed.specs.declared.typed.Range.{Range}
 use Rattle.ckc_typed.specs.declared.typed.Range.TheVariants as range
-use Rattle.ckc_typed.specs.Conversions.{is_null, is_allocation, converts}
+use Rattle.ckc_typed.specs.Conversions.{is_null, is_string, is_allocation, converts}
 use Rattle.ckc_typed.specs.declared.environment.Globals.{Globals}
 use Rattle.ckc_typed.specs.declared.typed.Note.{Note}
-use Rattle.ckc_typed.specs.Operands.{is_raw_kind}
 use Rattle.ckc_typed.specs.Trees.{NotedExpr}
-use Rattle.ckc_typed.specs.Types.{is_integer, is_pointer, is_char, is_pointer_form, kind_of}
+use Rattle.ckc_typed.specs.Types.{is_integer, is_pointer, is_char, is_pointer_form}
 use Rattle.ckc_typed_welltyped.specs.Expressions.{AnyLimits, AnyNode}
 use Rattle.ckc_bounds_known.specs.Ranges.{range_in}
 use Rattle.ckc_bounds_points.specs.Flow.{State}
@@ -38,17 +37,17 @@ use Rattle.ckc_blame_sound.specs.Containment.{IsReadWithin, IsRanged}
 use Rattle.ckc_blame_sound.specs.Elements.{number_kept}
 use Rattle.ckc_blame_sound.specs.GivenValues.{memory_of, IsNew, IsFrom}
 use Rattle.ckc_blame_sound.specs.Passed.{IsNewArgument}
-use Rattle.ckc_blame_given.specs.Gives.{Gives}
-use Rattle.ckc_blame_given.proofs.Converted.{Becomes, becomes, element_looser}
+use Rattle.ckc_blame_given.specs.Gives.{ending, Gives}
+use Rattle.ckc_blame_given.proofs.Converted.{Becomes, becomes, element_looser, ending_looser}
 use Rattle.ckc_blame_given.proofs.Looser.{read_looser}
 use Rattle.ckc_blame_given.proofs.Narrow.{range_narrowed}
-use Rattle.ckc_blame_given.proofs.Views.{known_range, placed_pointer, allocates_is}
+use Rattle.ckc_blame_given.proofs.Views.{known_range, string_range, placed_pointer, allocates_is}
 
--- which conversion it is, of a typed expression that is no `calloc` and no unchecked pointer
-pub becomes_typed : (globals : Globals) (s : Setting) (e : NotedExpr) (t : CType) → IsTyped globals s e → is_raw_kind (kind_of e.note.ctype) ≡ false → converts t e ≡ true → is_allocation e ≡ false → Becomes t e
-becomes_typed globals s e t typed checked goes whole =
+-- which conversion it is, of a typed expression that is no `calloc`
+pub becomes_typed : (globals : Globals) (s : Setting) (e : NotedExpr) (t : CType) → IsTyped globals s e → converts t e ≡ true → is_allocation e ≡ false → Becomes t e
+becomes_typed globals s e t typed goes whole =
     let row : IsRow globals s (out-Node Name Note e.node) e.note = every_here-Expr Name Note AnyLimits AnyNode (HasRow globals s) e typed in
-    becomes globals s.variables t e row.mode row.row (λ s. checked) goes whole
+    becomes globals s.variables t e row.mode row.row goes whole
 
 -- no form is a number of a pointer type
 no_form : (t : CType) (facts : Known) (o : Option Form) (f : Form) → is_pointer t ≡ true → in_type facts t o ≡ Some f → ⊥
@@ -67,22 +66,26 @@ module _ (s : Setting) (store : Store) (at : State) (v : Valuation) (e : NotedEx
   both : {A : Type 0} → is_integer e.note.ctype ≡ true → is_pointer e.note.ctype ≡ true → A
   both i p = let n = no_pointer e.note.ctype i in absurd cc
 
-  read : (r : Range) → ((low high : Form) → r ≡ range.Known low high → (is_pointer e.note.ctype ≡ true) × (is_null e ≡ false)) → IsReadWithin (memory_of s store e.note.ctype) v n r → IsReadWithin (memory_of s store t) v n r
-  read (range.Known low high) known h = by how (known low high refl)
+  read : (r : Range) → ((low high : Form) → r ≡ range.Known low high → (is_pointer e.note.ctype ≡ true) × (is_null e ≡ false)) → IsReadWithin (memory_of s store e.note.ctype) v n r
+      → (is_string e ≡ true → IsReadWithin (ending (memory_of s store e.note.ctype)) v n r) → IsReadWithin (memory_of s store t) v n r
+  read (range.Known low high) known h ended = by how (known low high refl)
     where
       by : Becomes t e → (is_pointer e.note.ctype ≡ true) × (is_null e ≡ false) → IsReadWithin (memory_of s store t) v n (range.Known low high)
       by (Becomes.Integers to from) k = both from k.0
       by (Becomes.Null to null bare) k = let n = k.1 in absurd cc
+      by (Becomes.Literal to string ends element) k =
+          read_looser (ending (memory_of s store e.note.ctype)) (pointee_of s.text.layout t) v n (range.Known low high) (ending_looser s.text.layout t e.note.ctype element) (ended string)
       by (Becomes.Pointers to element terminated) k =
           read_looser (memory_of s store e.note.ctype) (pointee_of s.text.layout t) v n (range.Known low high) (element_looser s.text.layout t e.note.ctype element terminated) h
-  read range.Any known h = tt
-  read range.Missing known h = tt
+  read range.Any known h ended = tt
+  read range.Missing known h ended = tt
 
-  wide : IsReadWithin (memory_of s store t) v n ((view s.frame e).range from.value from.fresh at)
-  wide = read ((view s.frame e).range from.value from.fresh at) (λ low high is. known_range s.frame e from.value from.fresh at low high is) g.wide
+  pub wide : IsReadWithin (memory_of s store t) v n ((view s.frame e).range from.value from.fresh at)
+  wide = read ((view s.frame e).range from.value from.fresh at) (λ low high is. known_range s.frame e from.value from.fresh at low high is) g.wide g.ended
 
-  narrow_there : IsReadWithin (memory_of s store t) v n ((view s.frame e).range from.value from.fresh (narrow at))
+  pub narrow_there : IsReadWithin (memory_of s store t) v n ((view s.frame e).range from.value from.fresh (narrow at))
   narrow_there = read ((view s.frame e).range from.value from.fresh (narrow at)) (λ low high is. known_range s.frame e from.value from.fresh (narrow at) low high is) g.narrow
+      (λ string. subst (IsReadWithin (ending (memory_of s store e.note.ctype)) v n) (string_range s.frame e string from.value from.fresh at (narrow at)) (g.ended string))
 
   address : (facts : Known) (f : Form) → AreFacts v facts → (view s.frame e).place from.value facts ≡ Some f → form_address v (size_behind s.text.layout t) f ≡ pos n
   address facts f all is = by how
@@ -90,6 +93,7 @@ module _ (s : Setting) (store : Store) (at : State) (v : Valuation) (e : NotedEx
       by : Becomes t e → form_address v (size_behind s.text.layout t) f ≡ pos n
       by (Becomes.Integers to integer) = both integer (placed_pointer s.frame e from.value facts f is)
       by (Becomes.Null to null bare) = let n = bare s.frame from.value facts in absurd cc
+      by (Becomes.Literal to string ends element) = ap (λ size. form_address v size f) (ending_looser s.text.layout t e.note.ctype element).size ∙ g.place facts f all is
       by (Becomes.Pointers to element terminated) = ap (λ size. form_address v size f) (element_looser s.text.layout t e.note.ctype element terminated).size ∙ g.place facts f all is
 
   -- its form in the type is the number of the word that an object of the type keeps
@@ -105,6 +109,7 @@ module _ (s : Setting) (store : Store) (at : State) (v : Valuation) (e : NotedEx
           let m = number_in_type v.number zero facts all t ((view s.frame e).form facts) f is in
           sym (kept_by to (record { word = g.word; number = sym (g.form facts f all m.0) }) m.1 (is_char t) refl).number
       by (Becomes.Null to null bare) = absurd (no_form t facts ((view s.frame e).form facts) f to is)
+      by (Becomes.Literal to string ends element) = absurd (no_form t facts ((view s.frame e).form facts) f to is)
       by (Becomes.Pointers to element terminated) = absurd (no_form t facts ((view s.frame e).form facts) f to is)
 
   -- ---- in the words of containment

@@ -1,10 +1,12 @@
-pub mod Bridge
+pub mod Comes
 pub mod Narrow
 pub mod Looser
 pub mod Views
 pub mod Converted
 pub mod From
 pub mod Layers
+pub mod Ended
+pub mod Bridge
 pub mod Hits
 pub mod Places
 pub mod Statics

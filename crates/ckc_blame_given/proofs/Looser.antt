@@ -72,6 +72,16 @@ within_looser shapes blocks to other n (pos low) (pos high) k h = by (is_true sh
 within_looser shapes blocks to other n (pos low) (negsuc high) k h = h
 within_looser shapes blocks to other n (negsuc low) high k h = h
 
+-- a range that is true may be read within
+pub true_read : (shapes : List Shape) (blocks : List Block) (to : Pointee) (n from upto : ℕ) (low high : ℤ) → pos from ≡ low → pos upto ≡ high → is_true shapes blocks to n from upto ≡ true
+    → IsOk (reads shapes blocks to n low high)
+true_read shapes blocks to n from upto low high low_is high_is true_there =
+    subst (λ low. IsOk (reads shapes blocks to n low high)) low_is (subst (λ high. IsOk (reads shapes blocks to n (pos from) high)) high_is (by (n == 0)))
+  where
+    by : (b : Bool) → IsOk (if b then plain 0 else reads_within shapes blocks to n (pos from) (pos upto))
+    by true = refl
+    by false = subst (λ c. IsOk (if c then ranged n from upto else Err Stuck)) (sym true_there) refl
+
 pub reads_looser : (shapes : List Shape) (blocks : List Block) (to other : Pointee) (n : ℕ) (low high : ℤ) → IsLooser to other → IsOk (reads shapes blocks to n low high)
     → IsOk (reads shapes blocks other n low high)
 reads_looser shapes blocks to other n low high k h = by (n == 0) h

@@ -5,6 +5,7 @@ use Rattle.std.specs.List.{All, Contains, list_any}
 use Rattle.std.specs.Option.{option_map}
 use Rattle.std.proofs.lemmas.Bool.{and_parts, eqb-true}
 use Rattle.std.proofs.lemmas.List.Elements.{All-contains, Contains-append_right}
+use Rattle.ckc_base.specs.declared.arithmetic.Mode.{Mode}
 use Rattle.ckc_base.specs.declared.arithmetic.Width.{Width}
 use Rattle.ckc_base.specs.declared.places.Pos.{Pos}
 use Rattle.ckc_base.specs.declared.runtime_checks.Check.TheVariants as check
@@ -57,10 +58,11 @@ use Rattle.ckc_blame_sound.proofs.Ranges.{some_of, contains_at, true_cell}
 use Rattle.ckc_blame_sound.proofs.Same.{same_equal}
 use Rattle.ckc_blame_sound.specs.Elements.{AreCounted}
 use Rattle.ckc_blame_pointers.specs.Covered.{IsSoundStore}
+use Rattle.ckc_blame_pointers.specs.Owed.{Comes}
 use Rattle.ckc_blame_pointers.proofs.Structures.{IsWholeElement, whole_element}
 use Rattle.ckc_blame_pointers.proofs.Truths.{either}
 use Rattle.ckc_blame_given.specs.Planned.{IsPartTarget, IsMemoryTarget, IsTarget}
-use Rattle.ckc_blame_given.specs.Targets.{KeepRunsFree, begin_of, LiesIn, GoesThere, ComesTo}
+use Rattle.ckc_blame_given.specs.Targets.{KeepRunsFree, begin_of, LiesIn, GoesThere}
 use Rattle.ckc_blame_given.proofs.Hits.{IsHit}
 use Rattle.ckc_blame_pointers.proofs.Reached.{IsElementReached, IsRunReached, scalar_reached}
 
@@ -260,7 +262,7 @@ module _ (s : Setting) (store : Store) (next : ℕ) (ready : IsSoundStore s stor
 
   -- ---- accesses
 
-  module _ (no_local : local_of p.target ≡ None) where
+  module _ (mode : Mode) (no_local : local_of p.target ≡ None) where
     going : (access : Access) (a : ℕ) (z : Option Pos) → place_in a access.offset ≡ a + access.offset → IsIn (a + access.offset) → Lies (a + access.offset)
         → ((n : ℕ) (w : Place) → n < 2 ^ 32 → allowed (place.Memory (place_in a access.offset) wide z) n ≡ Ok w → IsCellWrite s.text.layout store.blocks w n)
         → Goes (place.Memory (place_in a access.offset) wide z)
@@ -274,21 +276,21 @@ module _ (s : Setting) (store : Store) (next : ℕ) (ready : IsSoundStore s stor
 
     -- through a checked pointer
     pub hit_goes : (t : CType) (access : Access) (x : Value) (a : ℕ) → IsHit s store t access x a → IsPart s.text.layout (element_of t) access.offset wide → IsIn (a + access.offset) → Lies (a + access.offset)
-        → ComesTo Goes (aims_at store wide access x.range a)
+        → Comes mode Goes (aims_at store wide access x.range a)
     hit_goes t access x a hit part in_it lies =
         let cell : IsCell s.text.layout store.blocks (a + access.offset) wide (a == hit.high) =
         true_cell s.text (shapes_elaborated s.text.layout) store.blocks (pointee_of s.text.layout t) x.number hit.low hit.high a access.offset wide ready.sound.memory.placed (are_members s.text.layout ready.names) refl
         (subst (λ sh. is_true sh store.blocks (pointee_of s.text.layout t) x.number hit.low hit.high ≡ true) ready.shapes hit.true_there) hit.reached part in
-        subst (ComesTo Goes) (sym (target_there s.text store.blocks next ready.sound store refl wide access x.range a (a == hit.high) cell))
+        subst (Comes mode Goes) (sym (target_there s.text store.blocks next ready.sound store refl wide access x.range a (a == hit.high) cell))
         (going access a (terminator_at access.through x.range a access.at) (part_place s.text store.blocks next ready.sound a access.offset wide (a == hit.high) cell) in_it lies
         (λ n w small e.
         ranged_write s.text store.blocks next ready.sound wide access hit.low hit.high a n w cell hit.how small (subst (λ z. allowed (place.Memory (place_in a access.offset) wide z) n ≡ Ok w) hit.same e)))
 
     -- by the name of an object
     pub named_goes : (access : Access) (range : Range) (a : ℕ) → IsCell s.text.layout store.blocks (a + access.offset) wide false → IsIn (a + access.offset) → Lies (a + access.offset)
-        → ComesTo Goes (aims_at store wide access range a)
+        → Comes mode Goes (aims_at store wide access range a)
     named_goes access range a cell in_it lies =
-        subst (ComesTo Goes) (sym (target_there s.text store.blocks next ready.sound store refl wide access range a false cell))
+        subst (Comes mode Goes) (sym (target_there s.text store.blocks next ready.sound store refl wide access range a false cell))
         (going access a (terminator_at access.through range a access.at) (part_place s.text store.blocks next ready.sound a access.offset wide false cell) in_it lies
         (λ n w small e. named_write s.text store.blocks next ready.sound wide access range a n w cell small e))
 

@@ -1,6 +1,7 @@
 -- What `*`, `[` and `->` reach.
 use Rattle.std.proofs.Common.{◌≡◌, refl, sym, ap, subst, ◌∙◌, ℕ, Bool, true, false, List}
 use Rattle.std.specs.Prelude.{◌++◌, ◌+◌, ◌<◌, ◌^◌, ◌&&◌, not, if◌then◌else◌, length, Option, None, Some, Ok}
+use Rattle.ckc_base.specs.declared.arithmetic.Mode.{Mode}
 use Rattle.ckc_base.specs.declared.arithmetic.Width.{Width}
 use Rattle.ckc_base.specs.declared.places.Pos.{Pos}
 use Rattle.ckc_types.specs.declared.types.CType.{CType}
@@ -36,18 +37,19 @@ use Rattle.ckc_blame_sound.specs.Points.{HoldsAt}
 use Rattle.ckc_blame_sound.specs.Settings.{Setting, AreStrings}
 use Rattle.ckc_blame_sound.specs.Typed.{IsRow, HasRow, IsTyped, Agrees}
 use Rattle.ckc_blame_pointers.specs.Covered.{DeclareLocals, IsSoundStore, IsCoveredExpr, IsCovered}
-use Rattle.ckc_blame_pointers.specs.Meant.{IsNotStuck}
+use Rattle.ckc_blame_pointers.specs.Owed.{Comes}
 use Rattle.ckc_blame_pointers.proofs.Binary.{ExprClaims}
 use Rattle.ckc_blame_pointers.proofs.Elements.{IsRanged, ranged_pointer}
 use Rattle.ckc_blame_pointers.proofs.Induction.{expr_claims}
 use Rattle.ckc_blame_pointers.proofs.Inside.{IsJudged, judged_is, one_part, two_parts, parts_every, node_every, PartsEvery}
 use Rattle.ckc_blame_pointers.proofs.Numbers.{nothing_behind, same_number}
+use Rattle.ckc_blame_pointers.proofs.Runs.{comes_meant}
 use Rattle.ckc_blame_sound.proofs.Claims.{plain_is}
 use Rattle.ckc_source.specs.Words.{exact, elements_behind}
 use Rattle.ckc_blame_pointers.proofs.Strings.{first_strings, later_strings}
 use Rattle.ckc_blame_pointers.proofs.Sums.{fresh_on}
 use Rattle.ckc_blame_pointers.proofs.Later.{next_more, left_room, right_room, parts_room}
-use Rattle.ckc_blame_given.specs.Targets.{IsThrough, ComesTo}
+use Rattle.ckc_blame_given.specs.Targets.{IsThrough}
 use Rattle.ckc_blame_given.proofs.Hits.{IsHit, counted_aims, through_aims}
 use Rattle.ckc_blame_given.proofs.Layers.{node_whole, viewed, view_by, view_is, part_is, part_by}
 
@@ -89,45 +91,46 @@ module _ (globals : Globals) (s : Setting) (agrees : Agrees globals s) (declares
   pub parts_at : (e : NotedExpr) → IsTyped globals s e → (x : NotedLayer) → out-Node Name Note e.node ≡ x → PartsEvery (HasRow globals s) x
   parts_at e typed x out = subst (PartsEvery (HasRow globals s)) out (parts_every (HasRow globals s) e.node (node_every (HasRow globals s) e typed))
 
-  pub few : (f : NotedExpr) → IsCovered s store here.seen f → (view s.frame f).values + 1 < 2 ^ 32
-  few f c = (every_here-Expr Name Note AnyLimits AnyNode (IsCoveredExpr s store here.seen) f c.0).few
+  pub few : (mode : Mode) (f : NotedExpr) → IsCovered mode s store here.seen f → (view s.frame f).values + 1 < 2 ^ 32
+  few mode f c = (every_here-Expr Name Note AnyLimits AnyNode (IsCoveredExpr mode s store here.seen) f c.0).few
 
-  pub claims : (f : NotedExpr) → IsTyped globals s f → IsCovered s store here.seen f → HasRoom f → (view s.frame f).judged fresh here.at ≡ Ok f → (k : ℕ)
-      → AreStrings s k (strings_of_expr f) → IsNotStuck (ExprClaims s store entry here f) (evaluated store ((part_of f).value s.text s.variables k))
-  claims f typed covered room judged k strings = expr_claims globals s agrees declares store entry next ready f typed here covered h fresh room are judged k strings
+  pub claims : (mode : Mode) (f : NotedExpr) → IsTyped globals s f → IsCovered mode s store here.seen f → HasRoom f → (view s.frame f).judged fresh here.at ≡ Ok f → (k : ℕ)
+      → AreStrings s k (strings_of_expr f) → Comes mode (ExprClaims s store entry here f) (evaluated store ((part_of f).value s.text s.variables k))
+  claims mode f typed covered room judged k strings =
+      comes_meant mode (ExprClaims s store entry here f) (evaluated store ((part_of f).value s.text s.variables k)) (expr_claims mode globals s agrees declares store entry next ready f typed here covered h fresh room are judged k strings)
 
-  ranged_at : (f : NotedExpr) (covered : IsCovered s store here.seen f) (room : HasRoom f) (place : Pos) → access_fault (view s.frame f) place fresh here.at ≡ None → is_counted_kind (kind_of f.note.ctype) ≡ true
-      → (x : Value) → ExprClaims s store entry here f x → IsRanged s store entry next ready here h f fresh (few f covered) room are x
-  ranged_at f covered room place fault counted =
-      ranged_pointer s store entry next ready here h f fresh (few f covered) room are place (ap is_counted_kind (ap kind_of (viewed_type s f)) ∙ counted) fault
+  ranged_at : (mode : Mode) (f : NotedExpr) (covered : IsCovered mode s store here.seen f) (room : HasRoom f) (place : Pos) → access_fault (view s.frame f) place fresh here.at ≡ None → is_counted_kind (kind_of f.note.ctype) ≡ true
+      → (x : Value) → ExprClaims s store entry here f x → IsRanged s store entry next ready here h f fresh (few mode f covered) room are x
+  ranged_at mode f covered room place fault counted =
+      ranged_pointer s store entry next ready here h f fresh (few mode f covered) room are place (ap is_counted_kind (ap kind_of (viewed_type s f)) ∙ counted) fault
 
-  module _ (Q : Place → Type 0) (width : Width) (offset k : ℕ) where
+  module _ (mode : Mode) (Q : Place → Type 0) (width : Width) (offset k : ℕ) where
     -- ---- the pointer before `*` and `->`
 
-    pub behind_aims : (f : NotedExpr) → IsTyped globals s f → (covered : IsCovered s store here.seen f) → AreStrings s k (strings_of_expr f) → IsThrough s f → HasRoom f → (view s.frame f).judged fresh here.at ≡ Ok f → (place : Pos) → access_fault (view s.frame f) place fresh here.at ≡ None
+    pub behind_aims : (f : NotedExpr) → IsTyped globals s f → (covered : IsCovered mode s store here.seen f) → AreStrings s k (strings_of_expr f) → IsThrough s f → HasRoom f → (view s.frame f).judged fresh here.at ≡ Ok f → (place : Pos) → access_fault (view s.frame f) place fresh here.at ≡ None
         → ((x : Value) → evaluated store ((part_of f).value s.text s.variables k) ≡ Ok x → (a : ℕ) → a ≡ x.number
-        → (access : Access) → access.offset ≡ offset → IsHit s store f.note.ctype access x a → ComesTo Q (aims_at store width access x.range a))
-        → ComesTo Q (aimed store (Memory width (record (target_place s.text.layout f.note.ctype place ((part_of f).value s.text s.variables k)).access { offset = offset }) ((part_of f).value s.text s.variables k) (Number 0)))
+        → (access : Access) → access.offset ≡ offset → IsHit s store f.note.ctype access x a → Comes mode Q (aims_at store width access x.range a))
+        → Comes mode Q (aimed store (Memory width (record (target_place s.text.layout f.note.ctype place ((part_of f).value s.text s.variables k)).access { offset = offset }) ((part_of f).value s.text s.variables k) (Number 0)))
     behind_aims f typed covered strings through room judged place fault goes =
-        through_aims s store entry next ready here h f place ((part_of f).value s.text s.variables k) (claims f typed covered room judged k strings) offset Q width through fresh (few f covered) room are
-        (ranged_at f covered room place fault)
+        through_aims mode s store entry next ready here h f place ((part_of f).value s.text s.variables k) (claims mode f typed covered room judged k strings) offset Q width through fresh (few mode f covered) room are
+        (ranged_at mode f covered room place fault)
         (λ x j is there a exactly hit.
         let none : j.number ≡ 0 = plain_is 0 j there in
         goes x is a
         (same_number a x.number (exactly ∙ ap (λ n. elements_behind x.number (size_behind s.text.layout f.note.ctype) (exact Int n)) none ∙ nothing_behind x.number (size_behind s.text.layout f.note.ctype))) _ refl hit)
 
     module _ (e : NotedExpr) (typed : IsTyped globals s e) (room : HasRoom e) (judged : (view s.frame e).judged fresh here.at ≡ Ok e)
-        (goes : (t : CType) → element_of t ≡ e.note.ctype → (access : Access) → access.offset ≡ offset → (x : Value) (a : ℕ) → IsHit s store t access x a → ComesTo Q (aims_at store width access x.range a)) where
+        (goes : (t : CType) → element_of t ≡ e.note.ctype → (access : Access) → access.offset ≡ offset → (x : Value) (a : ℕ) → IsHit s store t access x a → Comes mode Q (aims_at store width access x.range a)) where
       -- what is aimed at by a layer
       abbrev pub Aims : NotedLayer → Type 0
       Aims x =
-          ComesTo Q (aimed store (Memory width (record ((part_by e x).place s.text s.variables k).access { offset = offset }) ((part_by e x).place s.text s.variables k).pointer ((part_by e x).place s.text s.variables k).index))
+          Comes mode Q (aimed store (Memory width (record ((part_by e x).place s.text s.variables k).access { offset = offset }) ((part_by e x).place s.text s.variables k).pointer ((part_by e x).place s.text s.variables k).index))
 
-      pub deref_aims : (f : NotedExpr) → out-Node Name Note e.node ≡ Node-F.Un op.Deref f → IsCovered s store here.seen f → AreStrings s k (strings_of_expr f) → IsThrough s f → Aims (Node-F.Un op.Deref f)
+      pub deref_aims : (f : NotedExpr) → out-Node Name Note e.node ≡ Node-F.Un op.Deref f → IsCovered mode s store here.seen f → AreStrings s k (strings_of_expr f) → IsThrough s f → Aims (Node-F.Un op.Deref f)
       deref_aims f out covered strings through =
           let j = node_judged_at e judged (Node-F.Un op.Deref f) out in
           let row = row_at e typed (Node-F.Un op.Deref f) out in
-          subst (λ u. ComesTo Q (aimed store (Memory width (record (target_place s.text.layout u e.pos v).access { offset = offset }) v (Number 0)))) (sym (parted_type f))
+          subst (λ u. Comes mode Q (aimed store (Memory width (record (target_place s.text.layout u e.pos v).access { offset = offset }) v (Number 0)))) (sym (parted_type f))
           (behind_aims f (parts_at e typed (Node-F.Un op.Deref f) out) covered strings through (node_room e room (Node-F.Un op.Deref f) out)
           (one_part (λ a. Node-F.Un op.Deref a) (λ a b e. cc) _ f (j.node ∙ ap Ok (node_is e (Node-F.Un op.Deref f) out))) e.pos j.fault
           (λ x is a exactly access at hit. goes f.note.ctype (some_if (is_pointer f.note.ctype && not (is_void (element_of f.note.ctype))) (element_of f.note.ctype) e.note.ctype row.row) access at x a hit))
@@ -135,7 +138,7 @@ module _ (globals : Globals) (s : Setting) (agrees : Agrees globals s) (declares
           v : Expr
           v = (part_of f).value s.text s.variables k
 
-      pub index_aims : (f g : NotedExpr) → out-Node Name Note e.node ≡ Node-F.Index f g → IsCovered s store here.seen f → IsCovered s store here.seen g → AreStrings s k (strings_of_expr f ++ strings_of_expr g)
+      pub index_aims : (f g : NotedExpr) → out-Node Name Note e.node ≡ Node-F.Index f g → IsCovered mode s store here.seen f → IsCovered mode s store here.seen g → AreStrings s k (strings_of_expr f ++ strings_of_expr g)
           → is_counted_kind (kind_of f.note.ctype) ≡ true → Aims (Node-F.Index f g)
       index_aims f g out covered too strings counted =
           let j = node_judged_at e judged (Node-F.Index f g) out in
@@ -144,10 +147,10 @@ module _ (globals : Globals) (s : Setting) (agrees : Agrees globals s) (declares
           let left : HasRoom f = left_room fresh ((view s.frame f).fresh here.at) ((view s.frame g).fresh here.at) (node_room e room (Node-F.Index f g) out) in
           let parts = two_parts (λ a b. Node-F.Index a b) (λ a b c d e. (cc, cc)) _ _ f g (j.node ∙ ap Ok (node_is e (Node-F.Index f g) out)) in
           subst (λ u. Of u (part_of g).ctype) (sym (parted_type f)) (subst (λ u. Of f.note.ctype u) (sym (parted_type g))
-          (counted_aims s store entry next ready here h f e.pos v (claims f typed_parts.0 covered left parts.0 k (first_strings s f (strings_of_expr g) k strings)) offset Q width fresh (few f covered) left are (integer_of g.note.ctype) w (ExprClaims s store entry here g)
-          (expr_claims globals s agrees declares store entry next ready g typed_parts.1 here too h (fresh_behind (view s.frame f) fresh here.at) (right_room fresh ((view s.frame f).fresh here.at) ((view s.frame g).fresh here.at) (node_room e room (Node-F.Index f g) out))
-          (fresh_on s store entry here h fresh (fresh_behind (view s.frame f) fresh here.at) (next_more fresh ((view s.frame f).fresh here.at) left) are) parts.1 (k + (part_of f).literals) (later_strings s f (strings_of_expr g) k strings))
-          counted (ranged_at f covered left e.pos j.fault counted)
+          (counted_aims mode s store entry next ready here h f e.pos v (claims mode f typed_parts.0 covered left parts.0 k (first_strings s f (strings_of_expr g) k strings)) offset Q width fresh (few mode f covered) left are (integer_of g.note.ctype) w (ExprClaims s store entry here g)
+          (comes_meant mode (ExprClaims s store entry here g) (evaluated store w) (expr_claims mode globals s agrees declares store entry next ready g typed_parts.1 here too h (fresh_behind (view s.frame f) fresh here.at) (right_room fresh ((view s.frame f).fresh here.at) ((view s.frame g).fresh here.at) (node_room e room (Node-F.Index f g) out))
+          (fresh_on s store entry here h fresh (fresh_behind (view s.frame f) fresh here.at) (next_more fresh ((view s.frame f).fresh here.at) left) are) parts.1 (k + (part_of f).literals) (later_strings s f (strings_of_expr g) k strings)))
+          counted (ranged_at mode f covered left e.pos j.fault counted)
           (λ x i is there a exactly hit. goes f.note.ctype (some_if (is_moved f.note.ctype && is_integer g.note.ctype) (element_of f.note.ctype) e.note.ctype row.row) _ refl x a hit)))
         where
           v : Expr
@@ -157,4 +160,4 @@ module _ (globals : Globals) (s : Setting) (agrees : Agrees globals s) (declares
           w = (part_of g).value s.text s.variables (k + (part_of f).literals)
 
           Of : CType → CType → Type 0
-          Of t u = ComesTo Q (aimed store (Memory width (record (element_place s.text.layout t e.pos (integer_of u) v w).access { offset = offset }) v w))
+          Of t u = Comes mode Q (aimed store (Memory width (record (element_place s.text.layout t e.pos (integer_of u) v w).access { offset = offset }) v w))

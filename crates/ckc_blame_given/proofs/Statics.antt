@@ -2,6 +2,7 @@
 use Rattle.std.proofs.Common.{◌≡◌, inl, sym, ap, subst, ◌∙◌, ℕ, true, false, arith}
 use Rattle.std.specs.Prelude.{◌+◌, ◌*◌, ◌<◌, slice_get, None, Some}
 use Rattle.std.specs.List.{flat_map}
+use Rattle.ckc_base.specs.declared.arithmetic.Mode.{Mode}
 use Rattle.ckc_base.specs.declared.places.Pos.{Pos}
 use Rattle.ckc_types.specs.declared.types.CType.{CType, CType-F, out-CType}
 use Rattle.ckc_syntax.specs.declared.tree.Name.TheVariants as name
@@ -29,10 +30,11 @@ use Rattle.ckc_blame_sound.specs.Cells.{IsPart, IsCell}
 use Rattle.ckc_blame_sound.proofs.Objects.{beside_at, object_at, object_cell}
 use Rattle.ckc_blame_sound.specs.Elements.{AreCounted}
 use Rattle.ckc_blame_pointers.specs.Covered.{IsSoundStore}
+use Rattle.ckc_blame_pointers.specs.Owed.{Comes}
 use Rattle.ckc_blame_pointers.proofs.Structures.{IsWholeElement}
 use Rattle.ckc_blame_sound.proofs.Accesses.{scalar_part}
 use Rattle.ckc_blame_given.specs.Planned.{IsPartTarget}
-use Rattle.ckc_blame_given.specs.Targets.{IsStaticObject, ComesTo}
+use Rattle.ckc_blame_given.specs.Targets.{IsStaticObject}
 use Rattle.ckc_blame_given.proofs.Places.{Goes, IsIn, Lies, struct_target, named_goes}
 
 -- the block of a static object that is no array
@@ -71,15 +73,15 @@ module _ (s : Setting) (store : Store) (next : ℕ) (ready : IsSoundStore s stor
   cell_of t k c offset u part =
       object_cell s.text store.blocks ready.sound.memory.objects k c.object c.there c.plain c.some offset (width_of u) (subst (λ x. IsPart s.text.layout x offset (width_of u)) (sym c.element) part)
 
-  module _ (p : Placed) (no_local : local_of p.target ≡ None) (at : Pos) (k : ℕ) where
+  module _ (mode : Mode) (p : Placed) (no_local : local_of p.target ≡ None) (at : Pos) (k : ℕ) where
     -- an integer or a pointer
     pub static_aims : IsStaticObject s p.target.note.ctype k → is_scalar p.target.note.ctype ≡ true → (view s.frame p.target).member ≡ None
         → ((n : Count) → count_of_static s.text p.target.note.ctype (name.Static k) ≡ Some n → AreCounted (memory_bounds s.frame p.target) n)
         → Lies s store next ready p (address_of s.text k + 0)
-        → ComesTo (Goes s store next ready p)
+        → Comes mode (Goes s store next ready p)
         (aimed store (Memory (width_of p.target.note.ctype) (object_place s.text p.target.note.ctype at k).access (Number (address_of s.text k)) (Number 0)))
     static_aims c scalar none counts lies =
-        named_goes s store next ready p no_local (object_place s.text p.target.note.ctype at k).access Without (address_of s.text k)
+        named_goes s store next ready p mode no_local (object_place s.text p.target.note.ctype at k).access Without (address_of s.text k)
         (cell_of p.target.note.ctype k c 0 p.target.note.ctype (scalar_part s.text.layout p.target.note.ctype scalar)) in_it lies
       where
         b : IsObjectBlock s store p.target.note.ctype k
@@ -109,9 +111,9 @@ module _ (s : Setting) (store : Store) (next : ℕ) (ready : IsSoundStore s stor
     pub static_member_aims : (t : CType) → IsStaticObject s t k → (m : Member) → (view s.frame p.target).member ≡ Some m → out-CType t ≡ CType-F.Struct m.tag
         → dot_type s.text.layout t (name.Member m.number) ≡ Some p.target.note.ctype
         → (offset : ℕ) → offset ≡ offset_of s.text.layout m.tag m.number → IsPart s.text.layout t offset (width_of p.target.note.ctype) → (access : Access) → access.offset ≡ offset
-        → Lies s store next ready p (address_of s.text k + offset) → ComesTo (Goes s store next ready p) (aims_at store (width_of p.target.note.ctype) access Without (address_of s.text k))
+        → Lies s store next ready p (address_of s.text k + offset) → Comes mode (Goes s store next ready p) (aims_at store (width_of p.target.note.ctype) access Without (address_of s.text k))
     static_member_aims t c m is form named offset at_member part access lies_at lies =
-        named_goes s store next ready p no_local access Without (address_of s.text k)
+        named_goes s store next ready p mode no_local access Without (address_of s.text k)
         (subst (λ o. IsCell s.text.layout store.blocks (address_of s.text k + o) (width_of p.target.note.ctype) false) (sym lies_at) (cell_of t k c offset p.target.note.ctype part))
         (subst (λ o. IsIn s store next ready p (address_of s.text k + o)) (sym lies_at)
         (struct_target s store next ready p t m is form named (address_of s.text k) (object_whole t k c) offset at_member))

@@ -7,7 +7,7 @@ use Rattle.ckc_syntax.specs.declared.tree.Node.{Node-F, map-Node, out-Node, roll
 use Rattle.ckc_syntax.specs.declared.tree.Expr.{fold-roll-Expr}
 use Rattle.ckc_typed.specs.declared.typed.Note.{Note}
 use Rattle.ckc_typed.specs.declared.typed.Range.TheVariants as range
-use Rattle.ckc_typed.specs.Conversions.{is_null_form, is_null, is_allocation_form, is_allocation}
+use Rattle.ckc_typed.specs.Conversions.{is_null_form, is_null, is_string_form, is_string, is_allocation_form, is_allocation}
 use Rattle.ckc_typed.specs.Trees.{NotedLimits, NotedNode, NotedExpr, NotedLayer}
 use Rattle.ckc_typed.specs.Types.{is_pointer}
 use Rattle.ckc_linear.specs.declared.forms.Form.{Form}
@@ -17,7 +17,7 @@ use Rattle.ckc_bounds_points.specs.Shown.{Known}
 use Rattle.ckc_bounds_views.specs.Integers.{null_node}
 use Rattle.ckc_bounds_views.specs.Parts.{LimitsView, View, NodeView, NodeOfViews}
 use Rattle.ckc_bounds_views.specs.Places.{own_place}
-use Rattle.ckc_bounds_views.specs.Ranges.{own_numbers}
+use Rattle.ckc_bounds_views.specs.Ranges.{own_numbers, pointer_range}
 use Rattle.ckc_bounds_views.specs.Views.{allocates_node, limits_view, node_view, expr_view, view_of_limits, view_of_node, view}
 
 pub node_back : (n : NotedNode) → roll-Node Name Note (out-Node Name Note n) ≡ n
@@ -63,6 +63,16 @@ module _ (frame : Frame) where
       by true p a b h = absurd cc
       by false true a b h = (refl, sym (null_form_is (out-Node Name Note e.node)) ∙ a)
       by false false a b h = absurd cc
+
+  -- a string literal has one range wherever it is
+  pub string_range : (e : NotedExpr) → is_string e ≡ true → (first fresh : ℕ) (at other : State) → (view frame e).range first fresh at ≡ (view frame e).range first fresh other
+  string_range e string first fresh at other =
+      ap (λ (v : View). v.range first fresh at) (view_is e) ∙ by (out-Node Name Note e.node) string ∙ sym (ap (λ (v : View). v.range first fresh other) (view_is e))
+    where
+      by : (n : NotedLayer) → is_string_form n ≡ true
+          → pointer_range e.note.ctype (node_view frame (viewed_layer n)) first fresh at ≡ pointer_range e.note.ctype (node_view frame (viewed_layer n)) first fresh other
+      by (Node-F.Text bytes) s = refl
+      by n s = absurd cc
 
   -- a place is that of a pointer
   pub placed_pointer : (e : NotedExpr) (first : ℕ) (facts : Known) (f : Form) → (view frame e).place first facts ≡ Some f → is_pointer e.note.ctype ≡ true

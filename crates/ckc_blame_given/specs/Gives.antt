@@ -31,7 +31,8 @@ ending m = record m { to = record m.to { terminated = true } }
 
 -- What is known of the word n that an expression gives at a point under a valuation: wherever facts are true its place is
 -- its address and its form is its number; it is null if it is judged to be; it may be read within its range, with and
--- without what is widened; and its fresh variables stand for numbers of their types.
+-- without what is widened, and if it is a string literal, as what a terminator ends; and its fresh variables stand for
+-- numbers of their types.
 pub record Gives (s : Setting) (store : Store) (v : Valuation) (at : State) (e : NotedExpr) (from : Numbered) (n : ℕ)
     : Type 0 where
   pub word : IsWordOf e.note.ctype n

@@ -1,14 +1,13 @@
 //! What follows from the definitions alone, each the contract of a function that does nothing.
 
 ghost use Rattle.std.specs.Prelude.{◌≡◌, ℕ, ◌+◌, ◌<◌, ◌^◌, true, false, pos, List, length, Some, Ok};
+ghost use Rattle.ckc_base.specs.declared.arithmetic.Mode.{Mode};
 ghost use Rattle.ckc_types.specs.declared.types.CType.{CType};
 ghost use Rattle.ckc_linear.specs.declared.forms.Form.{Form};
 ghost use Rattle.ckc_typed.specs.declared.environment.Globals.{Globals};
 ghost use Rattle.ckc_typed.specs.Conversions.{converts, is_allocation};
-ghost use Rattle.ckc_typed.specs.Operands.{is_raw_kind};
 ghost use Rattle.ckc_typed.specs.Statics.{strings_of_expr};
 ghost use Rattle.ckc_typed.specs.Trees.{NotedExpr};
-ghost use Rattle.ckc_typed.specs.Types.{kind_of};
 ghost use Rattle.ckc_bounds_points.specs.declared.frame.Frame.{Frame};
 ghost use Rattle.ckc_bounds_points.specs.Flow.{State};
 ghost use Rattle.ckc_bounds_points.specs.Forms.{in_type};
@@ -25,7 +24,7 @@ ghost use Rattle.ckc_blame_sound.specs.Points.{HoldsAt};
 ghost use Rattle.ckc_blame_sound.specs.Bodies.{AreFresh};
 ghost use Rattle.ckc_blame_sound.specs.Typed.{IsTyped, Agrees};
 ghost use Rattle.ckc_blame_pointers.specs.Covered.{DeclareLocals, IsSoundStore, IsCovered};
-ghost use Rattle.ckc_blame_pointers.specs.Meant.{IsNotStuck};
+ghost use Rattle.ckc_blame_pointers.specs.Owed.{Comes};
 ghost use Rattle.ckc_blame_sound.specs.Valuations.{Valuation, AreFacts};
 ghost use Rattle.ckc_blame_sound.specs.Containment.{IsNarrowed};
 ghost use Rattle.ckc_blame_sound.specs.Elements.{number_kept};
@@ -36,16 +35,16 @@ ghost use Rattle.ckc_blame_given.specs.At.{GivesAt};
 
 /// What becomes of a judged expression gives a word that has the place, the number and the range of
 /// the expression, under numbers for its values and its fresh variables that go with any for those
-/// before, or stops at a named check. It is not stuck.
+/// before, or stops at a named check. In checked code it is not stuck.
 pub fn expressions_give()
-    ensures { (globals : Globals) (s : Setting) (entry : List ℕ) (here : Here)
+    ensures { (m : Mode) (globals : Globals) (s : Setting) (entry : List ℕ) (here : Here)
         (before after : NotedExpr) (fresh literals next : ℕ) (store : Store) → Agrees globals s
         → DeclareLocals s → IsSoundStore s store next
         → fresh + length ((view s.frame before).fresh here.at) < 2 ^ 32 → AreFresh s.frame fresh
         → IsTyped globals s before
-        → (view s.frame before).judged fresh here.at ≡ Ok after → IsCovered s store here.seen after
+        → (view s.frame before).judged fresh here.at ≡ Ok after → IsCovered m s store here.seen after
         → AreStrings s literals (strings_of_expr after) → HoldsAt s store entry here
-        → IsNotStuck (λ p. GivesAt s store here.at before p.number)
+        → Comes m (λ p. GivesAt s store here.at before p.number)
         (evaluated store (expr_elaborated s.text s.variables literals after)) }
 {}
 
@@ -63,18 +62,17 @@ pub fn ranges_begin_alike()
 pub fn words_go_to_places()
     ensures from { (globals : Globals) (s : Setting) (store : Store) (at : State) (v : Valuation)
         (e : NotedExpr) (from : Numbered) (t : CType) (n : ℕ) → IsTyped globals s e
-        → is_raw_kind (kind_of e.note.ctype) ≡ false → converts t e ≡ true
-        → is_allocation e ≡ false → Gives s store v at e from n
+        → converts t e ≡ true → is_allocation e ≡ false → Gives s store v at e from n
         → IsFrom s.frame (memory_of s store t) v t e from at n }
     ensures argument { (globals : Globals) (s : Setting) (store : Store) (at : State)
         (v : Valuation) (e : NotedExpr) (from : Numbered) (t : CType) (n : ℕ) →
-        IsTyped globals s e → is_raw_kind (kind_of e.note.ctype) ≡ false → converts t e ≡ true
-        → is_allocation e ≡ false → Gives s store v at e from n
+        IsTyped globals s e → converts t e ≡ true → is_allocation e ≡ false
+        → Gives s store v at e from n
         → IsNewArgument (memory_of s store t) v (view s.frame e) from.value from.fresh at n }
     ensures number { (globals : Globals) (s : Setting) (store : Store) (at : State)
         (v : Valuation) (e : NotedExpr) (from : Numbered) (t : CType) (n : ℕ) (facts : Known)
-        (f : Form) → IsTyped globals s e → is_raw_kind (kind_of e.note.ctype) ≡ false
-        → converts t e ≡ true → is_allocation e ≡ false → Gives s store v at e from n
+        (f : Form) → IsTyped globals s e → converts t e ≡ true → is_allocation e ≡ false
+        → Gives s store v at e from n
         → v.number 0 ≡ pos 0 → AreFacts v facts
         → in_type facts t ((view s.frame e).form facts) ≡ Some f
         → number_of v.number f ≡ number_kept t n }

@@ -2,6 +2,7 @@
 
 ghost use Rattle.std.specs.List.{Contains};
 ghost use Rattle.std.specs.Prelude.{◌≡◌, ℕ, ◌+◌, ◌<◌, ◌^◌, true, pos, List, ◌++◌, length, Ok};
+ghost use Rattle.ckc_base.specs.declared.arithmetic.Mode.{Mode};
 ghost use Rattle.ckc_bounds_points.specs.declared.frame.Bounds.{Bounds};
 ghost use Rattle.ckc_bounds_points.specs.Flow.{State};
 ghost use Rattle.ckc_syntax.specs.declared.tree.Name.{Name};
@@ -37,20 +38,20 @@ ghost use Rattle.ckc_blame_given.specs.Planned.{ArePlanned};
 ghost use Rattle.ckc_blame_given.specs.Targets.{KeepRunsFree, IsCoveredTarget, GoesThere, IsAimed};
 ghost use Rattle.ckc_blame_given.specs.Together.{HaveSmallNames, AreTogether, AreIn};
 
-/// The evaluation of the target of a judged assignment comes to a place, or stops at a named check. It is not
-/// stuck. What may be written to that place goes to the local, the element or the member that the target is
-/// judged to be, also when blocks have been made since.
+/// The evaluation of the target of a judged assignment comes to a place, or stops at a named check. In checked
+/// code it is not stuck. What may be written to that place goes to the local, the element or the member that the
+/// target is judged to be, also when blocks have been made since.
 pub fn targets_aim()
-    ensures aims { (globals : Globals) (s : Setting) (entry : List ℕ) (here : Here)
+    ensures aims { (m : Mode) (globals : Globals) (s : Setting) (entry : List ℕ) (here : Here)
         (before : NotedExpr) (p : Placed) (fresh literals next : ℕ) (store : Store) →
         Agrees globals s → DeclareLocals s → KeepRunsFree s.text → IsSoundStore s store next
         → fresh + length ((view s.frame before).fresh here.at) < 2 ^ 32 → AreFresh s.frame fresh
         → IsTyped globals s before
         → (view s.frame before).judged fresh here.at ≡ Ok p.target
         → is_scalar p.target.note.ctype ≡ true
-        → IsCoveredTarget s store here.seen p.target (out-Node Name Note p.target.node)
+        → IsCoveredTarget m s store here.seen p.target (out-Node Name Note p.target.node)
         → AreStrings s literals (strings_of_expr p.target) → HoldsAt s store entry here
-        → IsAimed s store p (aimed store (target_of s.text s.variables literals p.target)) }
+        → IsAimed m s store p (aimed store (target_of s.text s.variables literals p.target)) }
     ensures stays { (s : Setting) (store after : Store) (more : List Block) (p : Placed) (n : ℕ)
         (w : Place) → after.blocks ≡ store.blocks ++ more → after.locals ≡ store.locals
         → GoesThere s store p n w → GoesThere s after p n w }

@@ -42,12 +42,21 @@ use Rattle.ckc_blame_pointers.specs.Valuations.{Valuation, Fits, Extends, addres
 use Rattle.ckc_blame_pointers.proofs.Claims.{IsOfLocal, Placed, SideGoes, stays, nothing_read, placed_as}
 use Rattle.ckc_blame_pointers.proofs.Moving.{with_address, address_added, address_kept, at_base}
 use Rattle.ckc_blame_pointers.proofs.Later.{extends_less, extends_on, still_fits, next_more, base_wider, range_wider}
-use Rattle.ckc_blame_pointers.proofs.Unwidened.{right_fresh_is}
+use Rattle.ckc_blame_pointers.proofs.Unwidened.{fresh_same, right_fresh_is}
 use Rattle.ckc_blame_sound.proofs.Types.{word_wide}
 use Rattle.ckc_blame_pointers.proofs.Binary.{ExprClaims}
 use Rattle.ckc_blame_pointers.proofs.Nodes.{node_fresh, NodeClaims, narrow}
+use Rattle.ckc_blame_pointers.proofs.Own.{missing_claims}
 use Rattle.ckc_blame_pointers.proofs.Rows.{pointer_word}
 use Rattle.ckc_blame_pointers.proofs.Truths.{true_bare}
+
+-- A range is true for a type to the same elements that is not null-terminated.
+pub true_retyped : (s : Setting) (store : Store) (t r : CType) → element_of r ≡ element_of t → is_terminated_kind (kind_of r) ≡ false → (n low high : ℕ) → is_true store.shapes store.blocks (pointee_of s.text.layout t) n low high ≡ true
+    → is_true store.shapes store.blocks (pointee_of s.text.layout r) n low high ≡ true
+true_retyped s store t r same bare n low high e =
+    subst (λ q. is_true store.shapes store.blocks (record { element = q; size = size_of s.text.layout q; terminated = is_terminated_kind (kind_of r) }) n low high ≡ true) (sym same)
+    (subst (λ c. is_true store.shapes store.blocks (record { element = element_of t; size = size_behind s.text.layout t; terminated = c }) n low high ≡ true) (sym bare)
+    (true_bare (element_of t) (size_behind s.text.layout t) (is_terminated_kind (kind_of t)) n low high store.shapes store.blocks e))
 
 module _ (s : Setting) (store : Store) (entry : List ℕ) (here : Here) where
   -- ---- a pointer of which less is said
@@ -120,7 +129,8 @@ module _ (s : Setting) (store : Store) (entry : List ℕ) (here : Here) where
 
   -- ---- a pointer of another type
 
-  module _ (t r : CType) (same : element_of r ≡ element_of t) (bare : is_terminated_kind (kind_of r) ≡ false) where
+  -- An unchecked pointer is of no checked type.
+  module _ (t r : CType) (same : element_of r ≡ element_of t) (bare : is_terminated_kind (kind_of r) ≡ false) (checked : is_raw_kind (kind_of r) ≡ false → is_raw_kind (kind_of t) ≡ false) where
     size_same : size_behind s.text.layout t ≡ size_behind s.text.layout r
     size_same = ap (size_of s.text.layout) (sym same)
 
@@ -130,22 +140,16 @@ module _ (s : Setting) (store : Store) (entry : List ℕ) (here : Here) where
     of_there (Some (base.Value k)) h = tt
     of_there None h = tt
 
-    true_there : (n low high : ℕ) → is_true store.shapes store.blocks (pointee_of s.text.layout t) n low high ≡ true → is_true store.shapes store.blocks (pointee_of s.text.layout r) n low high ≡ true
-    true_there n low high e =
-        subst (λ q. is_true store.shapes store.blocks (record { element = q; size = size_of s.text.layout q; terminated = is_terminated_kind (kind_of r) }) n low high ≡ true) (sym same)
-        (subst (λ c. is_true store.shapes store.blocks (record { element = element_of t; size = size_behind s.text.layout t; terminated = c }) n low high ≡ true) (sym bare)
-        (true_bare (element_of t) (size_behind s.text.layout t) (is_terminated_kind (kind_of t)) n low high store.shapes store.blocks e))
-
     in_range : (v : Valuation) (q : Range) (p : Value) → IsInRange s store v t q p → IsInRange s store v r q p
     in_range v range.Missing p h = tt
     in_range v range.Any p h = h
     in_range v (range.Known low high) p h = ⊎_elim (λ null. inl null) (λ (ends : HasEnds s store v t low high p). inr (record {
       from = ends.from;
       to = ends.to;
-      range = ends.range;
+      range = λ no_raw. ends.range (checked no_raw);
       low_is = ends.low_is ∙ ap (λ n. address_by s store.locals v n low) size_same;
       high_is = ends.high_is ∙ ap (λ n. address_by s store.locals v n high) size_same;
-      true_there = true_there p.number ends.from ends.to ends.true_there;
+      true_there = true_retyped s store t r same bare p.number ends.from ends.to ends.true_there;
     })) h
 
     at_place : (v : Valuation) (o : Option Form) (n : ℕ) → IsAtPlace s store.locals v t o n → IsAtPlace s store.locals v r o n
@@ -165,7 +169,7 @@ module _ (s : Setting) (store : Store) (entry : List ℕ) (here : Here) where
       to = ends.to;
       low_is = ends.low_is ∙ ap (λ n. address_by s store.locals v n low) size_same;
       high_is = ends.high_is ∙ ap (λ n. address_by s store.locals v n high) size_same;
-      true_there = true_there n ends.from ends.to ends.true_there;
+      true_there = true_retyped s store t r same bare n ends.from ends.to ends.true_there;
     })
 
     pub retyped : (limit : ℕ) (place : Known → Option Form) (q : State → Range) (types : List CType) (first fresh : ℕ) (before : Valuation) (p : Value) → Placed s store entry here t limit place q types first fresh before p
@@ -184,18 +188,25 @@ module _ (s : Setting) (store : Store) (entry : List ℕ) (here : Here) where
 
 -- ---- the claims of an address
 
+-- a type of addresses of what has a type: of pointers to it that are no `_Ptr` and not null-terminated
+pub record IsAddressType (r t : CType) : Type 0 where
+  pub pointer : is_pointer r ≡ true
+  pub several : kind_of r ≡ Some kind.One → ⊥
+  pub bare : is_terminated_kind (kind_of r) ≡ false
+  pub element : element_of r ≡ t
+
 module _ (s : Setting) (store : Store) (entry : List ℕ) (here : Here) (h : HoldsAt s store entry here) where
   -- what has the place and the range of a pointer to the same elements, by whatever numbers
-  pub address_claims : (t r : CType) → element_of r ≡ element_of t → is_pointer r ≡ true → kind_of r ≡ Some kind.Arr → (n : NodeView) → n.behind ≡ None → n.is_zero ≡ false → ((b : Bool) → n.side b here.at ≡ here.at) → (p : Value) → p.number < 2 ^ 32
+  pub address_claims : (t r : CType) → IsAddressType r (element_of t) → (is_raw_kind (kind_of r) ≡ false → is_raw_kind (kind_of t) ≡ false) → (n : NodeView) → n.behind ≡ None → n.is_zero ≡ false → ((b : Bool) → n.side b here.at ≡ here.at) → (p : Value) → p.number < 2 ^ 32
       → ((first fresh : ℕ) (before : Valuation) → first + with_own r n + 1 < 2 ^ 32 → fresh + length (node_fresh r n here.at) < 2 ^ 32 → AreFresh s.frame fresh → Fits s.frame store.locals before
       → Placed s store entry here t (first + with_own r n) (pointer_place r n first) (pointer_range r n first fresh) (node_fresh r n here.at) first fresh before p)
       → NodeClaims s store entry here h r n p
-  address_claims t r same pointer array n none some quiet p small placed = record {
-    word = pointer_word r pointer p.number small;
+  address_claims t r type checked n none some quiet p small placed = record {
+    word = pointer_word r type.pointer p.number small;
     placed = λ first fresh before low little are fits.
-        retyped s store entry here t r same (ap is_terminated_kind array) (first + with_own r n) (pointer_place r n first) (pointer_range r n first fresh) (node_fresh r n here.at) first fresh before p
+        retyped s store entry here t r type.element type.bare checked (first + with_own r n) (pointer_place r n first) (pointer_range r n first fresh) (node_fresh r n here.at) first fresh before p
         (placed first fresh before low little are fits);
-    one = λ ones one. let other = array in absurd (cc);
+    one = λ ones one. absurd (type.several one);
     zero = λ e. let other = some in absurd (cc);
     wide = λ e. narrow s store entry here h n none;
     sides = λ b e. subst (SideGoes s store entry here) (sym (quiet b)) (stays s store entry here h);
@@ -206,34 +217,54 @@ module _ (s : Setting) (store : Store) (entry : List ℕ) (here : Here) (h : Hol
 pointer_form : (k : Kind) (t : CType) → out-CType (ctype.Pointer k t) ≡ CType-F.Pointer k t
 pointer_form k t = search (rules, the_lemmas)
 
--- an address that is no unchecked pointer
-pub address_row : (mode : Mode) (t u : CType) → ctype.Pointer (address_kind mode) t ≡ u → is_raw_kind (kind_of u) ≡ false → (is_pointer u ≡ true) × (kind_of u ≡ Some kind.Arr) × (element_of u ≡ t)
-address_row Checked t u e raw =
-    (ap is_pointer (sym e) ∙ ap is_pointer_form (pointer_form kind.Arr t), ap kind_of (sym e) ∙ ap kind_in (pointer_form kind.Arr t), ap element_of (sym e) ∙ ap element_in (pointer_form kind.Arr t))
-address_row Unchecked t u e raw =
-    let unchecked : is_raw_kind (kind_of u) ≡ true = ap (λ u. is_raw_kind (kind_of u)) (sym e) ∙ ap (λ f. is_raw_kind (kind_in f)) (pointer_form kind.Raw t) in absurd (cc)
+-- The address of what has a type, in code of either mode. It is an unchecked pointer in unchecked code alone.
+pub address_row : (mode : Mode) (t u : CType) → ctype.Pointer (address_kind mode) t ≡ u → IsAddressType u t × (is_raw_kind (kind_of u) ≡ false → mode ≡ Checked)
+address_row mode t u e = subst (λ u. IsAddressType u t × (is_raw_kind (kind_of u) ≡ false → mode ≡ Checked)) e (typed, by mode)
+  where
+    kind_is : kind_of (ctype.Pointer (address_kind mode) t) ≡ Some (address_kind mode)
+    kind_is = ap kind_in (pointer_form (address_kind mode) t)
 
-module _ (s : Setting) (store : Store) (entry : List ℕ) (here : Here) (h : HoldsAt s store entry here) (e : NotedExpr) (note : Note) (place : Pos) (r : CType)
-    (pointer : is_pointer r ≡ true) (array : kind_of r ≡ Some kind.Arr) (same : element_of r ≡ element_of e.note.ctype) where
+    no_one : (mode : Mode) → ◌≡◌ {A = Option Kind} (Some (address_kind mode)) (Some kind.One) → ⊥
+    no_one Checked e = absurd (cc)
+    no_one Unchecked e = absurd (cc)
+
+    ends_bare : (mode : Mode) → is_terminated_kind (Some (address_kind mode)) ≡ false
+    ends_bare Checked = refl
+    ends_bare Unchecked = refl
+
+    typed : IsAddressType (ctype.Pointer (address_kind mode) t) t
+    typed = record {
+      pointer = ap is_pointer_form (pointer_form (address_kind mode) t);
+      several = λ one. no_one mode (sym kind_is ∙ one);
+      bare = ap is_terminated_kind kind_is ∙ ends_bare mode;
+      element = ap element_in (pointer_form (address_kind mode) t);
+    }
+
+    by : (mode : Mode) → is_raw_kind (kind_of (ctype.Pointer (address_kind mode) t)) ≡ false → mode ≡ Checked
+    by Checked no_raw = refl
+    by Unchecked no_raw = let raw : is_raw_kind (kind_of (ctype.Pointer kind.Raw t)) ≡ true = ap (λ f. is_raw_kind (kind_in f)) (pointer_form kind.Raw t) in absurd (cc)
+
+module _ (s : Setting) (store : Store) (entry : List ℕ) (here : Here) (h : HoldsAt s store entry here) (e : NotedExpr) (note : Note) (place : Pos) (r : CType) (type : IsAddressType r (element_of e.note.ctype)) where
   abbrev pub address_view : NodeView → NodeView
   address_view n = node_view s.frame (Node-F.Un op.Address (expr_view (record { node = n; pos = place; note = note })))
 
-  pub target_claims : (x : Value) → ExprClaims s store entry here e x → NodeClaims s store entry here h r (address_view (node_view s.frame (Node-F.Un op.Deref (view s.frame e)))) x
-  target_claims x c =
-      address_claims s store entry here h e.note.ctype r same pointer array made refl refl (λ b. nothing_read s store entry (λ facts. None) b here.at) x (word_wide e.note.ctype x.number c.word)
+  pub target_claims : (is_raw_kind (kind_of r) ≡ false → is_raw_kind (kind_of e.note.ctype) ≡ false) → (x : Value) → ExprClaims s store entry here e x
+      → NodeClaims s store entry here h r (address_view (node_view s.frame (Node-F.Un op.Deref (view s.frame e)))) x
+  target_claims checked x c =
+      address_claims s store entry here h e.note.ctype r type checked made refl refl (λ b. nothing_read s store entry (λ facts. None) b here.at) x (word_wide e.note.ctype x.number c.word)
       (λ first fresh before low little are fits. placed_so first fresh before (room first (view s.frame e).values (is_pointer note.ctype) (subst (λ m. first + m + 1 < 2 ^ 32) own_is low)) little are fits)
     where
       made : NodeView
       made = address_view (node_view s.frame (Node-F.Un op.Deref (view s.frame e)))
 
       own_is : with_own r made ≡ capped made.values 1
-      own_is = ap (λ b. if b && true then capped made.values 1 else made.values) pointer
+      own_is = ap (λ b. if b && true then capped made.values 1 else made.values) type.pointer
 
       place_is : (first : ℕ) (facts : Known) → pointer_place r made first facts ≡ option_or ((view s.frame e).place first facts) (Some (base_form (base.Value (capped first made.values))))
-      place_is first facts = ap (λ b. if b then option_or ((view s.frame e).place first facts) (Some (base_form (base.Value (capped first made.values)))) else None) pointer
+      place_is first facts = ap (λ b. if b then option_or ((view s.frame e).place first facts) (Some (base_form (base.Value (capped first made.values)))) else None) type.pointer
 
       range_is : (first fresh : ℕ) (widened : List ℕ) → pointer_range r made first fresh (record here.at { widened = widened }) ≡ (view s.frame e).range first fresh (record here.at { widened = widened })
-      range_is first fresh widened = ap (λ b. if b then (view s.frame e).range first fresh (record here.at { widened = widened }) else range.Missing) pointer
+      range_is first fresh widened = ap (λ b. if b then (view s.frame e).range first fresh (record here.at { widened = widened }) else range.Missing) type.pointer
 
       room : (first n : ℕ) (b : Bool) → first + capped (if b && true then capped n 1 else n) 1 + 1 < 2 ^ 32
           → (first + n + 1 < 2 ^ 32) × (first ≤ capped first (if b && true then capped n 1 else n)) × (first + n ≤ capped first (if b && true then capped n 1 else n))
@@ -253,11 +284,11 @@ module _ (s : Setting) (store : Store) (entry : List ℕ) (here : Here) (h : Hol
           (or_own s store entry here e.note.ctype (first + (view s.frame e).values) (first + capped made.values 1) ((view s.frame e).place first) ((view s.frame e).range first fresh) ((view s.frame e).fresh here.at)
           first fresh before x p little are fits (capped first made.values) there.1 there.2 there.3)
 
-  pub index_claims : (f : NotedExpr) → is_pointer e.note.ctype ≡ true → is_raw_kind (kind_of e.note.ctype) ≡ false → (view s.frame e).ctype ≡ e.note.ctype → (x : Value)
+  checked_index : (f : NotedExpr) → is_pointer e.note.ctype ≡ true → is_raw_kind (kind_of e.note.ctype) ≡ false → (view s.frame e).ctype ≡ e.note.ctype → (x : Value)
       → NodeClaims s store entry here h e.note.ctype (node_view s.frame (Node-F.Bin op.Add (view s.frame e) (view s.frame f))) x
       → NodeClaims s store entry here h r (address_view (node_view s.frame (Node-F.Index (view s.frame e) (view s.frame f)))) x
-  index_claims f from checked viewed x c =
-      address_claims s store entry here h e.note.ctype r same pointer array made refl refl (λ b. nothing_read s store entry (λ facts. None) b here.at) x (word_wide e.note.ctype x.number c.word)
+  checked_index f from checked viewed x c =
+      address_claims s store entry here h e.note.ctype r type (λ no_raw. checked) made refl refl (λ b. nothing_read s store entry (λ facts. None) b here.at) x (word_wide e.note.ctype x.number c.word)
       (λ first fresh before low little are fits. by (is_pointer note.ctype) refl first fresh before low little are fits)
     where
       made : NodeView
@@ -279,7 +310,7 @@ module _ (s : Setting) (store : Store) (entry : List ℕ) (here : Here) (h : Hol
       sum_own = ap (λ b. if b && true then capped sum.values 1 else sum.values) from
 
       own_made : with_own r made ≡ capped made.values 1
-      own_made = ap (λ b. if b && true then capped made.values 1 else made.values) pointer
+      own_made = ap (λ b. if b && true then capped made.values 1 else made.values) type.pointer
 
       own_form : ℕ → Option Form
       own_form n = Some (base_form (base.Value n))
@@ -292,7 +323,7 @@ module _ (s : Setting) (store : Store) (entry : List ℕ) (here : Here) (h : Hol
 
       place_made : (first : ℕ) (facts : Known) → pointer_place r made first facts ≡ option_or (form_there first facts) (own_form (capped first made.values))
       place_made first facts =
-          ap (λ b. if b then option_or (if is_raw_kind (kind_of (view s.frame e).ctype) then None else form_there first facts) (own_form (capped first made.values)) else None) pointer
+          ap (λ b. if b then option_or (if is_raw_kind (kind_of (view s.frame e).ctype) then None else form_there first facts) (own_form (capped first made.values)) else None) type.pointer
           ∙ ap (λ b. option_or (if b then None else form_there first facts) (own_form (capped first made.values))) raw
 
       place_sum : (first : ℕ) (facts : Known) → pointer_place e.note.ctype sum first facts ≡ option_or (form_there first facts) (own_form (capped first sum.values))
@@ -303,7 +334,7 @@ module _ (s : Setting) (store : Store) (entry : List ℕ) (here : Here) (h : Hol
 
       range_is : (first fresh : ℕ) (widened : List ℕ) → pointer_range r made first fresh (record here.at { widened = widened }) ≡ pointer_range e.note.ctype sum first fresh (record here.at { widened = widened })
       range_is first fresh widened =
-          ap (λ b. if b then (if is_raw_kind (kind_of (view s.frame e).ctype) then range.Missing else (view s.frame e).range first fresh (at widened)) else range.Missing) pointer
+          ap (λ b. if b then (if is_raw_kind (kind_of (view s.frame e).ctype) then range.Missing else (view s.frame e).range first fresh (at widened)) else range.Missing) type.pointer
           ∙ ap (λ b. if b then range.Missing else (view s.frame e).range first fresh (at widened)) raw
           ∙ sym (ap (λ b. if b then (if is_raw_kind (kind_of e.note.ctype) then range.Missing else range_of_operand (view s.frame e) (view s.frame f) first fresh (at widened)) else range.Missing) from
           ∙ ap (λ b. if b then range.Missing else range_of_operand (view s.frame e) (view s.frame f) first fresh (at widened)) checked
@@ -346,3 +377,27 @@ module _ (s : Setting) (store : Store) (entry : List ℕ) (here : Here) (h : Hol
       by : (b : Bool) → is_pointer note.ctype ≡ b → AsJudged
       by true is = pointer_claims (values_are ∙ ap (λ b. if b && true then capped sum.values 1 else sum.values) is)
       by false is = other_claims (values_are ∙ ap (λ b. if b && true then capped sum.values 1 else sum.values) is)
+
+  -- an element of an unchecked pointer, of which nothing is known
+  raw_index : (f : NotedExpr) → is_raw_kind (kind_of e.note.ctype) ≡ true → (view s.frame e).ctype ≡ e.note.ctype → (x : Value) → x.number < 2 ^ 32
+      → NodeClaims s store entry here h r (address_view (node_view s.frame (Node-F.Index (view s.frame e) (view s.frame f)))) x
+  raw_index f raw viewed x small =
+      missing_claims s store entry here h r type.pointer type.several (address_view (node_view s.frame (Node-F.Index (view s.frame e) (view s.frame f)))) refl refl
+      (λ first facts. ap (λ b. if b then None else sum_of_forms ((view s.frame e).place first facts) ((view s.frame f).form facts)) raw_view) kept
+      (λ own first fresh widened. ap (λ b. if b then range.Missing else (view s.frame e).range first fresh (record here.at { widened = widened })) raw_view)
+      refl refl refl (λ b. nothing_read s store entry (λ facts. None) b here.at) x small
+    where
+      raw_view : is_raw_kind (kind_of (view s.frame e).ctype) ≡ true
+      raw_view = ap (λ t. is_raw_kind (kind_of t)) viewed ∙ raw
+
+      kept : (widened : List ℕ) → (view s.frame e).fresh (record here.at { widened = widened }) ++ (view s.frame f).fresh (record here.at { widened = widened }) ≡ (view s.frame e).fresh here.at ++ (view s.frame f).fresh here.at
+      kept widened = ap (λ us. us ++ (view s.frame f).fresh (record here.at { widened = widened })) (fresh_same s.frame e here.at widened) ∙ ap (λ us. (view s.frame e).fresh here.at ++ us) (fresh_same s.frame f here.at widened)
+
+  pub index_claims : (f : NotedExpr) → is_pointer e.note.ctype ≡ true → (view s.frame e).ctype ≡ e.note.ctype → (x : Value)
+      → NodeClaims s store entry here h e.note.ctype (node_view s.frame (Node-F.Bin op.Add (view s.frame e) (view s.frame f))) x
+      → NodeClaims s store entry here h r (address_view (node_view s.frame (Node-F.Index (view s.frame e) (view s.frame f)))) x
+  index_claims f from viewed x c = by (is_raw_kind (kind_of e.note.ctype)) refl
+    where
+      by : (b : Bool) → is_raw_kind (kind_of e.note.ctype) ≡ b → NodeClaims s store entry here h r (address_view (node_view s.frame (Node-F.Index (view s.frame e) (view s.frame f)))) x
+      by true raw = raw_index f raw viewed x (word_wide e.note.ctype x.number c.word)
+      by false checked = checked_index f from checked viewed x c

@@ -19,21 +19,21 @@ use Rattle.ckc_base.specs.declared.places.Pos.{Pos}
 use Rattle.ckc_typed.specs.declared.typed.Range.TheVariants as range
 use Rattle.ckc_typed.specs.Constants.{size_of}
 use Rattle.ckc_typed.specs.Conversions.{is_terminated_kind}
+use Rattle.ckc_typed.specs.Operands.{is_raw_kind}
 use Rattle.ckc_typed.specs.Types.{kind_of}
 use Rattle.ckc_bounds_points.specs.Shown.{Known}
 use Rattle.ckc_bounds_points.specs.Forms.{constant_form, base_form}
 use Rattle.ckc_bounds_ranges.specs.Rows.{readable, range_of_array}
-use Rattle.ckc_bounds_views.specs.Judged.{is_counted_kind}
 use Rattle.ckc_bounds_views.specs.Parts.{NodeView}
 use Rattle.ckc_bounds_views.specs.Places.{is_array, own_place, with_own, pointer_place}
 use Rattle.ckc_bounds_views.specs.Ranges.{own_numbers, range_of_object, range_of_static, pointer_range}
 use Rattle.ckc_bounds_views.specs.Views.{node_view}
 use Rattle.ckc_bounds_statements.specs.Paths.{Here}
-use Rattle.ckc_source.specs.declared.outcome.Range.TheVariants.{Within}
+use Rattle.ckc_source.specs.declared.outcome.Range.{Range as RunRange}
+use Rattle.ckc_source.specs.declared.outcome.Range.TheVariants.{Within, Without}
 use Rattle.ckc_source.specs.declared.outcome.Value.{Value}
 use Rattle.ckc_source.specs.declared.program.Object.{Object}
 use Rattle.ckc_source.specs.Blocks.{Block, block_of, end_of}
-use Rattle.ckc_source.specs.Code.{Array}
 use Rattle.ckc_source.specs.Eval.{Store, evaluated}
 use Rattle.ckc_source.specs.Runs.{is_within, is_in_block, is_in_member, member_runs, is_in, is_true}
 use Rattle.ckc_source.specs.Words.{elements_behind}
@@ -197,19 +197,13 @@ module _ (s : Setting) (store : Store) (entry : List ℕ) (next : ℕ) (ready : 
   address_small = omega (arith, is.below, whole)
 
   pub array_claims : (place : Pos) → IsNotStuck (NodeClaims s store entry here h t node) (evaluated store (static_in s.text t place k (array_of s.text k)))
-  array_claims place = subst (λ x. IsNotStuck (NodeClaims s store entry here h t node) (evaluated store x)) (sym become) made
+  array_claims place = subst (λ o. IsNotStuck (NodeClaims s store entry here h t node) (evaluated store (static_in s.text t place k o))) (sym (ap array_in c.there ∙ c.array)) (by c.kind refl)
     where
-      become : static_in s.text t place k (array_of s.text k) ≡ Array (address_of s.text k) (bytes_of s.text k)
-      become = ap (static_in s.text t place k) (ap array_in c.there ∙ c.array) ∙ by c.kind c.counted
-        where
-          by : (q : Kind) → is_counted_kind (Some q) ≡ true → static_in s.text t place k (Some q) ≡ Array (address_of s.text k) (bytes_of s.text k)
-          by kind.Arr e = refl
-          by kind.Nt e = refl
-          by kind.One e = absurd (cc)
-          by kind.Raw e = absurd (cc)
+      ends : RunRange
+      ends = Within (address_of s.text k) (address_of s.text k + bytes_of s.text k)
 
-      value_there : Value
-      value_there = record { number = address_of s.text k; range = Within (address_of s.text k) (address_of s.text k + bytes_of s.text k) }
+      value_there : RunRange → Value
+      value_there r = record { number = address_of s.text k; range = r }
 
       high : Form
       high = record (constant_form (pos (readable c.object))) { base = Some (base.Array k) }
@@ -243,18 +237,18 @@ module _ (s : Setting) (store : Store) (entry : List ℕ) (next : ℕ) (ready : 
       low_at : (v : Valuation) → Fits s.frame store.locals v → pos (address_of s.text k) ≡ address_by s store.locals v (size_behind s.text.layout t) (base_form (base.Array k))
       low_at v fits = sym (at_base s store.locals t v (fits 0 (inl refl)) (base.Array k))
 
-      made : NodeClaims s store entry here h t node value_there
-      made = record {
+      made : (r : RunRange) → (is_raw_kind (kind_of t) ≡ false → r ≡ ends) → NodeClaims s store entry here h t node (value_there r)
+      made r ranged = record {
         word = pointer_word t c.pointer (address_of s.text k) address_small;
         placed = λ first fresh before low little are fits.
             placed_as s store entry here t (first + with_own t node) (first + with_own t node) (λ facts. Some (base_form (base.Array k))) (pointer_place t node first) (λ at. range.Known (base_form (base.Array k)) high)
-            (pointer_range t node first fresh) [] (node_fresh t node here.at) first fresh before value_there refl (place_is first) (range_is first fresh) refl
-            (still_placed s store entry here t (first + with_own t node) (λ facts. Some (base_form (base.Array k))) (λ at. range.Known (base_form (base.Array k)) high) [] first fresh before value_there little are fits
+            (pointer_range t node first fresh) [] (node_fresh t node here.at) first fresh before (value_there r) refl (place_is first) (range_is first fresh) refl
+            (still_placed s store entry here t (first + with_own t node) (λ facts. Some (base_form (base.Array k))) (λ at. range.Known (base_form (base.Array k)) high) [] first fresh before (value_there r) little are fits
             (λ facts. tt) (λ widened. (tt, tt)) (λ facts. tt) (λ v fits facts. low_at v fits)
             (λ v fits. inr (record {
               from = address_of s.text k;
               to = address_of s.text k + bytes_of s.text k;
-              range = refl;
+              range = ranged;
               low_is = low_at v fits;
               high_is = high_at v (fits 0 (inl refl));
               true_there = array_true;
@@ -266,8 +260,15 @@ module _ (s : Setting) (store : Store) (entry : List ℕ) (next : ℕ) (ready : 
               high_is = high_at v (fits 0 (inl refl));
               true_there = array_true;
             })));
-        one = λ ones e. let same : c.kind ≡ kind.One = some_is c.kind kind.One (sym c.kind_is ∙ e) in let single : is_counted_kind (Some c.kind) ≡ false = ap (λ q. is_counted_kind (Some q)) same in let counted = c.counted in absurd (cc);
+        one = λ ones e. absurd (c.several (some_is c.kind kind.One (sym c.kind_is ∙ e)));
         zero = λ e. absurd (cc);
         wide = λ e. narrow s store entry here h node refl;
         sides = λ b e. subst (SideGoes s store entry here) (sym (nothing_read s store entry (λ facts. None) b here.at)) (stays s store entry here h);
       }
+
+      -- An array that is an unchecked pointer has no range as it runs.
+      by : (q : Kind) → c.kind ≡ q → IsNotStuck (NodeClaims s store entry here h t node) (evaluated store (static_in s.text t place k (Some q)))
+      by kind.Arr is = made ends (λ checked. refl)
+      by kind.Nt is = made ends (λ checked. refl)
+      by kind.One is = absurd (c.several is)
+      by kind.Raw is = made Without (λ checked. let raw : is_raw_kind (kind_of t) ≡ true = ap is_raw_kind c.kind_is ∙ ap (λ q. is_raw_kind (Some q)) is in absurd (cc))

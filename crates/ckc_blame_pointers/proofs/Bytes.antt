@@ -36,8 +36,8 @@ use Rattle.ckc_blame_sound.proofs.Sizes.{sizes_are_small}
 use Rattle.ckc_blame_pointers.specs.Meant.{IsNotStuck}
 use Rattle.ckc_blame_pointers.specs.Valuations.{Valuation, Fits}
 use Rattle.ckc_blame_pointers.proofs.Binary.{ExprClaims}
-use Rattle.ckc_blame_pointers.proofs.Casts.{IsTestable, tested_claims, whole_elements, counted_own, counted_claims}
-use Rattle.ckc_blame_pointers.proofs.Claims.{goes_on}
+use Rattle.ckc_blame_pointers.proofs.Casts.{IsTestable, IsSized, tested_claims, whole_elements, counted_own, counted_sized}
+use Rattle.ckc_blame_pointers.proofs.Claims.{weaker, goes_on}
 use Rattle.ckc_blame_pointers.proofs.Inside.{view_is}
 use Rattle.ckc_blame_pointers.proofs.Nodes.{NodeClaims}
 use Rattle.ckc_blame_pointers.proofs.Own.{constant_counts}
@@ -118,8 +118,7 @@ module _ (s : Setting) (here : Here) (t : CType) (f : NotedExpr) (spot : Pos) (w
 
 -- ---- the cast
 
-module _ (s : Setting) (store : Store) (entry : List ℕ) (here : Here) (h : HoldsAt s store entry here) (x : TypeTree) (e : NotedExpr) (t : CType) (pointer : is_pointer t ≡ true) (place : Pos) (v : Expr)
-    (left : IsNotStuck (ExprClaims s store entry here e) (evaluated store v)) (able : (x : Value) → ExprClaims s store entry here e x → IsTestable s store t x)
+module _ (s : Setting) (store : Store) (entry : List ℕ) (here : Here) (x : TypeTree) (e : NotedExpr) (t : CType)
     (f : NotedExpr) (l : LimitsView) (same : (widened : List ℕ) → l.fresh (record here.at { widened = widened }) ≡ l.fresh here.at) (counted : l.counted ≡ Some f.note.ctype)
     (w : Expr) (integer : is_integer f.note.ctype ≡ true) (right : IsNotStuck (ExprClaims s store entry here f) (evaluated store w))
     (index : (c : Value) → evaluated store w ≡ Ok c → IsIndex s store entry here (exact (integer_of f.note.ctype) c.number) (view s.frame f).form)
@@ -127,15 +126,18 @@ module _ (s : Setting) (store : Store) (entry : List ℕ) (here : Here) (h : Hol
   abbrev size : ℕ
   size = size_behind s.text.layout t
 
-  abbrev Of : Expr → Type 0
-  Of u = IsNotStuck (NodeClaims s store entry here h t (node_view s.frame (Node-F.Tested x (view s.frame e) (Some l)))) (evaluated store (Tested size (integer_of f.note.ctype) place v u))
+  abbrev Sized : Expr → Type 0
+  Sized u = IsSized s store here t (node_view s.frame (Node-F.Tested x (view s.frame e) (Some l))) (integer_of f.note.ctype) u
 
-  divided_claims : (u : Expr) → IsDivided s here t f l w u → Of u
-  divided_claims u d =
-      subst Of (sym d.quotient)
-      (tested_claims s store entry here h e t pointer place v (Binary Div (is_signed f.note.ctype) d.spot w (Number size)) (integer_of f.note.ctype) left able IsQuotient quotient
-      (node_view s.frame (Node-F.Tested x (view s.frame e) (Some l))) None (λ k. constant_form amount) (counted_own s here x e t f l same counted (Some (constant_form amount)) d.amount)
-      (λ c is q. tt) (λ c is q k v fits number. counts c q k v fits) (λ one c is q. absurd (several one)))
+  divided_sized : (u : Expr) → IsDivided s here t f l w u → Sized u
+  divided_sized u d =
+      subst Sized (sym d.quotient) (record {
+        needs = None;
+        number = λ k. constant_form amount;
+        node = counted_own s here x e t f l same counted (Some (constant_form amount)) d.amount;
+        size = weaker (evaluated store (Binary Div (is_signed f.note.ctype) d.spot w (Number size))) quotient
+            (λ c is q. record { typed = tt; counts = λ k v fits number. counts c q k v fits; single = λ one. absurd (several one) });
+      })
     where
       amount : ℤ
       amount = int_div d.number (pos size)
@@ -154,6 +156,19 @@ module _ (s : Setting) (store : Store) (entry : List ℕ) (here : Here) (h : Hol
           constant_counts s store.locals None (pos 0) amount k v fits tt ∙ ap (λ z. int_div z (pos size)) (sym number)
           ∙ sym (quotient_is size d.some (sizes_are_small s.text.layout (element_of t)) f.note.ctype (q.0).number integer (q.2).word) ∙ ap (exact (integer_of f.note.ctype)) (sym q.3)
 
-  pub amount_claims : (u : Expr) → IsAmount s here t f l w u → Of u
-  amount_claims u (inl same_as) = subst Of (sym same_as.1) (counted_claims s store entry here h x e t pointer place v left able f l same counted w integer right index same_as.0 several)
-  amount_claims u (inr d) = divided_claims u d
+  -- A bounds cast with limits has as many elements as they count.
+  pub amount_sized : (u : Expr) → IsAmount s here t f l w u → Sized u
+  amount_sized u (inl same_as) = subst Sized (sym same_as.1) (counted_sized s store entry here x e t f l same counted w integer right index same_as.0 several)
+  amount_sized u (inr d) = divided_sized u d
+
+module _ (s : Setting) (store : Store) (entry : List ℕ) (here : Here) (h : HoldsAt s store entry here) (x : TypeTree) (e : NotedExpr) (t : CType) (pointer : is_pointer t ≡ true) (place : Pos) (v : Expr)
+    (left : IsNotStuck (ExprClaims s store entry here e) (evaluated store v)) (able : (x : Value) → evaluated store v ≡ Ok x → ExprClaims s store entry here e x → IsTestable s store t x)
+    (f : NotedExpr) (l : LimitsView) (same : (widened : List ℕ) → l.fresh (record here.at { widened = widened }) ≡ l.fresh here.at) (counted : l.counted ≡ Some f.note.ctype)
+    (w : Expr) (integer : is_integer f.note.ctype ≡ true) (right : IsNotStuck (ExprClaims s store entry here f) (evaluated store w))
+    (index : (c : Value) → evaluated store w ≡ Ok c → IsIndex s store entry here (exact (integer_of f.note.ctype) c.number) (view s.frame f).form)
+    (several : kind_of t ≡ Some kind.One → ⊥) where
+  pub amount_claims : (u : Expr) → IsAmount s here t f l w u
+      → IsNotStuck (NodeClaims s store entry here h t (node_view s.frame (Node-F.Tested x (view s.frame e) (Some l)))) (evaluated store (Tested (size_behind s.text.layout t) (integer_of f.note.ctype) place v u))
+  amount_claims u is =
+      tested_claims s store entry here h t pointer (node_view s.frame (Node-F.Tested x (view s.frame e) (Some l))) (integer_of f.note.ctype) u
+      (amount_sized s store entry here x e t f l same counted w integer right index several u is) e place v left able

@@ -15,7 +15,7 @@ use Rattle.ckc_typed.specs.declared.typed.Range as noted
 use Rattle.ckc_typed.specs.declared.typed.Range.TheVariants as range
 use Rattle.ckc_typed.specs.Constants.{size_of}
 use Rattle.ckc_typed.specs.Conversions.{limits_fit_kind, is_terminated_kind, kind_is_tested, kinds_allow}
-use Rattle.ckc_typed.specs.Operands.{same_element}
+use Rattle.ckc_typed.specs.Operands.{is_raw_kind, same_element}
 use Rattle.ckc_typed.specs.Trees.{NotedExpr, TypeTree}
 use Rattle.ckc_typed.specs.Types.{is_integer, is_object_type, is_pointer, kind_of, element_of}
 use Rattle.ckc_bounds_views.specs.declared.variables.Own.{Own}
@@ -27,6 +27,7 @@ use Rattle.ckc_bounds_views.specs.Views.{node_view, view}
 use Rattle.ckc_bounds_statements.specs.Paths.{Here}
 use Rattle.ckc_source.specs.declared.expr.Integer.{Integer}
 use Rattle.ckc_source.specs.declared.expr.Integer.TheVariants.{Int}
+use Rattle.ckc_source.specs.declared.expr.Pointee.{Pointee}
 use Rattle.ckc_source.specs.declared.outcome.Range.{Range}
 use Rattle.ckc_source.specs.declared.outcome.Range.TheVariants.{Within, Without}
 use Rattle.ckc_source.specs.declared.outcome.Value.{Value}
@@ -40,14 +41,13 @@ use Rattle.ckc_blame_sound.specs.Values.{number_of, IsNumberOf}
 use Rattle.ckc_blame_sound.specs.Bodies.{AreFresh}
 use Rattle.ckc_blame_sound.specs.Points.{HoldsAt}
 use Rattle.ckc_blame_sound.proofs.Flow.{word_lies}
-use Rattle.ckc_blame_sound.proofs.Claims.{plain_is}
 use Rattle.ckc_blame_sound.proofs.Types.{word_wide}
 use Rattle.ckc_blame_sound.proofs.Same.{same_equal}
 use Rattle.ckc_blame_pointers.specs.Covered.{IsSoundStore}
 use Rattle.ckc_blame_pointers.specs.Meant.{IsNotStuck}
 use Rattle.ckc_blame_pointers.specs.Valuations.{Valuation, Fits, IsInRange}
 use Rattle.ckc_blame_pointers.proofs.Binary.{ExprClaims}
-use Rattle.ckc_blame_pointers.proofs.Claims.{IsOne, both_go_on, nothing_read}
+use Rattle.ckc_blame_pointers.proofs.Claims.{IsOne, weaker, both_go_on, nothing_read}
 use Rattle.ckc_blame_pointers.proofs.Elements.{at_pointer}
 use Rattle.ckc_blame_pointers.proofs.Held.{IsOwnNode}
 use Rattle.ckc_blame_pointers.proofs.Later.{extends_self}
@@ -55,17 +55,17 @@ use Rattle.ckc_blame_pointers.proofs.Nodes.{NodeClaims}
 use Rattle.ckc_blame_pointers.proofs.Numbers.{same_number, one_behind}
 use Rattle.ckc_blame_pointers.proofs.Sums.{IsIndex}
 use Rattle.ckc_blame_pointers.proofs.Unwidened.{fresh_same}
-use Rattle.ckc_blame_pointers.proofs.Own.{constant_counts, fresh_counts, own_claims, own_between, own_range, range_of_own}
-use Rattle.ckc_blame_pointers.proofs.Reading.{Ranged}
+use Rattle.ckc_blame_pointers.proofs.Own.{IsNullOrRanged, constant_counts, fresh_counts, own_claims, own_between, own_range, range_of_own}
 use Rattle.ckc_blame_pointers.proofs.Shorter.{part_true}
 use Rattle.ckc_blame_pointers.proofs.Truths.{true_bare}
 
 -- ---- types
 
--- A pointer of the second type may point to what one of the first may.
+-- A pointer of the second type may point to what one of the first may, which is no unchecked pointer.
 pub record IsLooser (t r : CType) : Type 0 where
   pub element : element_of r ≡ element_of t
   pub ends : is_terminated_kind (kind_of r) ≡ true → is_terminated_kind (kind_of t) ≡ true
+  pub checked : is_raw_kind (kind_of t) ≡ false
 
 ends_by : (j k : Option Kind) → kinds_allow kind_is_tested j k ≡ true → is_terminated_kind k ≡ true → is_terminated_kind j ≡ true
 ends_by (Some kind.Nt) (Some k) e ends = refl
@@ -81,11 +81,19 @@ ends_by (Some kind.Arr) (Some kind.Arr) e ends = absurd (cc)
 ends_by (Some j) None e ends = absurd (cc)
 ends_by None k e ends = absurd (cc)
 
+checked_by : (j k : Option Kind) → kinds_allow kind_is_tested j k ≡ true → is_raw_kind j ≡ false
+checked_by (Some kind.Raw) (Some k) e = absurd (cc)
+checked_by (Some kind.Raw) None e = absurd (cc)
+checked_by (Some kind.One) k e = refl
+checked_by (Some kind.Arr) k e = refl
+checked_by (Some kind.Nt) k e = refl
+checked_by None k e = refl
+
 pub tested_looser : (t r : CType) → same_element r t ≡ true → kinds_allow kind_is_tested (kind_of t) (kind_of r) ≡ true → IsLooser t r
 tested_looser t r same kinds =
     let p = and_parts (is_pointer r) (is_pointer t && same_type (element_of r) (element_of t)) same in
     let q = and_parts (is_pointer t) (same_type (element_of r) (element_of t)) p.1 in
-    record { element = same_equal (element_of r) (element_of t) q.1; ends = ends_by (kind_of t) (kind_of r) kinds }
+    record { element = same_equal (element_of r) (element_of t) q.1; ends = ends_by (kind_of t) (kind_of r) kinds; checked = checked_by (kind_of t) (kind_of r) kinds }
 
 module _ (s : Setting) (store : Store) (t r : CType) (c : IsLooser t r) where
   looser_true : (n low high : ℕ) → is_true store.shapes store.blocks (pointee_of s.text.layout t) n low high ≡ true → is_true store.shapes store.blocks (pointee_of s.text.layout r) n low high ≡ true
@@ -122,77 +130,90 @@ module _ (s : Setting) (store : Store) (entry : List ℕ) (next : ℕ) (ready : 
       by range.Missing m i = absurd (cc)
       by range.Any m i = inl i
       by (range.Known low high) m (inl z) = inl z
-      by (range.Known low high) m (inr g) = inr (g.from, g.to, g.range, looser_true s store e.note.ctype r looser x.number g.from g.to g.true_there)
+      by (range.Known low high) m (inr g) = inr (g.from, g.to, g.range looser.checked, looser_true s store e.note.ctype r looser x.number g.from g.to g.true_there)
 
 -- ---- the cast
 
-module _ (s : Setting) (store : Store) (entry : List ℕ) (here : Here) (h : HoldsAt s store entry here) (e : NotedExpr) (r : CType) (pointer : is_pointer r ≡ true) (place : Pos) (v w : Expr) (form : Integer)
-    (left : IsNotStuck (ExprClaims s store entry here e) (evaluated store v)) (able : (x : Value) → ExprClaims s store entry here e x → IsTestable s store r x)
-    (R : Value → Type 0) (right : IsNotStuck R (evaluated store w)) (made : NodeView) (o : Option CType) (g : ℕ → Form) (node : IsOwnNode here r (range_of_own g) o made)
-    (typed : (c : Value) → evaluated store w ≡ Ok c → R c → IfSome o (λ u. IsNumberOf u (exact form c.number)))
-    (counts : (c : Value) → evaluated store w ≡ Ok c → R c → (k : ℕ) (v : Valuation) → Fits s.frame store.locals v → IfSome o (λ u. v.numbers (capped k 1) ≡ exact form c.number) → number_of v.numbers (g k) ≡ exact form c.number)
-    (single : kind_of r ≡ Some kind.One → (c : Value) → evaluated store w ≡ Ok c → R c → exact form c.number ≡ pos 1) where
+-- A number c of a type is that of the elements that a form says, in which a fresh variable of the cast itself may stand,
+-- and one if the cast is to a `_Ptr`.
+pub record IsSize (s : Setting) (store : Store) (r : CType) (form : Integer) (needs : Option CType) (number : ℕ → Form) (c : Value) : Type 0 where
+  pub typed : IfSome needs (λ u. IsNumberOf u (exact form c.number))
+  pub counts : (k : ℕ) (v : Valuation) → Fits s.frame store.locals v → IfSome needs (λ u. v.numbers (capped k 1) ≡ exact form c.number) → number_of v.numbers (number k) ≡ exact form c.number
+  pub single : kind_of r ≡ Some kind.One → exact form c.number ≡ pos 1
+
+-- A cast to a type is a pointer that stands for itself, and has as many elements as an expression of a type comes to.
+pub record IsSized (s : Setting) (store : Store) (here : Here) (r : CType) (made : NodeView) (form : Integer) (w : Expr) : Type 0 where
+  pub needs : Option CType
+  pub number : ℕ → Form
+  pub node : IsOwnNode here r (range_of_own number) needs made
+  pub size : IsNotStuck (IsSize s store r form needs number) (evaluated store w)
+
+module _ (s : Setting) (store : Store) (entry : List ℕ) (here : Here) (h : HoldsAt s store entry here) (r : CType) (pointer : is_pointer r ≡ true) (made : NodeView) (form : Integer) (w : Expr)
+    (sized : IsSized s store here r made form w) where
   abbrev Made : Value → Type 0
   Made = NodeClaims s store entry here h r made
 
-  abbrev size : ℕ
-  size = size_behind s.text.layout r
+  abbrev to : Pointee
+  to = pointee_of s.text.layout r
 
-  abbrev InRange : ℤ → Value → Type 0
-  InRange z x = (x.number ≡ 0) ⊎ Ranged store.shapes store.blocks (pointee_of s.text.layout r) x.number (pos x.number) (elements_behind x.number size z) x
-
-  one_there : (x : Value) (z : ℤ) → InRange z x → (kind_of r ≡ Some kind.One → z ≡ pos 1) → IsOne s store entry r x.number
+  one_there : (x : Value) (z : ℤ) → IsNullOrRanged store to z x → (kind_of r ≡ Some kind.One → z ≡ pos 1) → IsOne s store entry r x.number
   one_there x z there single ones one = by there
     where
-      by : InRange z x → (x.number ≡ 0) ⊎ (is_true store.shapes store.blocks (pointee_of s.text.layout r) x.number x.number (x.number + size) ≡ true)
+      by : IsNullOrRanged store to z x → (x.number ≡ 0) ⊎ (is_true store.shapes store.blocks to x.number x.number (x.number + to.size) ≡ true)
       by (inl null) = inl null
       by (inr g) =
           let from : g.from ≡ x.number = same_number g.from x.number g.low_is in
-          let upto : g.upto ≡ x.number + size = same_number g.upto (x.number + size) (g.high_is ∙ ap (elements_behind x.number size) (single one) ∙ one_behind x.number size) in
-          inr (subst (λ a. is_true store.shapes store.blocks (pointee_of s.text.layout r) x.number a (x.number + size) ≡ true) from
-          (subst (λ b. is_true store.shapes store.blocks (pointee_of s.text.layout r) x.number g.from b ≡ true) upto g.true_there))
+          let upto : g.upto ≡ x.number + to.size = same_number g.upto (x.number + to.size) (g.high_is ∙ ap (elements_behind x.number to.size) (single one) ∙ one_behind x.number to.size) in
+          inr (subst (λ a. is_true store.shapes store.blocks to x.number a (x.number + to.size) ≡ true) from
+          (subst (λ b. is_true store.shapes store.blocks to x.number g.from b ≡ true) upto g.true_there))
 
-  comes : (x c : Value) → evaluated store w ≡ Ok c → R c → x.number < 2 ^ 32 → InRange (exact form c.number) x → Made x
-  comes x c is d small there =
-      own_claims s store entry here h r pointer made node.alone node.known node.nowhere node.kept (range_of_own g) node.ranged (own_between g) x (exact form c.number) node.behind node.some node.quiet small
-      (subst (λ (o : Option CType). IfSome o (λ u. IsNumberOf u (exact form c.number))) (sym node.needs) (typed c is d))
-      (subst (λ (o : Option CType). (own : Own) (v : Valuation) → Fits s.frame store.locals v → v.addresses own.value ≡ x.number → IfSome o (λ u. v.numbers (capped own.fresh 1) ≡ exact form c.number) → IsInRange s store v r (range_of_own g own) x)
-      (sym node.needs) (own_range s store r x (exact form c.number) (exact form c.number) there o g (counts c is d)))
-      (one_there x (exact form c.number) there (λ one. single one c is d))
-
-  goes : (x c : Value) → evaluated store w ≡ Ok c → R c → x.number < 2 ^ 32 → IsTestable s store r x → IsNotStuck Made (tests size form place x c.number)
-  goes x c is d small able = by (x.number == 0) refl
+  -- what is null, or in range of so many elements
+  pub cast_comes : (x c : Value) → IsSize s store r form sized.needs sized.number c → x.number < 2 ^ 32 → IsNullOrRanged store to (exact form c.number) x → Made x
+  cast_comes x c d small there =
+      own_claims s store entry here h r pointer made node.alone node.known node.nowhere node.kept (range_of_own sized.number) node.ranged (own_between sized.number) x (exact form c.number) node.behind node.some node.quiet small
+      (subst (λ (o : Option CType). IfSome o (λ u. IsNumberOf u (exact form c.number))) (sym node.needs) d.typed)
+      (subst (λ (o : Option CType). (own : Own) (v : Valuation) → Fits s.frame store.locals v → v.addresses own.value ≡ x.number → IfSome o (λ u. v.numbers (capped own.fresh 1) ≡ exact form c.number)
+      → IsInRange s store v r (range_of_own sized.number own) x) (sym node.needs) (own_range s store r x (exact form c.number) (exact form c.number) there sized.needs sized.number d.counts))
+      (one_there x (exact form c.number) there d.single)
     where
-      z : ℤ
-      z = exact form c.number
+      node : IsOwnNode here r (range_of_own sized.number) sized.needs made
+      node = sized.node
 
-      within : (low high : ℕ) → is_true store.shapes store.blocks (pointee_of s.text.layout r) x.number low high ≡ true → (y : ℤ) → elements_behind x.number size z ≡ y → IsNotStuck Made (tests_within (Within low high) place x.number y)
-      within low high there (pos upper) at = test (nat_le low x.number && nat_le x.number upper && nat_le upper high) refl
-        where
-          test : (b : Bool) → (nat_le low x.number && nat_le x.number upper && nat_le upper high) ≡ b → IsNotStuck Made (if b then ranged x.number x.number upper else stops check.Cast place)
-          test true e =
-              let p = and_parts (nat_le low x.number && nat_le x.number upper) (nat_le upper high) e in
-              let q = and_parts (nat_le low x.number) (nat_le x.number upper) p.0 in
-              comes (record { number = x.number; range = Within x.number upper }) c is d small (inr (record {
-                from = x.number;
-                upto = upper;
-                range = refl;
-                low_is = refl;
-                high_is = sym at;
-                true_there = part_true store.shapes (pointee_of s.text.layout r) x.number low high store.blocks there upper z (leb-true low x.number q.0) (leb-true x.number upper q.1) (leb-true upper high p.1) (sym at);
-              }))
-          test false e = tt
-      within low high there (negsuc m) at = tt
+  module _ (e : NotedExpr) (place : Pos) (v : Expr) (left : IsNotStuck (ExprClaims s store entry here e) (evaluated store v))
+      (able : (x : Value) → evaluated store v ≡ Ok x → ExprClaims s store entry here e x → IsTestable s store r x) where
+    goes : (x c : Value) → IsSize s store r form sized.needs sized.number c → x.number < 2 ^ 32 → IsTestable s store r x → IsNotStuck Made (tests to.size form place x c.number)
+    goes x c d small able = by (x.number == 0) refl
+      where
+        z : ℤ
+        z = exact form c.number
 
-      by : (b : Bool) → (x.number == 0) ≡ b → IsNotStuck Made (if b then plain 0 else tests_within x.range place x.number (elements_behind x.number size z))
-      by true e = comes (record { number = 0; range = Without }) c is d (omega arith) (inl refl)
-      by false e = ⊎_elim (λ null. let same : (x.number == 0) ≡ true = ap (λ n. n == 0) null in absurd (cc))
-          (λ q. subst (λ (a : Range). IsNotStuck Made (tests_within a place x.number (elements_behind x.number size z))) (sym q.2) (within q.0 q.1 q.3 (elements_behind x.number size z) refl)) able
+        within : (low high : ℕ) → is_true store.shapes store.blocks to x.number low high ≡ true → (y : ℤ) → elements_behind x.number to.size z ≡ y → IsNotStuck Made (tests_within (Within low high) place x.number y)
+        within low high there (pos upper) at = test (nat_le low x.number && nat_le x.number upper && nat_le upper high) refl
+          where
+            test : (b : Bool) → (nat_le low x.number && nat_le x.number upper && nat_le upper high) ≡ b → IsNotStuck Made (if b then ranged x.number x.number upper else stops check.Cast place)
+            test true e =
+                let p = and_parts (nat_le low x.number && nat_le x.number upper) (nat_le upper high) e in
+                let q = and_parts (nat_le low x.number) (nat_le x.number upper) p.0 in
+                cast_comes (record { number = x.number; range = Within x.number upper }) c d small (inr (record {
+                  from = x.number;
+                  upto = upper;
+                  range = refl;
+                  low_is = refl;
+                  high_is = sym at;
+                  true_there = part_true store.shapes to x.number low high store.blocks there upper z (leb-true low x.number q.0) (leb-true x.number upper q.1) (leb-true upper high p.1) (sym at);
+                }))
+            test false e = tt
+        within low high there (negsuc m) at = tt
 
-  pub tested_claims : IsNotStuck Made (evaluated store (Tested size form place v w))
-  tested_claims =
-      both_go_on (ExprClaims s store entry here e) R Made (evaluated store v) (evaluated store w) (λ x c. tests size form place x c.number) left right
-      (λ x c is there p d. goes x c there d (word_wide e.note.ctype x.number p.word) (able x p))
+        by : (b : Bool) → (x.number == 0) ≡ b → IsNotStuck Made (if b then plain 0 else tests_within x.range place x.number (elements_behind x.number to.size z))
+        by true e = cast_comes (record { number = 0; range = Without }) c d (omega arith) (inl refl)
+        by false e = ⊎_elim (λ null. let same : (x.number == 0) ≡ true = ap (λ n. n == 0) null in absurd (cc))
+            (λ q. subst (λ (a : Range). IsNotStuck Made (tests_within a place x.number (elements_behind x.number to.size z))) (sym q.2) (within q.0 q.1 q.3 (elements_behind x.number to.size z) refl)) able
+
+    pub tested_claims : IsNotStuck Made (evaluated store (Tested (size_behind s.text.layout r) form place v w))
+    tested_claims =
+        both_go_on (ExprClaims s store entry here e) (IsSize s store r form sized.needs sized.number) Made (evaluated store v) (evaluated store w) (λ x c. tests to.size form place x c.number) left sized.size
+        (λ x c is there p d. goes x c d (word_wide e.note.ctype x.number p.word) (able x is p))
 
 -- ---- limits
 
@@ -234,41 +255,31 @@ counted_own s here x e t f l same counted a amount = record {
     quiet true = refl
     quiet false = refl
 
-module _ (s : Setting) (store : Store) (entry : List ℕ) (here : Here) (h : HoldsAt s store entry here) (x : TypeTree) (e : NotedExpr) (t : CType) (pointer : is_pointer t ≡ true) (place : Pos) (v : Expr)
-    (left : IsNotStuck (ExprClaims s store entry here e) (evaluated store v)) (able : (x : Value) → ExprClaims s store entry here e x → IsTestable s store t x) where
+module _ (s : Setting) (store : Store) (entry : List ℕ) (here : Here) (x : TypeTree) (e : NotedExpr) (t : CType) where
   -- one element, of a `_Ptr`
-  pub one_claims : IsNotStuck (NodeClaims s store entry here h t (node_view s.frame (Node-F.Tested x (view s.frame e) None))) (evaluated store (Tested (size_behind s.text.layout t) Int place v (Number 1)))
-  one_claims =
-      tested_claims s store entry here h e t pointer place v (Number 1) Int left able (λ c. Unit {0}) tt made None (λ k. constant_form (pos 1)) own (λ c is d. tt)
-      (λ c is d k v fits number. constant_counts s store.locals None (pos 0) (pos 1) k v fits tt ∙ sym (one_is c is)) (λ single c is d. one_is c is)
-    where
-      made : NodeView
-      made = node_view s.frame (Node-F.Tested x (view s.frame e) None)
-
-      own : IsOwnNode here t (range_of_own (λ k. constant_form (pos 1))) None made
-      own = record {
-        alone = refl;
-        known = refl;
-        nowhere = λ first facts. refl;
-        kept = λ widened. ap (λ ts. ts ++ []) (fresh_same s.frame e here.at widened);
-        ranged = λ own first fresh widened. refl;
-        needs = refl;
-        behind = refl;
-        some = refl;
-        quiet = λ b. nothing_read s store entry (λ facts. None) b here.at;
-      }
-
-      one_is : (c : Value) → evaluated store (Number 1) ≡ Ok c → exact Int c.number ≡ pos 1
-      one_is c is = ap (exact Int) (plain_is 1 c is)
+  pub one_sized : IsSized s store here t (node_view s.frame (Node-F.Tested x (view s.frame e) None)) Int (Number 1)
+  one_sized = record {
+    needs = None;
+    number = λ k. constant_form (pos 1);
+    node = record {
+      alone = refl;
+      known = refl;
+      nowhere = λ first facts. refl;
+      kept = λ widened. ap (λ ts. ts ++ []) (fresh_same s.frame e here.at widened);
+      ranged = λ own first fresh widened. refl;
+      needs = refl;
+      behind = refl;
+      some = refl;
+      quiet = λ b. nothing_read s store entry (λ facts. None) b here.at;
+    };
+    size = record { typed = tt; counts = λ k v fits number. constant_counts s store.locals None (pos 0) (pos 1) k v fits tt; single = λ one. refl };
+  }
 
   -- as many elements as an expression says
   module _ (f : NotedExpr) (l : LimitsView) (same : (widened : List ℕ) → l.fresh (record here.at { widened = widened }) ≡ l.fresh here.at) (counted : l.counted ≡ Some f.note.ctype) (w : Expr)
       (integer : is_integer f.note.ctype ≡ true) (right : IsNotStuck (ExprClaims s store entry here f) (evaluated store w))
       (index : (c : Value) → evaluated store w ≡ Ok c → IsIndex s store entry here (exact (integer_of f.note.ctype) c.number) (view s.frame f).form)
       (amount : l.amount (size_of s.frame.structs (element_of t)) here.at.facts ≡ (view s.frame f).form here.at.facts) (several : kind_of t ≡ Some kind.One → ⊥) where
-    abbrev made : NodeView
-    made = node_view s.frame (Node-F.Tested x (view s.frame e) (Some l))
-
     abbrev z : Value → ℤ
     z c = exact (integer_of f.note.ctype) c.number
 
@@ -284,11 +295,20 @@ module _ (s : Setting) (store : Store) (entry : List ℕ) (here : Here) (h : Hol
         none : (z : ℤ) → z +ℤ pos 0 ≡ z
         none z = omega (arith, ints)
 
-    pub counted_claims : IsNotStuck (NodeClaims s store entry here h t made) (evaluated store (Tested (size_behind s.text.layout t) (integer_of f.note.ctype) place v w))
-    counted_claims = by_amount ((view s.frame f).form here.at.facts) refl
+    pub counted_sized : IsSized s store here t (node_view s.frame (Node-F.Tested x (view s.frame e) (Some l))) (integer_of f.note.ctype) w
+    counted_sized = by_amount ((view s.frame f).form here.at.facts) refl
       where
-        by_amount : (a : Option Form) → (view s.frame f).form here.at.facts ≡ a
-            → IsNotStuck (NodeClaims s store entry here h t made) (evaluated store (Tested (size_behind s.text.layout t) (integer_of f.note.ctype) place v w))
-        by_amount a is =
-            tested_claims s store entry here h e t pointer place v w (integer_of f.note.ctype) left able (ExprClaims s store entry here f) right made (Needed f a) (λ k. form_or_fresh a k)
-            (counted_own s here x e t f l same counted a (amount ∙ is)) (λ c there p. needed_typed a c p) (λ c there p. counts a is c there) (λ one c there p. absurd (several one))
+        by_amount : (a : Option Form) → (view s.frame f).form here.at.facts ≡ a → IsSized s store here t (node_view s.frame (Node-F.Tested x (view s.frame e) (Some l))) (integer_of f.note.ctype) w
+        by_amount a is = record {
+          needs = Needed f a;
+          number = λ k. form_or_fresh a k;
+          node = counted_own s here x e t f l same counted a (amount ∙ is);
+          size = weaker (evaluated store w) right (λ c there p. record { typed = needed_typed a c p; counts = counts a is c there; single = λ one. absurd (several one) });
+        }
+
+-- a tested cast to one element, of a `_Ptr`
+pub one_claims : (s : Setting) (store : Store) (entry : List ℕ) (here : Here) (h : HoldsAt s store entry here) (x : TypeTree) (e : NotedExpr) (t : CType) → is_pointer t ≡ true → (place : Pos) (v : Expr)
+    → IsNotStuck (ExprClaims s store entry here e) (evaluated store v) → ((x : Value) → evaluated store v ≡ Ok x → ExprClaims s store entry here e x → IsTestable s store t x)
+    → IsNotStuck (NodeClaims s store entry here h t (node_view s.frame (Node-F.Tested x (view s.frame e) None))) (evaluated store (Tested (size_behind s.text.layout t) Int place v (Number 1)))
+one_claims s store entry here h x e t pointer place v left able =
+    tested_claims s store entry here h t pointer (node_view s.frame (Node-F.Tested x (view s.frame e) None)) Int (Number 1) (one_sized s store entry here x e t) e place v left able

@@ -10,13 +10,14 @@ use Rattle.ckc_linear.specs.declared.forms.Base.TheVariants as base
 use Rattle.ckc_linear.specs.declared.forms.Form.{Form}
 use Rattle.ckc_typed.specs.declared.typed.Range.{Range}
 use Rattle.ckc_typed.specs.declared.typed.Range.TheVariants as range
+use Rattle.ckc_typed.specs.Conversions.{is_terminated_kind}
 use Rattle.ckc_typed.specs.Types.{is_pointer, is_pointer_form, kind_of, kind_in, element_of}
 use Rattle.ckc_bounds_points.specs.declared.frame.Local.{Local}
 use Rattle.ckc_bounds_points.specs.Frames.{local_at}
 use Rattle.ckc_bounds_points.specs.Shown.{Known}
 use Rattle.ckc_bounds_points.specs.Flow.{State}
 use Rattle.ckc_bounds_views.specs.Parts.{NodeView, capped, next_behind}
-use Rattle.ckc_bounds_views.specs.Conditions.{widening, widening_side}
+use Rattle.ckc_bounds_views.specs.Conditions.{wider, widened_by, widening, widening_side}
 use Rattle.ckc_bounds_views.specs.Places.{own_place, pointer_place}
 use Rattle.ckc_bounds_views.specs.Ranges.{own_numbers, pointer_range}
 use Rattle.ckc_bounds_statements.specs.Paths.{Here}
@@ -126,9 +127,9 @@ module _ (s : Setting) (store : Store) (entry : List ℕ) where
     kept = h.kept;
   }
 
-  -- what reads through no pointer widens nothing
-  pub nothing_wider : (target : Option Form) (at : State) → widening s.frame None target at ≡ at
-  nothing_wider target at = refl
+  -- what reads through no `_Nt_array_ptr` widens nothing
+  pub bare_wider : (behind : Option Kind) → is_terminated_kind behind ≡ false → (target : Option Form) (at : State) → widening s.frame behind target at ≡ at
+  bare_wider behind bare target at = ap (λ b. wider (widened_by s.frame (if b then target else None)) at) bare
 
   pub nothing_read : (target : Known → Option Form) (b : Bool) (at : State) → widening_side s.frame None target b at ≡ at
   nothing_read target true at = refl

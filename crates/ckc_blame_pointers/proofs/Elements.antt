@@ -2,11 +2,13 @@
 use Rattle.std.proofs.Common.{◌≡◌, ◌⊎◌, inl, inr, refl, sym, ap, subst, ◌∙◌, ℕ, Bool, true, false, List, arith}
 use Rattle.std.specs.Prelude.{◌+◌, ◌==◌, ◌<◌, ◌^◌, ◌&&◌, not, length, if◌then◌else◌, ℤ, pos, IfSome, Option, None, Some, Ok}
 use Rattle.ckc_base.specs.declared.places.Pos.{Pos}
+use Rattle.ckc_types.specs.declared.types.Kind.{Kind}
 use Rattle.ckc_types.specs.declared.types.Kind.TheVariants as kind
 use Rattle.ckc_types.specs.declared.types.CType.{CType}
 use Rattle.ckc_linear.specs.declared.forms.Form.{Form}
 use Rattle.ckc_typed.specs.declared.typed.Range.{Range}
 use Rattle.ckc_typed.specs.declared.typed.Range.TheVariants as range
+use Rattle.ckc_typed.specs.Operands.{is_raw_kind}
 use Rattle.ckc_typed.specs.Trees.{NotedExpr}
 use Rattle.ckc_typed.specs.Types.{is_integer, kind_of, element_of}
 use Rattle.ckc_bounds_points.specs.Codes.{unknown_bounds}
@@ -50,6 +52,14 @@ use Rattle.ckc_source.specs.declared.expr.Integer.TheVariants.{Int}
 use Rattle.ckc_bounds_points.specs.Forms.{sum_of_forms}
 use Rattle.ckc_blame_pointers.proofs.Wider.{place_widens}
 use Rattle.ckc_blame_pointers.proofs.Loads.{integer_part, element_is, IsTested, element_goes, reached_by, tested_pointer, part_loads}
+
+-- A pointer that is tested against its range is no unchecked one.
+pub counted_checked : (k : Option Kind) → is_counted_kind k ≡ true → is_raw_kind k ≡ false
+counted_checked (Some kind.Arr) e = refl
+counted_checked (Some kind.Nt) e = refl
+counted_checked (Some kind.One) e = refl
+counted_checked (Some kind.Raw) e = absurd (cc)
+counted_checked None e = refl
 
 pub no_fault : (b : Bool) (spot : Pos) → fault_if (true && b) unknown_bounds spot ≡ None → b ≡ false
 no_fault true spot e = absurd (cc)
@@ -158,7 +168,7 @@ module _ (s : Setting) (store : Store) (entry : List ℕ) (next : ℕ) (ready : 
 
           ends_of : (x : Value) → (x.number ≡ 0) ⊎ ((v : Valuation) × (low : Form) × (high : Form) × HasEnds s store v e.note.ctype low high x) → (x.number ≡ 0) ⊎ ((low : ℕ) × (high : ℕ) × (x.range ≡ Within low high))
           ends_of x (inl z) = inl z
-          ends_of x (inr (v, low, high, g)) = inr (g.from, g.to, g.range)
+          ends_of x (inr (v, low, high, g)) = inr (g.from, g.to, g.range (counted_checked (kind_of e.note.ctype) counted))
 
           reads : (x k : Value) → evaluated store v ≡ Ok x → evaluated store w ≡ Ok k → ExprClaims s store entry here e x → R k
               → (x.number ≡ 0) ⊎ ((v : Valuation) × (low : Form) × (high : Form) × HasEnds s store v e.note.ctype low high x)
@@ -172,7 +182,7 @@ module _ (s : Setting) (store : Store) (entry : List ℕ) (next : ℕ) (ready : 
               at_element a not_null at (inl z) = absurd (not_null z)
               at_element a not_null at (inr (q, low, high, g)) =
                   part_loads s store next ready.sound ready.names ready.shapes (NodeClaims s store entry here h u n) e.note.ctype x.number g.from g.to a offset u part g.true_there
-                  (reached_by access x k.number (pointee_of s.text.layout e.note.ctype) g.from g.to a tested refl g.range at)
+                  (reached_by access x k.number (pointee_of s.text.layout e.note.ctype) g.from g.to a tested refl (g.range (counted_checked (kind_of e.note.ctype) counted)) at)
                   (λ m there_m word. integer_read u n integer known some same m word (λ z. wide x k is there c d a m at not_null there_m z))
 
       -- what reads through no pointer that is null-terminated widens nothing

@@ -1,13 +1,11 @@
 -- The claims of a pointer that is a member of a structure, however that is reached.
-use Rattle.std.proofs.Common.{◌≡◌, ◌⊎◌, refl, sym, ap, subst, ◌∙◌, ℕ, Bool, true, false, List, [], ◌∷◌, ◌++◌, arith}
-use Rattle.std.specs.Prelude.{◌<◌, ◌≤◌, ◌^◌, ◌&&◌, if◌then◌else◌, find, flat_map, ℤ, pos, ◌+ℤ◌, Option, None, Some, IfSome, Result, Ok, Err, IsOk}
+use Rattle.std.proofs.Common.{◌≡◌, refl, sym, ap, subst, ◌∙◌, ℕ, Bool, true, false, List, [], ◌∷◌, ◌++◌, arith}
+use Rattle.std.specs.Prelude.{◌<◌, ◌≤◌, ◌^◌, ◌&&◌, if◌then◌else◌, find, flat_map, ℤ, pos, ◌+ℤ◌, Option, None, Some, IfSome, Result, Ok, IsOk}
 use Rattle.std.specs.List.{Contains}
 use Rattle.std.specs.Option.{option_map}
 use Rattle.std.proofs.lemmas.Bool.{eqb-true}
 use Rattle.std.proofs.lemmas.Int.{ints}
 use Rattle.std.proofs.lemmas.List.Elements.{Contains-append_left, Contains-append_right}
-use Rattle.ckc_base.specs.declared.arithmetic.Width.TheVariants.{Word}
-use Rattle.ckc_types.specs.declared.types.Kind.{Kind}
 use Rattle.ckc_types.specs.declared.types.Kind.TheVariants as kind
 use Rattle.ckc_types.specs.declared.types.CType.{CType, CType-F, out-CType}
 use Rattle.ckc_types.specs.declared.types.MemberBounds.{MemberBounds}
@@ -15,13 +13,12 @@ use Rattle.ckc_types.specs.declared.types.MemberBounds.TheVariants as mbounds
 use Rattle.ckc_types.specs.declared.types.MemberShape.{MemberShape}
 use Rattle.ckc_types.specs.Layout.{members_of}
 use Rattle.ckc_syntax.specs.declared.tree.Name.{Name}
-use Rattle.ckc_syntax.specs.declared.tree.Name.TheVariants as name
 use Rattle.ckc_typed.specs.declared.typed.Range.{Range}
 use Rattle.ckc_typed.specs.declared.typed.Range.TheVariants as range
 use Rattle.ckc_typed.specs.Environment.{is_member_named}
 use Rattle.ckc_typed.specs.Layouts.{member_number}
-use Rattle.ckc_typed.specs.Operands.{is_raw_kind, member_in, dot_type}
-use Rattle.ckc_typed.specs.Types.{is_integer, is_integer_form, is_char_form, is_pointer_form, kind_of, kind_in}
+use Rattle.ckc_typed.specs.Operands.{member_in, dot_type}
+use Rattle.ckc_typed.specs.Types.{is_integer, is_integer_form, is_char_form, kind_of}
 use Rattle.ckc_bounds_points.specs.Forms.{constant_form, is_small}
 use Rattle.ckc_bounds_points.specs.Shown.{Known}
 use Rattle.ckc_bounds_views.specs.declared.variables.Own.{Own}
@@ -35,15 +32,14 @@ use Rattle.ckc_source.specs.declared.expr.Count.TheVariants as count
 use Rattle.ckc_source.specs.declared.expr.Integer.{Integer}
 use Rattle.ckc_source.specs.declared.expr.Pointee.{Pointee}
 use Rattle.ckc_source.specs.declared.outcome.Halt.{Halt}
-use Rattle.ckc_source.specs.declared.outcome.Halt.TheVariants as halt
 use Rattle.ckc_source.specs.declared.outcome.Range.TheVariants.{Without}
 use Rattle.ckc_source.specs.declared.outcome.Value.{Value}
 use Rattle.ckc_source.specs.Blocks.{loaded}
-use Rattle.ckc_source.specs.Eval.{Store, given, given_some, place_in, counted, reads, loads_pointer, evaluated}
-use Rattle.ckc_source.specs.Words.{exact, elements_behind}
+use Rattle.ckc_source.specs.Eval.{Store, given_some, place_in, counted, loads_pointer, evaluated}
+use Rattle.ckc_source.specs.Words.{exact}
 use Rattle.ckc_source.specs.Words as words
 use Rattle.ckc_build_values.specs.Kinds.{integer_in, integer_of, width_of, pointee_of, count_of_kind, tag_in, tag_of}
-use Rattle.ckc_build_values.specs.Members.{offset_of, member_named, integer_in_member, count_by, count_in, count_of_member}
+use Rattle.ckc_build_values.specs.Members.{offset_of, integer_in_member, count_by, count_in, count_of_member}
 use Rattle.ckc_build_values.specs.Places.{Place, member_place, read_at}
 use Rattle.ckc_blame_sound.specs.Settings.{Setting}
 use Rattle.ckc_blame_sound.specs.Values.{IsNumberOf, IsWordOf}
@@ -56,15 +52,16 @@ use Rattle.ckc_blame_sound.proofs.Ranges.{contains_at}
 use Rattle.ckc_blame_pointers.specs.Valuations.{Valuation, Fits, RangeBetween, IsInRange}
 use Rattle.ckc_blame_pointers.specs.Covered.{NamesInteger, IsPointerMember, IsSoundStore}
 use Rattle.ckc_blame_pointers.specs.Meant.{IsNotStuck}
-use Rattle.ckc_blame_pointers.proofs.Claims.{IsOne, weaker}
+use Rattle.ckc_blame_pointers.specs.Owed.{IfGives}
+use Rattle.ckc_blame_pointers.proofs.Claims.{IsOne}
+use Rattle.ckc_blame_pointers.proofs.Given.{gives_weaker, gives_both, ok_comes}
 use Rattle.ckc_blame_pointers.proofs.Later.{zero_typed}
-use Rattle.ckc_blame_pointers.proofs.Loads.{FitsWidth, loaded_in}
+use Rattle.ckc_blame_pointers.proofs.Loads.{FitsWidth, loaded_in, word_gives}
 use Rattle.ckc_blame_pointers.proofs.Members.{member_there}
 use Rattle.ckc_blame_pointers.proofs.Nodes.{NodeClaims}
-use Rattle.ckc_blame_pointers.proofs.Own.{counted_reads, own_claims, own_between, own_range, constant_counts, fresh_counts, kind_between, kind_range, kind_one, same_count}
+use Rattle.ckc_blame_pointers.proofs.Own.{IsNullOrRanged, pointer_gives, fixed_gives, own_claims, own_between, own_range, constant_counts, fresh_counts, kind_between, kind_range, kind_one, same_count}
 use Rattle.ckc_blame_pointers.proofs.Pointers.{not_member}
 use Rattle.ckc_blame_pointers.proofs.Reach.{IsStructurePlace, element_loads, got, member_reads}
-use Rattle.ckc_blame_pointers.proofs.Reading.{Ranged}
 use Rattle.ckc_blame_pointers.proofs.Structures.{IsWholeElement}
 
 -- the slots of the first member that passes a test are among those of all
@@ -84,21 +81,6 @@ found_passes p (x ∷ ms) m e = by (λ e. found_passes p ms m e) (p x) refl e
     by : (find p ms ≡ Some m → p m ≡ true) → (b : Bool) → p x ≡ b → (if b then Some x else find p ms) ≡ Some m → p m ≡ true
     by later true t e = let same : x ≡ m = cc in subst (λ y. p y ≡ true) same t
     by later false t e = later e
-
--- a pointer of no unchecked kind is checked
-checked_in : (f : CType-F CType) → is_pointer_form f ≡ true → is_raw_kind (kind_in f) ≡ false → is_checked (kind_in f) ≡ true
-checked_in (CType-F.Pointer k t) p e = by k e
-  where
-    by : (k : Kind) → is_raw_kind (Some k) ≡ false → is_checked (Some k) ≡ true
-    by kind.Raw e = absurd (cc)
-    by kind.One e = refl
-    by kind.Arr e = refl
-    by kind.Nt e = refl
-checked_in CType-F.Int p e = absurd (cc)
-checked_in CType-F.Unsigned p e = absurd (cc)
-checked_in CType-F.Char p e = absurd (cc)
-checked_in CType-F.Void p e = absurd (cc)
-checked_in (CType-F.Struct tag) p e = absurd (cc)
 
 -- what is loaded in the width of an integer is a word of its type
 integer_loaded : (t : CType) (n : ℕ) → is_integer t ≡ true → FitsWidth (words.width_of (integer_of t)) n → IsWordOf t n
@@ -131,7 +113,7 @@ abbrev pub IsMemberNode : Setting → Here → CType → Member → NodeView →
 IsMemberNode s here t m = IsOwnNode here t (range_of_member s.frame.structs t (Some m)) (member_fresh s.frame.structs t (Some m))
 
 module _ (s : Setting) (store : Store) (entry : List ℕ) (next : ℕ) (ready : IsSoundStore s store next) (here : Here) (h : HoldsAt s store entry here) (u t : CType) (n : Name) (c : IsPointerMember s store u t n)
-    (checked : is_raw_kind (kind_of t) ≡ false) (made : NodeView) (node : IsMemberNode s here t (record { tag = c.tag; number = c.number }) made) where
+    (made : NodeView) (node : IsMemberNode s here t (record { tag = c.tag; number = c.number }) made) where
   abbrev Made : Value → Type 0
   Made = NodeClaims s store entry here h t made
 
@@ -139,23 +121,16 @@ module _ (s : Setting) (store : Store) (entry : List ℕ) (next : ℕ) (ready : 
   to = pointee_of s.text.layout t
 
   abbrev InRange : ℤ → Value → Type 0
-  InRange z x = (x.number ≡ 0) ⊎ Ranged store.shapes store.blocks to x.number (pos x.number) (elements_behind x.number to.size z) x
+  InRange z x = IsNullOrRanged store to z x
 
-  is_checked_here : is_checked (kind_of t) ≡ true
-  is_checked_here = checked_in (out-CType t) c.pointer checked
-
-  -- ---- the claims, by its bounds
+  -- ---- the claims, by its bounds; of an unchecked pointer nothing is known
 
   claims_by : (b : MemberBounds) → c.member.bounds ≡ b → (x : Value) (z : ℤ) → x.number < 2 ^ 32 → IfSome (named_type s.frame.structs c.tag b) (λ u. IsNumberOf u z)
       → ((own : Own) (first limit : ℕ) → first ≤ own.value → own.value < limit → RangeBetween first limit (range_in_struct (kind_of t) b own))
       → ((own : Own) (v : Valuation) → Fits s.frame store.locals v → v.addresses own.value ≡ x.number → IfSome (named_type s.frame.structs c.tag b) (λ u. v.numbers (capped own.fresh 1) ≡ z)
       → IsInRange s store v t (range_in_struct (kind_of t) b own) x)
       → IsOne s store entry t x.number → Made x
-  claims_by b is x z small typed between in_range one =
-      own_claims s store entry here h t c.pointer made node.alone node.known node.nowhere node.kept (λ own. range_in_struct (kind_of t) b own) range_there between x z node.behind node.some node.quiet small
-      (subst (λ (o : Option CType). IfSome o (λ u. IsNumberOf u z)) (sym fresh_there) typed)
-      (subst (λ (o : Option CType). (own : Own) (v : Valuation) → Fits s.frame store.locals v → v.addresses own.value ≡ x.number → IfSome o (λ u. v.numbers (capped own.fresh 1) ≡ z)
-      → IsInRange s store v t (range_in_struct (kind_of t) b own) x) (sym fresh_there) in_range) one
+  claims_by b is x z small typed between in_range one = by (is_checked (kind_of t)) refl
     where
       m : Member
       m = record { tag = c.tag; number = c.number }
@@ -163,13 +138,24 @@ module _ (s : Setting) (store : Store) (entry : List ℕ) (next : ℕ) (ready : 
       bounds_are : member_bounds s.frame.structs m ≡ b
       bounds_are = c.judged ∙ is
 
-      range_there : (own : Own) (first fresh : ℕ) (widened : List ℕ) → made.range t own first fresh (record here.at { widened = widened }) ≡ range_in_struct (kind_of t) b own
-      range_there own first fresh widened =
-          node.ranged own first fresh widened ∙ ap (λ c. if c then range_in_struct (kind_of t) (member_bounds s.frame.structs m) own else range.Missing) is_checked_here
-          ∙ ap (λ b. range_in_struct (kind_of t) b own) bounds_are
+      range_there : (d : Bool) → is_checked (kind_of t) ≡ d → (own : Own) (first fresh : ℕ) (widened : List ℕ)
+          → made.range t own first fresh (record here.at { widened = widened }) ≡ (if d then range_in_struct (kind_of t) b own else range.Missing)
+      range_there d checked own first fresh widened =
+          node.ranged own first fresh widened ∙ ap (λ c. if c then range_in_struct (kind_of t) (member_bounds s.frame.structs m) own else range.Missing) checked
+          ∙ ap (λ b. if d then range_in_struct (kind_of t) b own else range.Missing) bounds_are
 
-      fresh_there : own_fresh t made here.at.facts ≡ named_type s.frame.structs c.tag b
-      fresh_there = node.needs ∙ ap (λ d. if d then named_type s.frame.structs c.tag (member_bounds s.frame.structs m) else None) is_checked_here ∙ ap (named_type s.frame.structs c.tag) bounds_are
+      fresh_there : is_checked (kind_of t) ≡ true → own_fresh t made here.at.facts ≡ named_type s.frame.structs c.tag b
+      fresh_there checked = node.needs ∙ ap (λ d. if d then named_type s.frame.structs c.tag (member_bounds s.frame.structs m) else None) checked ∙ ap (named_type s.frame.structs c.tag) bounds_are
+
+      by : (d : Bool) → is_checked (kind_of t) ≡ d → Made x
+      by true checked =
+          own_claims s store entry here h t c.pointer made node.alone node.known node.nowhere node.kept (λ own. range_in_struct (kind_of t) b own) (range_there true checked) between x z node.behind node.some node.quiet small
+          (subst (λ (o : Option CType). IfSome o (λ u. IsNumberOf u z)) (sym (fresh_there checked)) typed)
+          (subst (λ (o : Option CType). (own : Own) (v : Valuation) → Fits s.frame store.locals v → v.addresses own.value ≡ x.number → IfSome o (λ u. v.numbers (capped own.fresh 1) ≡ z)
+          → IsInRange s store v t (range_in_struct (kind_of t) b own) x) (sym (fresh_there checked)) in_range) one
+      by false unchecked =
+          own_claims s store entry here h t c.pointer made node.alone node.known node.nowhere node.kept (λ own. range.Missing) (range_there false unchecked) (λ own first limit more less. tt) x (pos 0) node.behind node.some node.quiet small
+          (zero_typed (own_fresh t made here.at.facts)) (λ own v fits at number. tt) one
 
   -- ---- what an element holds
 
@@ -203,10 +189,12 @@ module _ (s : Setting) (store : Store) (entry : List ℕ) (next : ℕ) (ready : 
       slots_are : slots_of s.text w.number w.block.element ≡ flat_map (slot_of_member s.text.layout c.tag) (members_of s.text.layout c.tag)
       slots_are = ap (slots_of s.text w.number) w.element ∙ ap (slots_in s.text w.number u) c.struct
 
-  -- what is loaded there
-  plainly : ((m : ℕ) → m < 2 ^ 32 → Made (record { number = m; range = Without })) → (a : ℕ) → IsWholeElement store.blocks u a → IsNotStuck Made (got store s.text.layout t offset_there None a)
-  plainly out a w =
-      element_loads s.text store.blocks next ready.sound Made u t offset_there part a w (λ m word. out m (word_wide t m word))
+  -- it may be read there
+  may_read : (o : Option Count) → count_by s.text.layout c.tag t c.member.bounds ≡ o → (a : ℕ) → IsWholeElement store.blocks u a → IfGives Made (got store s.text.layout t offset_there o a) → IsNotStuck Made (got store s.text.layout t offset_there o a)
+  may_read (Some q) e a w g = ok_comes Made (got store s.text.layout t offset_there (Some q) a) (filled q e a w) g
+  may_read None e a w g =
+      gives_both (λ v. Unit {0}) Made (got store s.text.layout t offset_there None a)
+      (element_loads s.text store.blocks next ready.sound (λ v. Unit {0}) u t offset_there part a w (λ m word. tt)) g
     where
       there_type : dot_type s.text.layout u n ≡ Some t
       there_type = ap (member_in s.text.layout n) c.struct ∙ ap (option_map (λ m. m.ctype)) c.found ∙ ap Some c.type
@@ -214,11 +202,13 @@ module _ (s : Setting) (store : Store) (entry : List ℕ) (next : ℕ) (ready : 
       part : IsPart s.text.layout u offset_there (width_of t)
       part = subst (λ o. IsPart s.text.layout u o (width_of t)) offset_is (member_there s.text.layout u n t c.number c.named there_type)
 
+  -- ---- what is read, wherever that is
+
   -- a pointer of which the number of elements is not known
-  missing : (b : MemberBounds) → c.member.bounds ≡ b → (kind_of t ≡ Some kind.One → ⊥) → ((own : Own) → range_in_struct (kind_of t) b own ≡ range.Missing) → named_type s.frame.structs c.tag b ≡ None
-      → (a : ℕ) → IsWholeElement store.blocks u a → IsNotStuck Made (got store s.text.layout t offset_there None a)
-  missing b is several none none_fresh =
-      plainly (λ m small. claims_by b is (record { number = m; range = Without }) (pos 0) small (zero_typed (named_type s.frame.structs c.tag b))
+  missing : (b : MemberBounds) → c.member.bounds ≡ b → (kind_of t ≡ Some kind.One → ⊥) → ((own : Own) → range_in_struct (kind_of t) b own ≡ range.Missing)
+      → (a offset : ℕ) → IfGives Made (got store s.text.layout t offset None a)
+  missing b is several none a offset =
+      word_gives store ready.sound.bytes Made t (place_in a offset) (λ m word. claims_by b is (record { number = m; range = Without }) (pos 0) (word_wide t m word) (zero_typed (named_type s.frame.structs c.tag b))
       (λ own first limit more less. subst (RangeBetween first limit) (sym (none own)) tt)
       (λ own v fits at number. subst (λ r. IsInRange s store v t r (record { number = m; range = Without })) (sym (none own)) tt) (λ ones one. absurd (several one)))
 
@@ -226,38 +216,17 @@ module _ (s : Setting) (store : Store) (entry : List ℕ) (next : ℕ) (ready : 
   not_one b is other one = other (sym is ∙ c.single one)
 
   -- how many elements it has by a member
-  named_reads : (k : ℕ) (add : ℤ) → c.member.bounds ≡ mbounds.Named k add → (m : MemberShape) → member_named s.text.layout c.tag (name.Member k) ≡ Some m → is_integer m.ctype ≡ true
-      → named_type s.frame.structs c.tag (mbounds.Named k add) ≡ Some m.ctype → (a : ℕ) → IsWholeElement store.blocks u a
-      → IsNotStuck Made (got store s.text.layout t offset_there (Some (count.Member (offset_of s.text.layout c.tag k) (integer_of m.ctype) add)) a)
-  named_reads k add is m there integer typed a w = by (loaded (words.width_of form) (place_in a (offset_of s.text.layout c.tag k)) store.blocks) refl
+  named_gives : (k : ℕ) (add : ℤ) → c.member.bounds ≡ mbounds.Named k add → (m : MemberShape) → is_integer m.ctype ≡ true → named_type s.frame.structs c.tag (mbounds.Named k add) ≡ Some m.ctype
+      → (a offset : ℕ) → IfGives Made (got store s.text.layout t offset (Some (count.Member (offset_of s.text.layout c.tag k) (integer_of m.ctype) add)) a)
+  named_gives k add is m integer typed a offset =
+      gives_weaker (λ v. (z : ℤ) × (counted store a q ≡ Ok z) × (v.number < 2 ^ 32) × InRange z v) Made (got store s.text.layout t offset (Some q) a) (pointer_gives store ready.sound.bytes to q a (place_in a offset))
+      (λ x r. by x r.0 r.2 r.3 (loaded (words.width_of form) (place_in a (offset_of s.text.layout c.tag k)) store.blocks) refl r.1)
     where
       form : Integer
       form = integer_of m.ctype
 
       q : Count
       q = count.Member (offset_of s.text.layout c.tag k) form add
-
-      count_is : count_by s.text.layout c.tag t c.member.bounds ≡ Some q
-      count_is = ap (count_by s.text.layout c.tag t) is ∙ ap (λ o. Some (count.Member (offset_of s.text.layout c.tag k) (integer_in_member o) add)) there
-
-      ok : IsOk (got store s.text.layout t offset_there (Some q) a)
-      ok = filled q count_is a w
-
-      after : Result ℤ Halt → ℕ → Result Value Halt
-      after x n = given x (λ m. reads store.shapes store.blocks to n (pos n) (elements_behind n to.size m))
-
-      stuck : (o : Option ℕ) (x : Result ℤ Halt) → x ≡ Err halt.Stuck → IsOk (given_some o (after x)) → ⊥
-      stuck None x e ok = absurd (cc)
-      stuck (Some n) x e ok = let none : IsOk (after (Err halt.Stuck) n) = subst (λ x. IsOk (after x n)) e ok in absurd (cc)
-
-      begin : ℕ
-      begin = place_in a (offset_of s.text.layout c.tag k)
-
-      counted_is : (o : Option ℕ) → loaded (words.width_of form) begin store.blocks ≡ o → counted store a q ≡ given_some o (λ w. Ok (exact form w +ℤ add))
-      counted_is o e = ap (λ o. given_some o (λ w. Ok (exact form w +ℤ add))) e
-
-      number : MemberBounds → Option CType
-      number b = named_type s.frame.structs c.tag b
 
       between : (d : Bool) (own : Own) (first limit : ℕ) → first ≤ own.value → own.value < limit
           → RangeBetween first limit (range_up_to own.value (if d then Some (record (fresh_form own.fresh) { add = pos 0 +ℤ add }) else None))
@@ -274,63 +243,67 @@ module _ (s : Setting) (store : Store) (entry : List ℕ) (next : ℕ) (ready : 
           none z c = omega (arith, ints)
       in_range x z r false own v fits at is = tt
 
-      comes : (w' : ℕ) → loaded (words.width_of form) begin store.blocks ≡ Some w' → (x : Value) → (x.number < 2 ^ 32) × InRange (exact form w' +ℤ add) x → Made x
-      comes w' e x r =
-          claims_by (mbounds.Named k add) is x (exact form w') r.0
-          (subst (λ (o : Option CType). IfSome o (λ u. IsNumberOf u (exact form w'))) (sym typed)
-          (word_lies m.ctype w' integer (integer_loaded m.ctype w' integer (loaded_in (words.width_of form) begin store.blocks ready.sound.bytes w' e))))
-          (between (is_small (pos 0) && is_small add)) (in_range x (exact form w') r.1 (is_small (pos 0) && is_small add))
+      comes : (w : ℕ) → loaded (words.width_of form) (place_in a (offset_of s.text.layout c.tag k)) store.blocks ≡ Some w → (x : Value) → x.number < 2 ^ 32 → InRange (exact form w +ℤ add) x → Made x
+      comes w e x small r =
+          claims_by (mbounds.Named k add) is x (exact form w) small
+          (subst (λ (o : Option CType). IfSome o (λ u. IsNumberOf u (exact form w))) (sym typed)
+          (word_lies m.ctype w integer (integer_loaded m.ctype w integer (loaded_in (words.width_of form) (place_in a (offset_of s.text.layout c.tag k)) store.blocks ready.sound.bytes w e))))
+          (between (is_small (pos 0) && is_small add)) (in_range x (exact form w) r (is_small (pos 0) && is_small add))
           (λ ones one. absurd (not_one (mbounds.Named k add) is (λ f. cc) one))
 
-      by : (o : Option ℕ) → loaded (words.width_of form) begin store.blocks ≡ o → IsNotStuck Made (got store s.text.layout t offset_there (Some q) a)
-      by None e = absurd (stuck (loaded Word (place_in a offset_there) store.blocks) (counted store a q) (counted_is None e) ok)
-      by (Some w') e =
-          weaker (loads_pointer store to q a (place_in a offset_there))
-          (counted_reads store ready.sound.bytes to q (exact form w' +ℤ add) a (place_in a offset_there) (counted_is (Some w') e) ok) (λ x is r. comes w' e x r)
+      by : (x : Value) (z : ℤ) → x.number < 2 ^ 32 → InRange z x → (o : Option ℕ) → loaded (words.width_of form) (place_in a (offset_of s.text.layout c.tag k)) store.blocks ≡ o
+          → given_some o (λ w. Ok (exact form w +ℤ add)) ≡ Ok z → Made x
+      by x z small r (Some w) e is = comes w e x small (subst (λ z. InRange z x) (same_ok z (exact form w +ℤ add) (sym is)) r)
+        where
+          same_ok : (z y : ℤ) → ◌≡◌ {A = Result ℤ Halt} (Ok z) (Ok y) → z ≡ y
+          same_ok z y e = cc
+      by x z small r None e is = absurd (cc)
 
   -- a pointer without bounds
-  bare_reads : c.member.bounds ≡ mbounds.Nothing → (a : ℕ) → IsWholeElement store.blocks u a → (o : Option Count) → count_of_kind (kind_of t) ≡ o → IsNotStuck Made (got store s.text.layout t offset_there o a)
-  bare_reads is a w o e = by o e
+  bare_gives : c.member.bounds ≡ mbounds.Nothing → (a offset : ℕ) (o : Option Count) → count_of_kind (kind_of t) ≡ o → IfGives Made (got store s.text.layout t offset o a)
+  bare_gives is a offset o e = by o e
     where
       comes : (x : Value) → x.number < 2 ^ 32 → ((z : ℤ) → count_of_kind (kind_of t) ≡ Some (count.Fixed z) → InRange z x) → Made x
       comes x small there =
           claims_by mbounds.Nothing is x (pos 0) small tt (kind_between s store entry t x there) (λ own v fits at number. kind_range s store entry t x there None (pos 0) own v fits at tt) (kind_one s store entry t x there)
 
-      by : (o : Option Count) → count_of_kind (kind_of t) ≡ o → IsNotStuck Made (got store s.text.layout t offset_there o a)
+      by : (o : Option Count) → count_of_kind (kind_of t) ≡ o → IfGives Made (got store s.text.layout t offset o a)
       by (Some (count.Fixed z)) e =
-          weaker (got store s.text.layout t offset_there (Some (count.Fixed z)) a)
-          (counted_reads store ready.sound.bytes to (count.Fixed z) z a (place_in a offset_there) refl (filled (count.Fixed z) (ap (count_by s.text.layout c.tag t) is ∙ e) a w))
-          (λ x there r. comes x r.0 (λ y f. subst (λ z. InRange z x) (same_count z y (sym e ∙ f)) r.1))
+          gives_weaker (λ v. (v.number < 2 ^ 32) × InRange z v) Made (got store s.text.layout t offset (Some (count.Fixed z)) a) (fixed_gives store ready.sound.bytes to z a (place_in a offset))
+          (λ x r. comes x r.0 (λ y f. subst (λ z. InRange z x) (same_count z y (sym e ∙ f)) r.1))
       by (Some (count.Member o f z)) e = absurd (not_member (kind_of t) o f z e)
-      by None e = plainly (λ m small. comes (record { number = m; range = Without }) small (λ z f. absurd (cc))) a w
+      by None e = word_gives store ready.sound.bytes Made t (place_in a offset) (λ m word. comes (record { number = m; range = Without }) (word_wide t m word) (λ z f. absurd (cc)))
 
   -- a pointer with a constant number of elements
-  fixed_there : (z : ℤ) → c.member.bounds ≡ mbounds.Fixed z → (a : ℕ) → IsWholeElement store.blocks u a → IsNotStuck Made (got store s.text.layout t offset_there (Some (count.Fixed z)) a)
-  fixed_there z is a w =
-      weaker (got store s.text.layout t offset_there (Some (count.Fixed z)) a)
-      (counted_reads store ready.sound.bytes to (count.Fixed z) z a (place_in a offset_there) refl (filled (count.Fixed z) (ap (count_by s.text.layout c.tag t) is) a w))
-      (λ x there r. claims_by (mbounds.Fixed z) is x (pos 0) r.0 tt (λ own first limit more less. own_between (λ k. constant_form z) own first limit more less)
+  constant_gives : (z : ℤ) → c.member.bounds ≡ mbounds.Fixed z → (a offset : ℕ) → IfGives Made (got store s.text.layout t offset (Some (count.Fixed z)) a)
+  constant_gives z is a offset =
+      gives_weaker (λ v. (v.number < 2 ^ 32) × InRange z v) Made (got store s.text.layout t offset (Some (count.Fixed z)) a) (fixed_gives store ready.sound.bytes to z a (place_in a offset))
+      (λ x r. claims_by (mbounds.Fixed z) is x (pos 0) r.0 tt (λ own first limit more less. own_between (λ k. constant_form z) own first limit more less)
       (λ own v fits at number. own_range s store t x (pos 0) z r.1 None (λ k. constant_form z) (constant_counts s store.locals None (pos 0) z) own v fits at tt)
       (λ ones one. absurd (not_one (mbounds.Fixed z) is (λ f. cc) one)))
 
-  reads_by : (b : MemberBounds) → c.member.bounds ≡ b → (a : ℕ) → IsWholeElement store.blocks u a → IsNotStuck Made (got store s.text.layout t offset_there (count_by s.text.layout c.tag t b) a)
-  reads_by mbounds.Nothing is a w = bare_reads is a w (count_of_kind (kind_of t)) refl
-  reads_by mbounds.Unknown is a w = missing mbounds.Unknown is (not_one mbounds.Unknown is (λ f. cc)) (λ own. refl) refl a w
-  reads_by mbounds.NoForm is a w = missing mbounds.NoForm is (not_one mbounds.NoForm is (λ f. cc)) (λ own. refl) refl a w
-  reads_by (mbounds.Fixed z) is a w = fixed_there z is a w
-  reads_by (mbounds.Named k add) is a w =
+  gives_by : (b : MemberBounds) → c.member.bounds ≡ b → (a offset : ℕ) → IfGives Made (got store s.text.layout t offset (count_by s.text.layout c.tag t b) a)
+  gives_by mbounds.Nothing is a offset = bare_gives is a offset (count_of_kind (kind_of t)) refl
+  gives_by mbounds.Unknown is a offset = missing mbounds.Unknown is (not_one mbounds.Unknown is (λ f. cc)) (λ own. refl) a offset
+  gives_by mbounds.NoForm is a offset = missing mbounds.NoForm is (not_one mbounds.NoForm is (λ f. cc)) (λ own. refl) a offset
+  gives_by (mbounds.Fixed z) is a offset = constant_gives z is a offset
+  gives_by (mbounds.Named k add) is a offset =
       let m = subst (NamesInteger s c.tag) is c.counts in
-      subst (λ o. IsNotStuck Made (got store s.text.layout t offset_there (Some (count.Member (offset_of s.text.layout c.tag k) (integer_in_member o) add)) a)) (sym m.1)
-      (named_reads k add is m.0 m.1 m.2 m.3 a w)
+      subst (λ o. IfGives Made (got store s.text.layout t offset (Some (count.Member (offset_of s.text.layout c.tag k) (integer_in_member o) add)) a)) (sym m.1)
+      (named_gives k add is m.0 m.2 m.3 a offset)
 
-  -- Read at the place of a structure, it is as it is judged to be.
+  count_there : count_of_member s.text.layout (tag_of u) n ≡ count_by s.text.layout c.tag t c.member.bounds
+  count_there =
+      ap (λ f. count_of_member s.text.layout (tag_in f) n) c.struct ∙ ap (count_in s.text.layout c.tag) c.found ∙ ap (λ u. count_by s.text.layout c.tag u c.member.bounds) c.type
+
+  -- However it is read, it is as it is judged to be.
+  pub held_gives : (a offset : ℕ) → IfGives Made (got store s.text.layout t offset (count_of_member s.text.layout (tag_of u) n) a)
+  held_gives a offset = subst (λ o. IfGives Made (got store s.text.layout t offset o a)) (sym count_there) (gives_by c.member.bounds refl a offset)
+
+  -- Read at the place of a structure, it is not stuck.
   pub held_claims : (q : Place) → IsStructurePlace store u q
       → IsNotStuck Made (evaluated store (read_at s.text.layout t (count_of_member s.text.layout (tag_of u) n) (member_place s.text.layout (tag_of u) n q)))
   held_claims q place =
       member_reads store s.text.layout u q place (tag_of u) n Made t (count_of_member s.text.layout (tag_of u) n)
       (λ a w. subst (λ d. IsNotStuck Made (got store s.text.layout t d (count_of_member s.text.layout (tag_of u) n) a)) (sym offset_is)
-      (subst (λ o. IsNotStuck Made (got store s.text.layout t offset_there o a)) (sym count_there) (reads_by c.member.bounds refl a w)))
-    where
-      count_there : count_of_member s.text.layout (tag_of u) n ≡ count_by s.text.layout c.tag t c.member.bounds
-      count_there =
-          ap (λ f. count_of_member s.text.layout (tag_in f) n) c.struct ∙ ap (count_in s.text.layout c.tag) c.found ∙ ap (λ u. count_by s.text.layout c.tag u c.member.bounds) c.type
+      (may_read (count_of_member s.text.layout (tag_of u) n) (sym count_there) a w (held_gives a offset_there)))

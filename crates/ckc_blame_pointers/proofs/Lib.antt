@@ -1,6 +1,7 @@
 pub mod Unwidened
 pub mod Later
 pub mod Numbers
+pub mod Given
 pub mod Claims
 pub mod Reading
 pub mod Moving
@@ -46,3 +47,11 @@ pub mod Operands
 pub mod Literals
 pub mod Strings
 pub mod ReadThrough
+pub mod RawReads
+pub mod Trusted
+pub mod RawNames
+pub mod RawCasts
+pub mod Runs
+pub mod Carried
+pub mod Locations
+pub mod BoundsCasts

@@ -10,9 +10,9 @@ use Rattle.ckc_types.specs.declared.types.CType.{CType, CType-F, out-CType}
 use Rattle.ckc_types.specs.declared.types.Structs.{Structs}
 use Rattle.ckc_syntax.specs.declared.tree.Node.{Node-F}
 use Rattle.ckc_typed.specs.Constants.{size_of}
-use Rattle.ckc_typed.specs.Types.{is_char, is_char_form, is_integer_form, is_pointer_form, is_scalar}
+use Rattle.ckc_typed.specs.Conversions.{is_terminated_kind}
+use Rattle.ckc_typed.specs.Types.{is_char, is_char_form, is_integer_form, is_pointer, is_pointer_form, is_scalar, kind_of, element_of}
 use Rattle.ckc_bounds_points.specs.Forms.{constant_form}
-use Rattle.ckc_bounds_views.specs.Judged.{is_counted_kind}
 use Rattle.ckc_bounds_views.specs.Parts.{NodeView}
 use Rattle.ckc_bounds_views.specs.Views.{node_view}
 use Rattle.ckc_bounds_statements.specs.Paths.{Here}
@@ -29,6 +29,7 @@ use Rattle.ckc_blame_sound.specs.Points.{HoldsAt}
 use Rattle.ckc_blame_sound.proofs.Types.{some_is}
 use Rattle.ckc_blame_pointers.specs.Covered.{IsSoundStore, IsLiteral}
 use Rattle.ckc_blame_pointers.specs.Meant.{IsNotStuck}
+use Rattle.ckc_blame_pointers.proofs.Addresses.{true_retyped}
 use Rattle.ckc_blame_pointers.proofs.Arrays.{size_is, array_true, address_small}
 use Rattle.ckc_blame_pointers.proofs.Claims.{nothing_read}
 use Rattle.ckc_blame_pointers.proofs.Nodes.{NodeClaims}
@@ -74,14 +75,20 @@ module _ (s : Setting) (store : Store) (entry : List ℕ) (next : ℕ) (ready : 
   abbrev value_there : Value
   value_there = record { number = a; range = Within a (a + length bytes) }
 
-  pub literal_claims : IsNotStuck (NodeClaims s store entry here h t node) (evaluated store (Array (address_of s.text k) (length bytes)))
-  literal_claims =
-      own_claims s store entry here h t c.array.pointer node refl refl (λ first facts. refl) (λ widened. refl) (range_of_own (λ k. constant_form (pos (length bytes)))) (λ own first fresh widened. refl)
+  -- a range of its bytes, for a type of pointers
+  abbrev IsTrueFor : CType → Type 0
+  IsTrueFor r = is_true store.shapes store.blocks (pointee_of s.text.layout r) a a (a + length bytes) ≡ true
+
+  pub literal_true : IsTrueFor t
+  literal_true = subst (λ n. is_true store.shapes store.blocks (pointee_of s.text.layout t) a a (a + n) ≡ true) bytes_are (array_true s store entry next ready here h t k c.array)
+
+  claims_for : (r : CType) → is_pointer r ≡ true → (kind_of r ≡ Some kind.One → ⊥) → size_behind s.text.layout r ≡ 1 → IsTrueFor r
+      → IsNotStuck (NodeClaims s store entry here h r node) (evaluated store (Array (address_of s.text k) (length bytes)))
+  claims_for r pointer several size is_there =
+      own_claims s store entry here h r pointer node refl refl (λ first facts. refl) (λ widened. refl) (range_of_own (λ k. constant_form (pos (length bytes)))) (λ own first fresh widened. refl)
       (own_between (λ k. constant_form (pos (length bytes)))) value_there (pos 0) refl refl (λ b. nothing_read s store entry (λ facts. None) b here.at) (address_small s store entry next ready here h t k c.array) tt
-      (own_range s store t value_there (pos 0) (pos (length bytes)) (inr ends) None (λ k. constant_form (pos (length bytes))) (constant_counts s store.locals None (pos 0) (pos (length bytes))))
-      (λ ones one. let same : c.array.kind ≡ kind.One = some_is c.array.kind kind.One (sym c.array.kind_is ∙ one) in
-      let single : is_counted_kind (Some c.array.kind) ≡ false = ap (λ q. is_counted_kind (Some q)) same in
-      let counted = c.array.counted in absurd (cc))
+      (own_range s store r value_there (pos 0) (pos (length bytes)) (inr ends) None (λ k. constant_form (pos (length bytes))) (constant_counts s store.locals None (pos 0) (pos (length bytes))))
+      (λ ones one. absurd (several one))
     where
       high_at : (n : ℕ) → pos (a + n) ≡ elements_behind a 1 (pos n)
       high_at n =
@@ -90,12 +97,21 @@ module _ (s : Setting) (store : Store) (entry : List ℕ) (next : ℕ) (ready : 
           let product_is : pos 1 *ℤ pos n ≡ pos n = product ∙ ap pos once in
           omega (arith, ints)
 
-      ends : Ranged store.shapes store.blocks (pointee_of s.text.layout t) a (pos a) (elements_behind a (size_behind s.text.layout t) (pos (length bytes))) value_there
+      ends : Ranged store.shapes store.blocks (pointee_of s.text.layout r) a (pos a) (elements_behind a (size_behind s.text.layout r) (pos (length bytes))) value_there
       ends = record {
         from = a;
         upto = a + length bytes;
         range = refl;
         low_is = refl;
-        high_is = high_at (length bytes) ∙ ap (λ n. elements_behind a n (pos (length bytes))) (sym size_there);
-        true_there = subst (λ n. is_true store.shapes store.blocks (pointee_of s.text.layout t) a a (a + n) ≡ true) bytes_are (array_true s store entry next ready here h t k c.array);
+        high_is = high_at (length bytes) ∙ ap (λ n. elements_behind a n (pos (length bytes))) (sym size);
+        true_there = is_there;
       }
+
+  pub literal_claims : IsNotStuck (NodeClaims s store entry here h t node) (evaluated store (Array (address_of s.text k) (length bytes)))
+  literal_claims = claims_for t c.array.pointer (λ one. absurd (c.array.several (some_is c.array.kind kind.One (sym c.array.kind_is ∙ one)))) size_there literal_true
+
+  -- It is also a pointer of a type to the same elements that is not null-terminated.
+  pub bare_literal_claims : (r : CType) → is_pointer r ≡ true → (kind_of r ≡ Some kind.One → ⊥) → is_terminated_kind (kind_of r) ≡ false → element_of r ≡ element_of t
+      → IsNotStuck (NodeClaims s store entry here h r node) (evaluated store (Array (address_of s.text k) (length bytes)))
+  bare_literal_claims r pointer several bare same =
+      claims_for r pointer several (ap (size_of s.text.layout) same ∙ size_there) (true_retyped s store t r same bare a a (a + length bytes) literal_true)

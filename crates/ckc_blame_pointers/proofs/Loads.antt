@@ -37,6 +37,8 @@ use Rattle.ckc_blame_sound.proofs.Ranges.{true_cell}
 use Rattle.ckc_blame_sound.proofs.Reached.{array_reached, terminated_reached, place_is}
 use Rattle.ckc_blame_sound.proofs.Stores.{load_goes}
 use Rattle.ckc_blame_pointers.specs.Meant.{IsNotStuck}
+use Rattle.ckc_blame_pointers.specs.Owed.{IfGives}
+use Rattle.ckc_blame_pointers.proofs.Given.{some_gives}
 
 -- ---- the words that memory holds
 
@@ -107,6 +109,11 @@ word_loaded t n h = by (is_char t) h
     by : (b : Bool) → FitsWidth (if b then Byte else Word) n → n < (if b then 256 else 2 ^ 32)
     by true h = h
     by false h = h
+
+-- the integer or the pointer that is loaded at an address, if there is one
+pub word_gives : (store : Store) → HoldBytes store.blocks → (Q : Value → Type 0) (t : CType) (a : ℕ) → ((m : ℕ) → IsWordOf t m → Q (record { number = m; range = Without })) → IfGives Q (loads store (width_of t) a)
+word_gives store bytes Q t a out =
+    some_gives Q (loaded (width_of t) a store.blocks) plain (λ m there. out m (word_loaded t m (loaded_in (width_of t) a store.blocks bytes m there)))
 
 -- ---- an element
 

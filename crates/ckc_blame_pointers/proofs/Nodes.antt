@@ -192,7 +192,7 @@ module _ (s : Setting) (store : Store) (entry : List ℕ) (here : Here) (h : Hol
         ends p v fits same (inr g) = inr (record {
           from = g.from;
           to = g.upto;
-          range = g.range;
+          range = λ checked. g.range;
           low_is = g.low_is ∙ end_there v fits low forms.0;
           high_is = g.high_is ∙ end_there v fits high forms.1;
           true_there = subst (λ n. is_true store.shapes store.blocks (pointee_of s.text.layout scope.local.ctype) n g.from g.upto ≡ true) (sym same) g.true_there;

@@ -29,7 +29,7 @@ use Rattle.ckc_source.specs.declared.outcome.Halt.{Halt}
 use Rattle.ckc_source.specs.declared.outcome.Value.{Value}
 use Rattle.ckc_source.specs.Blocks.{loaded}
 use Rattle.ckc_source.specs.LaidOut.{HoldBytes}
-use Rattle.ckc_source.specs.Eval.{Store, given, given_some, counted, reads, loads_pointer}
+use Rattle.ckc_source.specs.Eval.{Store, given, counted, reads, loads_pointer}
 use Rattle.ckc_source.specs.Runs.{is_true}
 use Rattle.ckc_source.specs.Words.{elements_behind}
 use Rattle.ckc_build_values.specs.Kinds.{pointee_of, size_behind, count_of_kind}
@@ -39,41 +39,57 @@ use Rattle.ckc_blame_sound.specs.Points.{HoldsAt}
 use Rattle.ckc_blame_sound.specs.Bodies.{AreFresh}
 use Rattle.ckc_blame_pointers.specs.Valuations.{Valuation, Fits, Extends, IsInRange, IsReadIn, RangeBetween}
 use Rattle.ckc_blame_pointers.specs.Meant.{IsNotStuck}
-use Rattle.ckc_blame_pointers.proofs.Claims.{IsOne, Placed, SideGoes, weaker, stays, placed_as}
+use Rattle.ckc_blame_pointers.specs.Owed.{IfGives}
+use Rattle.ckc_blame_pointers.proofs.Claims.{IsOne, Placed, SideGoes, stays, placed_as}
+use Rattle.ckc_blame_pointers.proofs.Given.{given_gives, some_gives, gives_weaker, ok_comes}
 use Rattle.ckc_blame_pointers.proofs.Loads.{loaded_in}
 use Rattle.ckc_blame_pointers.proofs.Moving.{with_address, address_added, address_kept, at_base}
 use Rattle.ckc_blame_pointers.proofs.Later.{numbered, numbered_extends, numbered_numbers, numbers_kept, number_there, extends_less, extends_on, next_more, still_fits}
 use Rattle.ckc_blame_pointers.proofs.Nodes.{node_fresh, NodeClaims, narrow}
-use Rattle.ckc_blame_pointers.proofs.Reading.{Ranged, reads_gives}
+use Rattle.ckc_blame_pointers.proofs.Reading.{Ranged, Reads, read_gives}
 use Rattle.ckc_blame_pointers.proofs.Rows.{pointer_word}
 use Rattle.ckc_blame_pointers.proofs.Numbers.{same_number, one_behind}
 
 pub same_count : (c z : ℤ) → ◌≡◌ {A = Option Count} (Some (count.Fixed c)) (Some (count.Fixed z)) → c ≡ z
 same_count c z e = cc
 
--- A pointer in memory that has a number of elements and may be read is a word, and null or in range.
-pub counted_reads : (store : Store) → HoldBytes store.blocks → (to : Pointee) (m : Count) (c : ℤ) (begin a : ℕ) → counted store begin m ≡ Ok c → IsOk (loads_pointer store to m begin a)
-    → IsNotStuck (λ v. (v.number < 2 ^ 32) × ((v.number ≡ 0) ⊎ Ranged store.shapes store.blocks to v.number (pos v.number) (elements_behind v.number to.size c) v)) (loads_pointer store to m begin a)
-counted_reads store bytes to m c begin a is ok = by (loaded Word a store.blocks) refl ok
+-- a pointer that is null, or has a true range of so many elements from itself up
+abbrev pub IsNullOrRanged : Store → Pointee → ℤ → Value → Type 0
+IsNullOrRanged store to c v = (v.number ≡ 0) ⊎ Ranged store.shapes store.blocks to v.number (pos v.number) (elements_behind v.number to.size c) v
+
+-- A pointer in memory that has a number of elements is a word, and null or in range, if it is read.
+pub pointer_gives : (store : Store) → HoldBytes store.blocks → (to : Pointee) (m : Count) (begin a : ℕ)
+    → IfGives (λ v. (c : ℤ) × (counted store begin m ≡ Ok c) × (v.number < 2 ^ 32) × IsNullOrRanged store to c v) (loads_pointer store to m begin a)
+pointer_gives store bytes to m begin a =
+    some_gives Comes (loaded Word a store.blocks) (λ n. given (counted store begin m) (λ c. reads store.shapes store.blocks to n (pos n) (elements_behind n to.size c)))
+    (λ n there. given_gives Comes (counted store begin m) (λ c. reads store.shapes store.blocks to n (pos n) (elements_behind n to.size c))
+    (λ c is. gives_weaker (Reads store.shapes store.blocks to n (pos n) (elements_behind n to.size c)) Comes (reads store.shapes store.blocks to n (pos n) (elements_behind n to.size c))
+    (read_gives store.shapes store.blocks to n (pos n) (elements_behind n to.size c)) (λ v r. comes n there c is v r)))
   where
     Comes : Value → Type 0
-    Comes v = (v.number < 2 ^ 32) × ((v.number ≡ 0) ⊎ Ranged store.shapes store.blocks to v.number (pos v.number) (elements_behind v.number to.size c) v)
+    Comes v = (c : ℤ) × (counted store begin m ≡ Ok c) × (v.number < 2 ^ 32) × IsNullOrRanged store to c v
 
-    after : ℕ → Result ℤ Halt → Result Value Halt
-    after n x = given x (λ m. reads store.shapes store.blocks to n (pos n) (elements_behind n to.size m))
-
-    by : (o : Option ℕ) → loaded Word a store.blocks ≡ o → IsOk (given_some o (λ n. after n (counted store begin m))) → IsNotStuck Comes (given_some o (λ n. after n (counted store begin m)))
-    by (Some n) there ok =
-        subst (λ x. IsNotStuck Comes (after n x)) (sym is)
-        (weaker (reads store.shapes store.blocks to n (pos n) (elements_behind n to.size c))
-        (reads_gives store.shapes store.blocks to n (pos n) (elements_behind n to.size c) (subst (λ x. IsOk (after n x)) is ok))
-        (λ v is r. subst (λ m. (m < 2 ^ 32) × ((m ≡ 0) ⊎ Ranged store.shapes store.blocks to m (pos m) (elements_behind m to.size c) v)) (sym r.number) (loaded_in Word a store.blocks bytes n there, r.ranged_there)))
-    by None there ok = absurd (cc)
+    comes : (n : ℕ) → loaded Word a store.blocks ≡ Some n → (c : ℤ) → counted store begin m ≡ Ok c → (v : Value) → Reads store.shapes store.blocks to n (pos n) (elements_behind n to.size c) v → Comes v
+    comes n there c is v r =
+        let both : (v.number < 2 ^ 32) × IsNullOrRanged store to c v =
+        subst (λ k. (k < 2 ^ 32) × ((k ≡ 0) ⊎ Ranged store.shapes store.blocks to k (pos k) (elements_behind k to.size c) v)) (sym r.number) (loaded_in Word a store.blocks bytes n there, r.ranged_there) in
+        (c, is, both.0, both.1)
 
 -- the same of a constant number of elements
+pub fixed_gives : (store : Store) → HoldBytes store.blocks → (to : Pointee) (c : ℤ) (begin a : ℕ)
+    → IfGives (λ v. (v.number < 2 ^ 32) × IsNullOrRanged store to c v) (loads_pointer store to (count.Fixed c) begin a)
+fixed_gives store bytes to c begin a =
+    gives_weaker (λ v. (z : ℤ) × (counted store begin (count.Fixed c) ≡ Ok z) × (v.number < 2 ^ 32) × IsNullOrRanged store to z v) (λ v. (v.number < 2 ^ 32) × IsNullOrRanged store to c v)
+    (loads_pointer store to (count.Fixed c) begin a) (pointer_gives store bytes to (count.Fixed c) begin a)
+    (λ v r. subst (λ z. (v.number < 2 ^ 32) × IsNullOrRanged store to z v) (same_ok r.0 c (sym r.1)) (r.2, r.3))
+  where
+    same_ok : (z c : ℤ) → ◌≡◌ {A = Result ℤ Halt} (Ok z) (Ok c) → z ≡ c
+    same_ok z c e = cc
+
+-- if it may be read
 pub fixed_reads : (store : Store) → HoldBytes store.blocks → (to : Pointee) (c : ℤ) (begin a : ℕ) → IsOk (loads_pointer store to (count.Fixed c) begin a)
-    → IsNotStuck (λ v. (v.number < 2 ^ 32) × ((v.number ≡ 0) ⊎ Ranged store.shapes store.blocks to v.number (pos v.number) (elements_behind v.number to.size c) v)) (loads_pointer store to (count.Fixed c) begin a)
-fixed_reads store bytes to c begin a ok = counted_reads store bytes to (count.Fixed c) c begin a refl ok
+    → IsNotStuck (λ v. (v.number < 2 ^ 32) × IsNullOrRanged store to c v) (loads_pointer store to (count.Fixed c) begin a)
+fixed_reads store bytes to c begin a ok = ok_comes (λ v. (v.number < 2 ^ 32) × IsNullOrRanged store to c v) (loads_pointer store to (count.Fixed c) begin a) ok (fixed_gives store bytes to c begin a)
 
 -- ---- a pointer that stands for itself
 
@@ -168,6 +184,16 @@ module _ (s : Setting) (store : Store) (entry : List ℕ) (here : Here) (h : Hol
       room_of : (first m : ℕ) → first + capped m 1 + 1 < 2 ^ 32 → (first ≤ capped first m) × (capped first m < first + capped m 1)
       room_of first m low = (omega arith, omega arith)
 
+-- ---- a pointer that stands for itself and may be read within no known range
+
+module _ (s : Setting) (store : Store) (entry : List ℕ) (here : Here) (h : HoldsAt s store entry here) (t : CType) (pointer : is_pointer t ≡ true) (several : kind_of t ≡ Some kind.One → ⊥) (n : NodeView) where
+  pub missing_claims : n.stands_alone ≡ true → n.null ≡ false → ((first : ℕ) (facts : Known) → n.place t first facts ≡ None) → ((widened : List ℕ) → n.fresh (record here.at { widened = widened }) ≡ n.fresh here.at)
+      → ((own : Own) (first fresh : ℕ) (widened : List ℕ) → n.range t own first fresh (record here.at { widened = widened }) ≡ range.Missing) → own_fresh t n here.at.facts ≡ None
+      → n.behind ≡ None → n.is_zero ≡ false → ((b : Bool) → n.side b here.at ≡ here.at) → (x : Value) → x.number < 2 ^ 32 → NodeClaims s store entry here h t n x
+  missing_claims alone known nowhere kept ranged needs none some quiet x small =
+      own_claims s store entry here h t pointer n alone known nowhere kept (λ own. range.Missing) ranged (λ own first limit more less. tt) x (pos 0) none some quiet small
+      (subst (λ (o : Option CType). IfSome o (λ u. IsNumberOf u (pos 0))) (sym needs) tt) (λ own v fits at number. tt) (λ ones one. absurd (several one))
+
 -- ---- its range
 
 -- so many elements from a pointer up, by a form of their number
@@ -188,7 +214,7 @@ module _ (s : Setting) (store : Store) (t : CType) (x : Value) (z c : ℤ) (ther
       by (inr g') = inr (record {
         from = g'.from;
         to = g'.upto;
-        range = g'.range;
+        range = λ checked. g'.range;
         low_is = g'.low_is ∙ sym (at_base s store.locals t v (fits 0 (inl refl)) (base.Value at_own.value) ∙ ap pos at);
         high_is = g'.high_is ∙ sym (ap (λ a. elements_behind a (size_behind s.text.layout t) (number_of v.numbers (g at_own.fresh))) at ∙ ap (elements_behind x.number (size_behind s.text.layout t)) (counts at_own.fresh v fits number));
         true_there = g'.true_there;

@@ -1,6 +1,6 @@
 -- The claims of a pointer that `*` and `[` read.
 use Rattle.std.proofs.Common.{◌≡◌, ◌⊎◌, ⊎_elim, inl, inr, refl, sym, ap, subst, ◌∙◌, ℕ, ◌+◌, Bool, true, false, List, [], ◌∷◌, arith}
-use Rattle.std.specs.Prelude.{◌%◌, ◌<◌, ◌^◌, not, if◌then◌else◌, flat_map, slice_get, ℤ, pos, Option, None, Some, IsOk}
+use Rattle.std.specs.Prelude.{◌%◌, ◌<◌, ◌^◌, not, flat_map, slice_get, ℤ, pos, Option, None, Some, IsOk}
 use Rattle.std.specs.List.{All, Contains, list_any}
 use Rattle.std.proofs.lemmas.Bool.{and_parts}
 use Rattle.std.proofs.lemmas.List.Elements.{All-nil, All-cons, All-contains, Contains-append_left, Contains-append_right}
@@ -15,7 +15,7 @@ use Rattle.ckc_typed.specs.Types.{is_pointer, kind_of, element_of}
 use Rattle.ckc_bounds_points.specs.Flow.{State}
 use Rattle.ckc_bounds_points.specs.Shown.{Known}
 use Rattle.ckc_bounds_views.specs.declared.variables.Own.{Own}
-use Rattle.ckc_bounds_views.specs.Conditions.{wider, widened_by, widening, widening_side}
+use Rattle.ckc_bounds_views.specs.Conditions.{widening, widening_side}
 use Rattle.ckc_bounds_views.specs.Fresh.{own_fresh}
 use Rattle.ckc_bounds_views.specs.Parts.{NodeView}
 use Rattle.ckc_bounds_views.specs.Ranges.{range_by_type}
@@ -29,7 +29,6 @@ use Rattle.ckc_source.specs.declared.program.Object.{Object}
 use Rattle.ckc_source.specs.Blocks.{Block}
 use Rattle.ckc_source.specs.Eval.{Store, given, place_in, loads_pointer, evaluated}
 use Rattle.ckc_source.specs.Runs.{is_true}
-use Rattle.ckc_source.specs.Words.{elements_behind}
 use Rattle.ckc_build_elaborate.specs.Objects.{objects_elaborated}
 use Rattle.ckc_build_elaborate.specs.Shapes.{is_bare, names}
 use Rattle.ckc_build_values.specs.Kinds.{pointee_of, count_of_kind}
@@ -46,16 +45,17 @@ use Rattle.ckc_blame_sound.proofs.Accesses.{scalar_part}
 use Rattle.ckc_blame_sound.proofs.Lists.{all_by}
 use Rattle.ckc_blame_pointers.specs.Covered.{KeepRunsFree, IsSoundStore}
 use Rattle.ckc_blame_pointers.specs.Meant.{IsNotStuck}
+use Rattle.ckc_blame_pointers.specs.Owed.{IfGives}
 use Rattle.ckc_blame_pointers.proofs.Arrays.{object_at}
-use Rattle.ckc_blame_pointers.proofs.Claims.{weaker}
+use Rattle.ckc_blame_pointers.proofs.Claims.{bare_wider}
+use Rattle.ckc_blame_pointers.proofs.Given.{gives_weaker, gives_both, ok_comes}
 use Rattle.ckc_blame_pointers.proofs.Later.{zero_typed}
-use Rattle.ckc_blame_pointers.proofs.Loads.{part_loads}
+use Rattle.ckc_blame_pointers.proofs.Loads.{part_loads, word_gives}
 use Rattle.ckc_blame_pointers.proofs.Nodes.{NodeClaims}
-use Rattle.ckc_blame_pointers.proofs.Own.{counted_reads, own_claims, kind_between, kind_range, kind_one, same_count}
+use Rattle.ckc_blame_pointers.proofs.Own.{IsNullOrRanged, fixed_gives, own_claims, kind_between, kind_range, kind_one, same_count}
 use Rattle.ckc_blame_pointers.proofs.Pointers.{not_member, slots_are}
 use Rattle.ckc_blame_pointers.proofs.Reach.{ComesTo, comes_on, element_at, got, place_reads}
 use Rattle.ckc_blame_pointers.proofs.Reached.{IsElementReached, IsRunReached, scalar_reached}
-use Rattle.ckc_blame_pointers.proofs.Reading.{Ranged}
 use Rattle.ckc_blame_pointers.proofs.Scalars.{pointer_scalar}
 
 -- the slots of a member are among those of all
@@ -73,6 +73,51 @@ bare_bounds mbounds.NoForm e = absurd (cc)
 bare_bounds (mbounds.Fixed c) e = absurd (cc)
 bare_bounds (mbounds.Named j c) e = absurd (cc)
 
+-- ---- the claims of what is read
+
+module _ (s : Setting) (store : Store) (entry : List ℕ) (next : ℕ) (ready : IsSoundStore s store next) (here : Here) (h : HoldsAt s store entry here) (t p : CType) (pointer : is_pointer t ≡ true)
+    (bare : is_terminated_kind (kind_of p) ≡ false) (made : NodeView) (alone : made.stands_alone ≡ true) (known : made.null ≡ false) (nowhere : (first : ℕ) (facts : Known) → made.place t first facts ≡ None)
+    (kept : (widened : List ℕ) → made.fresh (record here.at { widened = widened }) ≡ made.fresh here.at)
+    (ranged : (own : Own) (first fresh : ℕ) (widened : List ℕ) → made.range t own first fresh (record here.at { widened = widened }) ≡ range_by_type (kind_of t) own.value)
+    (behind : made.behind ≡ kind_of p) (some : made.is_zero ≡ false) (same : (b : Bool) → made.side b here.at ≡ widening_side s.frame made.behind (made.target 0) b here.at) where
+  abbrev pointee_there : Pointee
+  pointee_there = pointee_of s.text.layout t
+
+  abbrev Read : Value → Type 0
+  Read = NodeClaims s store entry here h t made
+
+  -- what is read through no `_Nt_array_ptr` widens nothing
+  still : widening s.frame made.behind (made.target 0 here.at.facts) here.at ≡ here.at
+  still = bare_wider s store entry made.behind (ap is_terminated_kind behind ∙ bare) (made.target 0 here.at.facts) here.at
+
+  quiet : (b : Bool) → made.side b here.at ≡ here.at
+  quiet true = same true ∙ still
+  quiet false = same false
+
+  pub pointee_comes : (x : Value) → x.number < 2 ^ 32 → ((z : ℤ) → count_of_kind (kind_of t) ≡ Some (count.Fixed z) → IsNullOrRanged store pointee_there z x) → Read x
+  pointee_comes x small there =
+      let c = own_claims s store entry here h t pointer (record made { behind = None }) alone known nowhere kept (λ own. range_by_type (kind_of t) own.value) ranged (kind_between s store entry t x there) x (pos 0)
+      refl some quiet small (zero_typed (own_fresh t made here.at.facts)) (kind_range s store entry t x there (own_fresh t made here.at.facts) (pos 0)) (kind_one s store entry t x there) in
+      record {
+        word = c.word;
+        placed = c.placed;
+        one = c.one;
+        zero = c.zero;
+        wide = λ e. subst (λ (at : State). AreBounded s store at.widened here.seen) (sym still) h.widened;
+        sides = c.sides;
+      }
+
+  -- wherever it is read
+  pub pointee_gives : (a offset : ℕ) (o : Option Count) → count_of_kind (kind_of t) ≡ o → IfGives Read (got store s.text.layout t offset o a)
+  pointee_gives a offset (Some (count.Fixed z)) e =
+      gives_weaker (λ v. (v.number < 2 ^ 32) × IsNullOrRanged store pointee_there z v) Read (got store s.text.layout t offset (Some (count.Fixed z)) a) (fixed_gives store ready.sound.bytes pointee_there z a (place_in a offset))
+      (λ x r. pointee_comes x r.0 (λ y f. subst (λ z. IsNullOrRanged store pointee_there z x) (same_count z y (sym e ∙ f)) r.1))
+  pointee_gives a offset (Some (count.Member o f z)) e = absurd (not_member (kind_of t) o f z e)
+  pointee_gives a offset None e =
+      word_gives store ready.sound.bytes Read t (place_in a offset) (λ n word. pointee_comes (record { number = n; range = Without }) (word_wide t n word) (λ z f. absurd (cc)))
+
+-- ---- what is read through a pointer whose range is true
+
 module _ (s : Setting) (store : Store) (entry : List ℕ) (next : ℕ) (ready : IsSoundStore s store next) (here : Here) (h : HoldsAt s store entry here) (p : CType) (pointer : is_pointer (element_of p) ≡ true)
     (bare : is_terminated_kind (kind_of p) ≡ false) (free : KeepRunsFree s.text) (filled : AreFilled s.text store) (made : NodeView) where
   abbrev t : CType
@@ -83,8 +128,6 @@ module _ (s : Setting) (store : Store) (entry : List ℕ) (next : ℕ) (ready : 
 
   abbrev Made : Value → Type 0
   Made = NodeClaims s store entry here h t made
-
-  -- ---- what a true range reaches
 
   -- a range that reaches the element at an address
   abbrev pub IsHit : ℕ → Type 0
@@ -146,46 +189,21 @@ module _ (s : Setting) (store : Store) (entry : List ℕ) (next : ℕ) (ready : 
             (slots_among (slot_of_member s.text.layout r.tag) (members_of s.text.layout r.tag)) r.contained (slot offset)
             (subst (λ xs. Contains xs (slot offset)) (sym slot_is) (contains_at (slot offset ∷ []) 0 (slot offset) refl))
 
-  -- ---- the claims
+  -- An element that is reached is read.
+  reads : (a : ℕ) → IsHit a → (o : Option Count) → count_of_kind (kind_of t) ≡ o → IfGives Made (got store s.text.layout t 0 o a) → IsNotStuck Made (got store s.text.layout t 0 o a)
+  reads a hit (Some (count.Fixed z)) e g = ok_comes Made (got store s.text.layout t 0 (Some (count.Fixed z)) a) (filled_there a z e (reached a hit)) g
+  reads a hit (Some (count.Member o f z)) e g = absurd (not_member (kind_of t) o f z e)
+  reads a (m, low, high, true_there, r) None e g =
+      gives_both (λ v. Unit {0}) Made (got store s.text.layout t 0 None a)
+      (part_loads s store next ready.sound ready.names ready.shapes (λ v. Unit {0}) p m low high a 0 t (scalar_part s.text.layout t (pointer_scalar t pointer)) true_there r (λ n there word. tt)) g
 
   module _ (alone : made.stands_alone ≡ true) (known : made.null ≡ false) (nowhere : (first : ℕ) (facts : Known) → made.place t first facts ≡ None)
       (kept : (widened : List ℕ) → made.fresh (record here.at { widened = widened }) ≡ made.fresh here.at)
       (ranged : (own : Own) (first fresh : ℕ) (widened : List ℕ) → made.range t own first fresh (record here.at { widened = widened }) ≡ range_by_type (kind_of t) own.value)
       (behind : made.behind ≡ kind_of p) (some : made.is_zero ≡ false) (same : (b : Bool) → made.side b here.at ≡ widening_side s.frame made.behind (made.target 0) b here.at) where
-    -- what is read through no `_Nt_array_ptr` widens nothing
-    still : widening s.frame made.behind (made.target 0 here.at.facts) here.at ≡ here.at
-    still = ap (λ b. wider (widened_by s.frame (if b then made.target 0 here.at.facts else None)) here.at) (ap is_terminated_kind behind ∙ bare)
-
-    quiet : (b : Bool) → made.side b here.at ≡ here.at
-    quiet true = same true ∙ still
-    quiet false = same false
-
-    comes : (x : Value) → x.number < 2 ^ 32 → ((z : ℤ) → count_of_kind (kind_of t) ≡ Some (count.Fixed z)
-        → (x.number ≡ 0) ⊎ Ranged store.shapes store.blocks to x.number (pos x.number) (elements_behind x.number to.size z) x) → Made x
-    comes x small there =
-        let c = own_claims s store entry here h t pointer (record made { behind = None }) alone known nowhere kept (λ own. range_by_type (kind_of t) own.value) ranged (kind_between s store entry t x there) x (pos 0)
-        refl some quiet small (zero_typed (own_fresh t made here.at.facts)) (kind_range s store entry t x there (own_fresh t made here.at.facts) (pos 0)) (kind_one s store entry t x there) in
-        record {
-          word = c.word;
-          placed = c.placed;
-          one = c.one;
-          zero = c.zero;
-          wide = λ e. subst (λ (at : State). AreBounded s store at.widened here.seen) (sym still) h.widened;
-          sides = c.sides;
-        }
-
-    reads : (a : ℕ) → IsHit a → (o : Option Count) → count_of_kind (kind_of t) ≡ o → IsNotStuck Made (got store s.text.layout t 0 o a)
-    reads a hit (Some (count.Fixed z)) e =
-        weaker (got store s.text.layout t 0 (Some (count.Fixed z)) a)
-        (counted_reads store ready.sound.bytes to (count.Fixed z) z a (place_in a 0) refl (filled_there a z e (reached a hit)))
-        (λ x is r. comes x r.0 (λ y f. subst (λ z. (x.number ≡ 0) ⊎ Ranged store.shapes store.blocks to x.number (pos x.number) (elements_behind x.number to.size z) x) (same_count z y (sym e ∙ f)) r.1))
-    reads a hit (Some (count.Member o f z)) e = absurd (not_member (kind_of t) o f z e)
-    reads a (m, low, high, true_there, r) None e =
-        part_loads s store next ready.sound ready.names ready.shapes Made p m low high a 0 t (scalar_part s.text.layout t (pointer_scalar t pointer)) true_there r
-        (λ n there word. comes (record { number = n; range = Without }) (word_wide t n word) (λ z f. absurd (cc)))
-
     -- An element that is a pointer is read as it is judged to be.
     pub pointee_claims : (q : Place) → q.access.offset ≡ 0 → ComesTo IsHit (element_at store q) → IsNotStuck Made (evaluated store (read_at s.text.layout t (count_of_kind (kind_of t)) q))
     pointee_claims q begins there =
         subst (IsNotStuck Made) (sym (place_reads store s.text.layout t q (count_of_kind (kind_of t)) ∙ ap (λ d. given (element_at store q) (got store s.text.layout t d (count_of_kind (kind_of t)))) begins))
-        (comes_on IsHit Made (element_at store q) (got store s.text.layout t 0 (count_of_kind (kind_of t))) there (λ a hit. reads a hit (count_of_kind (kind_of t)) refl))
+        (comes_on IsHit Made (element_at store q) (got store s.text.layout t 0 (count_of_kind (kind_of t))) there (λ a hit. reads a hit (count_of_kind (kind_of t)) refl
+        (pointee_gives s store entry next ready here h t p pointer bare made alone known nowhere kept ranged behind some same a 0 (count_of_kind (kind_of t)) refl)))

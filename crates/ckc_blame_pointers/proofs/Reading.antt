@@ -41,6 +41,8 @@ use Rattle.ckc_blame_sound.specs.Typed.{Agrees}
 use Rattle.ckc_blame_pointers.specs.Valuations.{Valuation, Fits, address_in, address_by}
 use Rattle.ckc_blame_pointers.specs.Covered.{IsIntegerLocal, IsLocalVariable, IsLocalBase, IsLocalForm, AreLocalBounds, DeclareLocals}
 use Rattle.ckc_blame_pointers.specs.Meant.{IsNotStuck}
+use Rattle.ckc_blame_pointers.specs.Owed.{IfGives}
+use Rattle.ckc_blame_pointers.proofs.Given.{ok_comes}
 
 -- ---- what a read gives
 
@@ -57,23 +59,25 @@ module _ (shapes : List Shape) (blocks : List Block) (to : Pointee) (n : ℕ) wh
     pub number : v.number ≡ n
     pub ranged_there : (n ≡ 0) ⊎ Ranged low high v
 
-  within_gives : (low high : ℤ) → IsOk (reads_within shapes blocks to n low high) → IsNotStuck (Reads low high) (reads_within shapes blocks to n low high)
-  within_gives (pos l) (pos h) ok = test (is_true shapes blocks to n l h) refl ok
+  within_gives : (low high : ℤ) → IfGives (Reads low high) (reads_within shapes blocks to n low high)
+  within_gives (pos l) (pos h) = test (is_true shapes blocks to n l h) refl
     where
-      test : (b : Bool) → is_true shapes blocks to n l h ≡ b → IsOk (if b then ranged n l h else Err halt.Stuck)
-          → IsNotStuck (Reads (pos l) (pos h)) (if b then ranged n l h else Err halt.Stuck)
-      test true e ok = record { number = refl; ranged_there = inr (record { from = l; upto = h; range = refl; low_is = refl; high_is = refl; true_there = e }) }
-      test false e ok = absurd (cc)
-  within_gives (pos l) (negsuc h) ok = absurd (cc)
-  within_gives (negsuc l) high ok = absurd (cc)
+      test : (b : Bool) → is_true shapes blocks to n l h ≡ b → IfGives (Reads (pos l) (pos h)) (if b then ranged n l h else Err halt.Stuck)
+      test true e = record { number = refl; ranged_there = inr (record { from = l; upto = h; range = refl; low_is = refl; high_is = refl; true_there = e }) }
+      test false e = tt
+  within_gives (pos l) (negsuc h) = tt
+  within_gives (negsuc l) high = tt
+
+  -- what it gives, if it is not stuck
+  pub read_gives : (low high : ℤ) → IfGives (Reads low high) (reads shapes blocks to n low high)
+  read_gives low high = by (n == 0) refl
+    where
+      by : (b : Bool) → (n == 0) ≡ b → IfGives (Reads low high) (if b then plain 0 else reads_within shapes blocks to n low high)
+      by true e = record { number = sym (eqb-true n 0 e); ranged_there = inl (eqb-true n 0 e) }
+      by false e = within_gives low high
 
   pub reads_gives : (low high : ℤ) → IsOk (reads shapes blocks to n low high) → IsNotStuck (Reads low high) (reads shapes blocks to n low high)
-  reads_gives low high ok = by (n == 0) refl ok
-    where
-      by : (b : Bool) → (n == 0) ≡ b → IsOk (if b then plain 0 else reads_within shapes blocks to n low high)
-          → IsNotStuck (Reads low high) (if b then plain 0 else reads_within shapes blocks to n low high)
-      by true e ok = record { number = sym (eqb-true n 0 e); ranged_there = inl (eqb-true n 0 e) }
-      by false e ok = within_gives low high ok
+  reads_gives low high ok = ok_comes (Reads low high) (reads shapes blocks to n low high) ok (read_gives low high)
 
 pub ok_gives : (P : Value → Type 0) (x : Result Value Halt) → IsOk x → IsNotStuck P x → (v : Value) × P v
 ok_gives P (Ok v) ok h = (v, h)

@@ -12,7 +12,7 @@ use Rattle.ckc_syntax.specs.declared.tree.TreeOp.{TreeOp}
 use Rattle.ckc_syntax.specs.declared.tree.TreeOp.TheVariants as op
 use Rattle.ckc_typed.specs.Operands.{promoted, common, is_moved, is_moved_kind, sum_type, distance_type, difference_type, arithmetic_type, shift_type, binary_type, same_element}
 use Rattle.ckc_bounds_views.specs.Judged.{is_counted_kind}
-use Rattle.ckc_typed.specs.Types.{is_integer, is_pointer, is_pointer_form, is_integer_form, is_char_form, is_unsigned, is_scalar, is_void, element_of, kind_of, kind_in, same_type}
+use Rattle.ckc_typed.specs.Types.{is_integer, is_pointer, is_pointer_form, is_integer_form, is_char, is_char_form, is_unsigned, is_scalar, is_void, element_of, kind_of, kind_in, same_type}
 use Rattle.ckc_source.specs.declared.expr.Operation.{Operation}
 use Rattle.ckc_source.specs.declared.expr.Operation.TheVariants as operation
 use Rattle.ckc_source.specs.declared.outcome.Value.{Value}
@@ -157,8 +157,11 @@ pointer_no_char_in CType-F.Char e = absurd (cc)
 pointer_no_char_in CType-F.Void e = absurd (cc)
 pointer_no_char_in (CType-F.Struct tag) e = absurd (cc)
 
+pub pointer_no_char : (t : CType) → is_pointer t ≡ true → is_char t ≡ false
+pointer_no_char t e = pointer_no_char_in (out-CType t) e
+
 pub pointer_word : (t : CType) → is_pointer t ≡ true → (n : ℕ) → n < 2 ^ 32 → IsWordOf t n
-pointer_word t e n h = wide_word t n (pointer_no_char_in (out-CType t) e) h
+pointer_word t e n h = wide_word t n (pointer_no_char t e) h
 
 no_moved_in : (f : CType-F CType) → is_pointer_form f ≡ false → is_moved_kind (kind_in f) ≡ false
 no_moved_in (CType-F.Pointer k t) e = absurd (cc)

@@ -11,7 +11,6 @@ use Rattle.ckc_base.specs.declared.arithmetic.Width.{Width}
 use Rattle.ckc_base.specs.declared.arithmetic.Width.TheVariants.{Byte, Word}
 use Rattle.ckc_base.specs.Memory.{width_bytes}
 use Rattle.ckc_base.specs.declared.places.Pos.{Pos}
-use Rattle.ckc_types.specs.declared.types.Kind.TheVariants as kind
 use Rattle.ckc_types.specs.declared.types.CType.{CType, CType-F, out-CType}
 use Rattle.ckc_types.specs.declared.types.MemberShape.{MemberShape}
 use Rattle.ckc_types.specs.declared.types.StructShape.{StructShape}
@@ -22,12 +21,13 @@ use Rattle.ckc_syntax.specs.declared.tree.Name.{Name}
 use Rattle.ckc_syntax.specs.declared.tree.TreeOp.TheVariants as op
 use Rattle.ckc_syntax.specs.declared.tree.Node.{Node-F}
 use Rattle.ckc_typed.specs.declared.typed.Note.{Note}
+use Rattle.ckc_typed.specs.declared.typed.Range.{Range}
 use Rattle.ckc_typed.specs.Constants.{size_of}
 use Rattle.ckc_typed.specs.Conversions.{is_terminated_kind}
 use Rattle.ckc_typed.specs.Environment.{is_member_named}
 use Rattle.ckc_typed.specs.Layouts.{member_number}
 use Rattle.ckc_typed.specs.Operands.{member_in}
-use Rattle.ckc_typed.specs.Types.{is_integer_form, is_pointer, is_pointer_form, is_scalar, kind_of, element_of}
+use Rattle.ckc_typed.specs.Types.{is_integer_form, is_pointer_form, is_scalar, kind_of, element_of}
 use Rattle.ckc_bounds_points.specs.Forms.{constant_form}
 use Rattle.ckc_bounds_points.specs.Flow.{State}
 use Rattle.ckc_bounds_points.specs.Shown.{Known}
@@ -62,6 +62,7 @@ use Rattle.ckc_blame_sound.proofs.Places.{element_between}
 use Rattle.ckc_blame_sound.proofs.Reached.{place_is}
 use Rattle.ckc_blame_pointers.specs.Covered.{IsFreeObject, IsScalarMember, IsSoundStore}
 use Rattle.ckc_blame_pointers.specs.Meant.{IsNotStuck}
+use Rattle.ckc_blame_pointers.proofs.Addresses.{IsAddressType}
 use Rattle.ckc_blame_pointers.proofs.Arrays.{type_same, object_at}
 use Rattle.ckc_blame_pointers.proofs.Held.{IsOwnNode, found_passes}
 use Rattle.ckc_blame_pointers.proofs.Members.{member_there}
@@ -289,11 +290,11 @@ module _ (s : Setting) (store : Store) (next : ℕ) (ready : IsSoundStore s stor
 
 -- ---- addresses
 
--- What is said of an address of what is read at no pointer's place: it may be used for one element.
-pub address_node : (s : Setting) (here : Here) (note : Note) (place : Pos) (r : CType) (n : NodeView) → ((widened : List ℕ) → n.fresh (record here.at { widened = widened }) ≡ n.fresh here.at)
-    → ((own : Own) (first fresh : ℕ) (at : State) → n.address own first fresh at ≡ range_of_one own.value) → ((first : ℕ) (facts : Known) → n.target first facts ≡ None)
-    → IsOwnNode here r (λ own. range_of_one own.value) None (node_view s.frame (Node-F.Un op.Address (expr_view (record { node = n; pos = place; note = note }))))
-address_node s here note place r n kept one nowhere = record {
+-- What is said of an address of what is read at no pointer's place, by its range.
+pub address_node_by : (q : Own → Range) (s : Setting) (here : Here) (note : Note) (place : Pos) (r : CType) (n : NodeView) → ((widened : List ℕ) → n.fresh (record here.at { widened = widened }) ≡ n.fresh here.at)
+    → ((own : Own) (first fresh : ℕ) (at : State) → n.address own first fresh at ≡ q own) → ((first : ℕ) (facts : Known) → n.target first facts ≡ None)
+    → IsOwnNode here r q None (node_view s.frame (Node-F.Un op.Address (expr_view (record { node = n; pos = place; note = note }))))
+address_node_by q s here note place r n kept one nowhere = record {
   alone = refl;
   known = refl;
   nowhere = nowhere;
@@ -309,22 +310,28 @@ address_node s here note place r n kept one nowhere = record {
     quiet true = refl
     quiet false = refl
 
-module _ (s : Setting) (store : Store) (entry : List ℕ) (next : ℕ) (ready : IsSoundStore s store next) (here : Here) (h : HoldsAt s store entry here) (t r : CType) (pointer : is_pointer r ≡ true) (array : kind_of r ≡ Some kind.Arr) (element : element_of r ≡ t)
+-- it may be used for one element
+pub address_node : (s : Setting) (here : Here) (note : Note) (place : Pos) (r : CType) (n : NodeView) → ((widened : List ℕ) → n.fresh (record here.at { widened = widened }) ≡ n.fresh here.at)
+    → ((own : Own) (first fresh : ℕ) (at : State) → n.address own first fresh at ≡ range_of_one own.value) → ((first : ℕ) (facts : Known) → n.target first facts ≡ None)
+    → IsOwnNode here r (λ own. range_of_one own.value) None (node_view s.frame (Node-F.Un op.Address (expr_view (record { node = n; pos = place; note = note }))))
+address_node = address_node_by (λ own. range_of_one own.value)
+
+module _ (s : Setting) (store : Store) (entry : List ℕ) (next : ℕ) (ready : IsSoundStore s store next) (here : Here) (h : HoldsAt s store entry here) (t r : CType) (type : IsAddressType r t)
     (made : NodeView) (node : IsOwnNode here r (λ own. range_of_one own.value) None made) where
   one_claims : (m : ℕ) → m < 2 ^ 32 → IsTrueOne s store next ready t m → IsNotStuck (NodeClaims s store entry here h r made) (spanned m (size_of s.text.layout t))
   one_claims m small true_there =
-      own_claims s store entry here h r pointer made node.alone node.known node.nowhere node.kept (λ own. range_of_one own.value) node.ranged (own_between (λ k. constant_form (pos 1))) x (pos 0) node.behind node.some node.quiet small
+      own_claims s store entry here h r type.pointer made node.alone node.known node.nowhere node.kept (λ own. range_of_one own.value) node.ranged (own_between (λ k. constant_form (pos 1))) x (pos 0) node.behind node.some node.quiet small
       (subst (λ (o : Option CType). IfSome o (λ u. IsNumberOf u (pos 0))) (sym node.needs) tt)
       (λ own v fits at number. own_range s store r x (pos 0) (pos 1) (inr (record {
         from = m;
         upto = m + size_of s.text.layout t;
         range = refl;
         low_is = refl;
-        high_is = ap (λ u. pos (m + size_of s.text.layout u)) (sym element) ∙ sym (one_behind m (size_of s.text.layout (element_of r)));
-        true_there = subst (λ u. is_true store.shapes store.blocks (record { element = u; size = size_of s.text.layout u; terminated = is_terminated_kind (kind_of r) }) m m (m + size_of s.text.layout t) ≡ true) (sym element)
-            (subst (λ q. is_true store.shapes store.blocks (record { element = t; size = size_of s.text.layout t; terminated = q }) m m (m + size_of s.text.layout t) ≡ true) (sym (ap is_terminated_kind array)) true_there);
+        high_is = ap (λ u. pos (m + size_of s.text.layout u)) (sym type.element) ∙ sym (one_behind m (size_of s.text.layout (element_of r)));
+        true_there = subst (λ u. is_true store.shapes store.blocks (record { element = u; size = size_of s.text.layout u; terminated = is_terminated_kind (kind_of r) }) m m (m + size_of s.text.layout t) ≡ true) (sym type.element)
+            (subst (λ q. is_true store.shapes store.blocks (record { element = t; size = size_of s.text.layout t; terminated = q }) m m (m + size_of s.text.layout t) ≡ true) (sym type.bare) true_there);
       })) None (λ k. constant_form (pos 1)) (constant_counts s store.locals None (pos 0) (pos 1)) own v fits at tt)
-      (λ ones one. let other = array in absurd (cc))
+      (λ ones one. absurd (type.several one))
     where
       x : Value
       x = record { number = m; range = Within m (m + size_of s.text.layout t) }

@@ -61,13 +61,16 @@ module _ (s : Setting) (e : NotedExpr) (ys : Strings) (k : ℕ) where
 
 -- ---- a literal
 
+checked_out : out-CType (string_type Checked) ≡ CType-F.Pointer kind.Nt ctype.Char
+checked_out = search (rules, ctype_lemmas)
+
+unchecked_out : out-CType (string_type Unchecked) ≡ CType-F.Pointer kind.Raw ctype.Char
+unchecked_out = search (rules, ctype_lemmas)
+
 -- that is no unchecked pointer
 pub string_out : (mode : Mode) → is_raw_kind (kind_of (string_type mode)) ≡ false → out-CType (string_type mode) ≡ CType-F.Pointer kind.Nt ctype.Char
-string_out Checked e = search (rules, ctype_lemmas)
+string_out Checked e = checked_out
 string_out Unchecked e = let raw : is_raw_kind (kind_of (string_type Unchecked)) ≡ true = ap (λ f. is_raw_kind (kind_in f)) unchecked_out in absurd cc
-  where
-    unchecked_out : out-CType (string_type Unchecked) ≡ CType-F.Pointer kind.Raw ctype.Char
-    unchecked_out = search (rules, ctype_lemmas)
 
 -- a pointer to characters that end with a zero
 pub record IsStringType (t : CType) : Type 0 where
@@ -82,6 +85,20 @@ string_typed t mode is checked =
     out : out-CType (string_type mode) ≡ CType-F.Pointer kind.Nt ctype.Char
     out = string_out mode (sym (ap is_raw_kind (ap kind_of is)) ∙ checked)
 
+-- the type of a literal in checked code
+pub checked_string : IsStringType (string_type Checked)
+checked_string = record { pointer = ap is_pointer_form checked_out; kind_is = ap kind_in checked_out; element = ap element_in checked_out }
+
+-- an unchecked pointer to characters
+pub record IsRawString (t : CType) : Type 0 where
+  pub pointer : is_pointer t ≡ true
+  pub kind_is : kind_of t ≡ Some kind.Raw
+  pub element : element_of t ≡ ctype.Char
+
+-- the type of a literal in unchecked code
+pub raw_string : (t : CType) → t ≡ string_type Unchecked → IsRawString t
+raw_string t is = subst IsRawString (sym is) (record { pointer = ap is_pointer_form unchecked_out; kind_is = ap kind_in unchecked_out; element = ap element_in unchecked_out })
+
 -- The static object of a literal is the array that it points into.
 pub string_literal : (s : Setting) (t : CType) (bytes : List ℕ) (k : ℕ) → IsStringType t → IsString s bytes k → IsLiteral s t bytes k
 string_literal s t bytes k typed string = record {
@@ -91,7 +108,7 @@ string_literal s t bytes k typed string = record {
     judged = string.judged;
     kind = kind.Nt;
     array = ap (λ (o : StaticObject). o.array) string.made;
-    counted = refl;
+    several = λ e. absurd (cc);
     ends = ap (λ (o : StaticObject). o.terminated) string.made;
     free = string.free;
     pointer = typed.pointer;
@@ -122,7 +139,7 @@ char_type t e = by (out-CType t) refl e
     by CType-F.Void is e = absurd cc
     by (CType-F.Struct tag) is e = absurd cc
 
-ends_in : (k : Option Kind) → is_terminated_kind k ≡ true → k ≡ Some kind.Nt
+pub ends_in : (k : Option Kind) → is_terminated_kind k ≡ true → k ≡ Some kind.Nt
 ends_in (Some kind.Nt) e = refl
 ends_in k e = absurd cc
 

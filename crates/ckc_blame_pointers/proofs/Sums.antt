@@ -4,7 +4,9 @@ use Rattle.std.specs.Prelude.{◌+◌, ◌==◌, ◌<◌, ◌≤◌, ◌^◌, �
 use Rattle.std.specs.Option.{option_or}
 use Rattle.std.proofs.lemmas.Bool.{eqb-true, and_parts}
 use Rattle.std.proofs.lemmas.Int.{ints}
+use Rattle.ckc_base.specs.declared.arithmetic.BinOp.TheVariants as binary
 use Rattle.ckc_base.specs.declared.places.Pos.{Pos}
+use Rattle.ckc_base.specs.Words.{applied}
 use Rattle.ckc_types.specs.declared.types.Kind.{Kind}
 use Rattle.ckc_types.specs.declared.types.Kind.TheVariants as kind
 use Rattle.ckc_types.specs.declared.types.CType.{CType, CType-F, out-CType}
@@ -21,6 +23,7 @@ use Rattle.ckc_typed.specs.Types.{is_pointer, is_pointer_form, kind_of, kind_in}
 use Rattle.ckc_bounds_points.specs.Shown.{Known}
 use Rattle.ckc_bounds_points.specs.Flow.{State}
 use Rattle.ckc_bounds_points.specs.Forms.{is_small, constant_form, base_form, sum_of_forms, negative_of}
+use Rattle.ckc_bounds_views.specs.Conditions.{right_point}
 use Rattle.ckc_bounds_views.specs.Parts.{NodeView, capped, next_behind, fresh_behind}
 use Rattle.ckc_bounds_views.specs.Fresh.{right_fresh}
 use Rattle.ckc_bounds_views.specs.Places.{with_own, binary_place, pointer_place}
@@ -28,9 +31,11 @@ use Rattle.ckc_bounds_views.specs.Ranges.{range_of_operand, pointer_range}
 use Rattle.ckc_bounds_views.specs.Views.{node_view, view}
 use Rattle.ckc_bounds_statements.specs.Paths.{Here}
 use Rattle.ckc_source.specs.declared.expr.Operation.TheVariants as operation
+use Rattle.ckc_source.specs.declared.expr.Shift.{Shift}
+use Rattle.ckc_source.specs.declared.outcome.Range.TheVariants.{Without}
 use Rattle.ckc_source.specs.declared.outcome.Value.{Value}
 use Rattle.ckc_source.specs.Code.{Expr, Number, Binary, Moved, Added}
-use Rattle.ckc_source.specs.Eval.{Store, moves, evaluated}
+use Rattle.ckc_source.specs.Eval.{Store, plain, moves_checked, moves, evaluated}
 use Rattle.ckc_source.specs.Words.{exact, elements_behind}
 use Rattle.ckc_build_values.specs.Kinds.{integer_of, size_behind}
 use Rattle.ckc_build_values.specs.Operators.{is_signed_at, shift, distance, of_operands}
@@ -46,6 +51,7 @@ use Rattle.ckc_blame_pointers.proofs.Moving.{moved_placed}
 use Rattle.ckc_blame_pointers.proofs.Later.{extends_less, extends_on, still_fits, next_more, next_both, left_room, right_room, with_zeros, zeros_extend, zeros_numbers, numbers_kept, numbers_both}
 use Rattle.ckc_blame_pointers.proofs.Unwidened.{fresh_same, right_fresh_is}
 use Rattle.ckc_blame_pointers.proofs.Numbers.{times_negative}
+use Rattle.ckc_blame_pointers.proofs.Own.{missing_claims}
 use Rattle.ckc_blame_pointers.proofs.Nodes.{moved_goes, node_fresh, NodeClaims, narrow, integer_claims}
 use Rattle.ckc_blame_pointers.proofs.Rows.{IsSmall, operation_word, Wide, wide_small, pointer_word, left_row, right_row, plain_row, less_row, distance_row, plain_less_row}
 use Rattle.ckc_blame_pointers.proofs.Binary.{ExprClaims, small_value}
@@ -67,6 +73,24 @@ checked_in (CType-F.Struct tag) p e = absurd (cc)
 -- a pointer that is not unchecked is a checked one
 pub checked_pointer : (t : CType) → is_pointer t ≡ true → is_raw_kind (kind_of t) ≡ false → is_checked_kind (kind_of t) ≡ true
 checked_pointer t p e = checked_in (out-CType t) p e
+
+-- and an unchecked one is none
+raw_unchecked : (k : Option Kind) → is_raw_kind k ≡ true → is_checked_kind k ≡ false
+raw_unchecked (Some kind.Raw) e = refl
+raw_unchecked (Some kind.One) e = absurd (cc)
+raw_unchecked (Some kind.Arr) e = absurd (cc)
+raw_unchecked (Some kind.Nt) e = absurd (cc)
+raw_unchecked None e = absurd (cc)
+
+-- An unchecked pointer that is moved is a word without a range.
+raw_moves : (Q : Value → Type 0) (shift : Shift) (v : Value) (k : ℕ) → shift.checked ≡ false → ((a : ℕ) → a < 2 ^ 32 → Q (record { number = a; range = Without })) → IsNotStuck Q (moves shift v k)
+raw_moves Q shift v k unchecked next =
+    subst (λ (b : Bool). IsNotStuck Q (if b then moves_checked shift v k else plain (applied (if shift.back then binary.Sub else binary.Add) v.number (applied binary.Mul shift.size k)))) (sym unchecked)
+    (next (applied (if shift.back then binary.Sub else binary.Add) v.number (applied binary.Mul shift.size k)) (small shift.back v.number (applied binary.Mul shift.size k)))
+  where
+    small : (back : Bool) (m n : ℕ) → applied (if back then binary.Sub else binary.Add) m n < 2 ^ 32
+    small true m n = omega arith
+    small false m n = omega arith
 
 -- ---- how values are numbered
 
@@ -281,14 +305,14 @@ module _ (s : Setting) (store : Store) (entry : List ℕ) (here : Here) (h : Hol
         room = own_room op.Sub;
       }
 
-      pub more_claims : IsNotStuck (NodeClaims s store entry here h e.note.ctype (node op.Add)) (evaluated store (Moved (shift s.text.layout e.note.ctype f.note.ctype place false) v w))
+      more_claims : IsNotStuck (NodeClaims s store entry here h e.note.ctype (node op.Add)) (evaluated store (Moved (shift s.text.layout e.note.ctype f.note.ctype place false) v w))
       more_claims =
           both_go_on (ExprClaims s store entry here e) (ExprClaims s store entry here f) (NodeClaims s store entry here h e.note.ctype (node op.Add)) (evaluated store v) (evaluated store w)
           (λ x y. moves (shift s.text.layout e.note.ctype f.note.ctype place false) x y.number) left right
           (λ x y is there c d. moved_goes (NodeClaims s store entry here h e.note.ctype (node op.Add)) (shift s.text.layout e.note.ctype f.note.ctype place false) x y.number (checked_pointer e.note.ctype pointer checked)
           (λ a some at small. moved_claims e (node op.Add) _ _ _ _ left_moved x c (exact (integer_of f.note.ctype) y.number) (right_form y there) a some (sym at) small))
 
-      pub less_claims : IsNotStuck (NodeClaims s store entry here h e.note.ctype (node op.Sub)) (evaluated store (Moved (shift s.text.layout e.note.ctype f.note.ctype place true) v w))
+      less_claims : IsNotStuck (NodeClaims s store entry here h e.note.ctype (node op.Sub)) (evaluated store (Moved (shift s.text.layout e.note.ctype f.note.ctype place true) v w))
       less_claims =
           both_go_on (ExprClaims s store entry here e) (ExprClaims s store entry here f) (NodeClaims s store entry here h e.note.ctype (node op.Sub)) (evaluated store v) (evaluated store w)
           (λ x y. moves (shift s.text.layout e.note.ctype f.note.ctype place true) x y.number) left right
@@ -339,12 +363,39 @@ module _ (s : Setting) (store : Store) (entry : List ℕ) (here : Here) (h : Hol
           append_none [] = refl
           append_none (t ∷ ts) = ap (λ us. t ∷ us) (append_none ts)
 
-      pub added_claims : IsNotStuck (NodeClaims s store entry here h f.note.ctype (node op.Add)) (evaluated store (Added (shift s.text.layout f.note.ctype e.note.ctype place false) v w))
+      added_claims : IsNotStuck (NodeClaims s store entry here h f.note.ctype (node op.Add)) (evaluated store (Added (shift s.text.layout f.note.ctype e.note.ctype place false) v w))
       added_claims =
           both_go_on (ExprClaims s store entry here e) (ExprClaims s store entry here f) (NodeClaims s store entry here h f.note.ctype (node op.Add)) (evaluated store v) (evaluated store w)
           (λ y x. moves (shift s.text.layout f.note.ctype e.note.ctype place false) x y.number) left right
           (λ y x there is d c. moved_goes (NodeClaims s store entry here h f.note.ctype (node op.Add)) (shift s.text.layout f.note.ctype e.note.ctype place false) x y.number (checked_pointer f.note.ctype pointer checked)
           (λ a some at small. moved_claims f (node op.Add) _ _ _ _ right_moved x c (exact (integer_of e.note.ctype) y.number) (left_form y there) a some (sym at) small))
+
+    -- an unchecked pointer that is moved
+    module _ (o : TreeOp) (same : (at : State) → right_point o (view s.frame e) at ≡ at) (quiet : (b : Bool) → (node o).side b here.at ≡ here.at) (t : CType) (pointer : is_pointer t ≡ true) (raw : is_raw_kind (kind_of t) ≡ true) where
+      raw_moved : (x : Value) → x.number < 2 ^ 32 → NodeClaims s store entry here h t (node o) x
+      raw_moved x small =
+          missing_claims s store entry here h t pointer (λ one. let other : is_raw_kind (kind_of t) ≡ false = ap is_raw_kind one in absurd (cc)) (node o) refl refl
+          (λ first facts. ap (λ b. if b then None else binary_place first facts o (view s.frame e) (view s.frame f)) raw) kept
+          (λ own first fresh widened. ap (λ b. if b then range.Missing else range_of_operand (view s.frame e) (view s.frame f) first fresh (record here.at { widened = widened })) raw) refl refl refl quiet x small
+        where
+          right_is : (at : State) → right_fresh o (view s.frame e) (view s.frame f) at ≡ (view s.frame f).fresh at
+          right_is at = right_fresh_is s.frame o (view s.frame e) f at ∙ ap (view s.frame f).fresh (same at)
+
+          kept : (widened : List ℕ) → (view s.frame e).fresh (record here.at { widened = widened }) ++ right_fresh o (view s.frame e) (view s.frame f) (record here.at { widened = widened })
+              ≡ (view s.frame e).fresh here.at ++ right_fresh o (view s.frame e) (view s.frame f) here.at
+          kept widened =
+              ap (λ us. us ++ right_fresh o (view s.frame e) (view s.frame f) (record here.at { widened = widened })) (fresh_same s.frame e here.at widened)
+              ∙ ap (λ us. (view s.frame e).fresh here.at ++ us) (right_is (record here.at { widened = widened }) ∙ fresh_same s.frame f here.at widened ∙ sym (right_is here.at))
+
+      raw_left_claims : (step : Shift) → step.checked ≡ is_checked_kind (kind_of t) → IsNotStuck (NodeClaims s store entry here h t (node o)) (evaluated store (Moved step v w))
+      raw_left_claims step checked =
+          both_go_on (ExprClaims s store entry here e) (ExprClaims s store entry here f) (NodeClaims s store entry here h t (node o)) (evaluated store v) (evaluated store w) (λ x y. moves step x y.number) left right
+          (λ x y is there c d. raw_moves (NodeClaims s store entry here h t (node o)) step x y.number (checked ∙ raw_unchecked (kind_of t) raw) (λ a small. raw_moved (record { number = a; range = Without }) small))
+
+      raw_right_claims : (step : Shift) → step.checked ≡ is_checked_kind (kind_of t) → IsNotStuck (NodeClaims s store entry here h t (node o)) (evaluated store (Added step v w))
+      raw_right_claims step checked =
+          both_go_on (ExprClaims s store entry here e) (ExprClaims s store entry here f) (NodeClaims s store entry here h t (node o)) (evaluated store v) (evaluated store w) (λ y x. moves step x y.number) left right
+          (λ y x there is d c. raw_moves (NodeClaims s store entry here h t (node o)) step x y.number (checked ∙ raw_unchecked (kind_of t) raw) (λ a small. raw_moved (record { number = a; range = Without }) small))
 
     number_claims : (o : TreeOp) → ((b : Bool) → (node o).side b here.at ≡ here.at) → Wide r → (x : Expr) → IsNotStuck IsSmall (evaluated store x)
         → IsNotStuck (NodeClaims s store entry here h r (node o)) (evaluated store x)
@@ -359,31 +410,44 @@ module _ (s : Setting) (store : Store) (entry : List ℕ) (here : Here) (h : Hol
     small_right : IsNotStuck IsSmall (evaluated store w)
     small_right = small_value s store entry here f (evaluated store w) right
 
-    pub sum_claims : is_raw_kind (kind_of r) ≡ false → sum_type e.note.ctype f.note.ctype ≡ Some r
-        → IsNotStuck (NodeClaims s store entry here h r (node op.Add)) (evaluated store (of_operands s.text.layout op.Add e.note.ctype f.note.ctype place v w))
-    sum_claims checked row = by (is_pointer e.note.ctype) (is_pointer f.note.ctype) refl refl
+    -- The pointer that is moved is a checked one, or an unchecked one.
+    pub sum_claims : sum_type e.note.ctype f.note.ctype ≡ Some r → IsNotStuck (NodeClaims s store entry here h r (node op.Add)) (evaluated store (of_operands s.text.layout op.Add e.note.ctype f.note.ctype place v w))
+    sum_claims row = by (is_pointer e.note.ctype) (is_pointer f.note.ctype) refl refl
       where
+        left_sum : is_pointer e.note.ctype ≡ true → is_moved e.note.ctype ≡ true → (b : Bool) → is_raw_kind (kind_of e.note.ctype) ≡ b
+            → IsNotStuck (NodeClaims s store entry here h e.note.ctype (node op.Add)) (evaluated store (Moved (shift s.text.layout e.note.ctype f.note.ctype place false) v w))
+        left_sum p moved true raw = raw_left_claims op.Add (λ at. refl) (λ b. refl) e.note.ctype p raw (shift s.text.layout e.note.ctype f.note.ctype place false) refl
+        left_sum p moved false checked = more_claims p moved checked
+
+        right_sum : is_pointer e.note.ctype ≡ false → is_pointer f.note.ctype ≡ true → is_moved f.note.ctype ≡ true → (b : Bool) → is_raw_kind (kind_of f.note.ctype) ≡ b
+            → IsNotStuck (NodeClaims s store entry here h f.note.ctype (node op.Add)) (evaluated store (Added (shift s.text.layout f.note.ctype e.note.ctype place false) v w))
+        right_sum p q moved true raw = raw_right_claims op.Add (λ at. refl) (λ b. refl) f.note.ctype q raw (shift s.text.layout f.note.ctype e.note.ctype place false) refl
+        right_sum p q moved false checked = added_claims p q moved checked
+
         by : (a b : Bool) → is_pointer e.note.ctype ≡ a → is_pointer f.note.ctype ≡ b → IsNotStuck (NodeClaims s store entry here h r (node op.Add))
             (evaluated store (if a then Moved (shift s.text.layout e.note.ctype f.note.ctype place false) v w
             else (if b then Added (shift s.text.layout f.note.ctype e.note.ctype place false) v w else Binary operation.Add (is_signed_at op.Add e.note.ctype f.note.ctype) place v w)))
         by true b p q =
             let row_is = left_row e.note.ctype f.note.ctype r p row in
-            let is = row_is.0 in
-            subst (λ t. IsNotStuck (NodeClaims s store entry here h t (node op.Add)) (evaluated store (Moved (shift s.text.layout e.note.ctype f.note.ctype place false) v w))) (sym is)
-            (more_claims p row_is.2 (subst (λ t. is_raw_kind (kind_of t) ≡ false) is checked))
+            subst (λ t. IsNotStuck (NodeClaims s store entry here h t (node op.Add)) (evaluated store (Moved (shift s.text.layout e.note.ctype f.note.ctype place false) v w))) (sym row_is.0)
+            (left_sum p row_is.2 (is_raw_kind (kind_of e.note.ctype)) refl)
         by false true p q =
             let row_is = right_row e.note.ctype f.note.ctype r p q row in
-            let is = row_is.0 in
-            subst (λ t. IsNotStuck (NodeClaims s store entry here h t (node op.Add)) (evaluated store (Added (shift s.text.layout f.note.ctype e.note.ctype place false) v w))) (sym is)
-            (added_claims p q row_is.2 (subst (λ t. is_raw_kind (kind_of t) ≡ false) is checked))
+            subst (λ t. IsNotStuck (NodeClaims s store entry here h t (node op.Add)) (evaluated store (Added (shift s.text.layout f.note.ctype e.note.ctype place false) v w))) (sym row_is.0)
+            (right_sum p q row_is.2 (is_raw_kind (kind_of f.note.ctype)) refl)
         by false false p q =
             number_claims op.Add (λ b. refl) (plain_row e.note.ctype f.note.ctype r p q row) (Binary operation.Add (is_signed_at op.Add e.note.ctype f.note.ctype) place v w)
             (operation_word store operation.Add (is_signed_at op.Add e.note.ctype f.note.ctype) place v w small_left small_right)
 
-    pub difference_claims : size_behind s.text.layout e.note.ctype < 2 ^ 32 → is_raw_kind (kind_of r) ≡ false → difference_type e.note.ctype f.note.ctype ≡ Some r
+    pub difference_claims : size_behind s.text.layout e.note.ctype < 2 ^ 32 → difference_type e.note.ctype f.note.ctype ≡ Some r
         → IsNotStuck (NodeClaims s store entry here h r (node op.Sub)) (evaluated store (of_operands s.text.layout op.Sub e.note.ctype f.note.ctype place v w))
-    difference_claims sized checked row = by (is_pointer e.note.ctype) (is_pointer f.note.ctype) refl refl
+    difference_claims sized row = by (is_pointer e.note.ctype) (is_pointer f.note.ctype) refl refl
       where
+        left_less : is_pointer e.note.ctype ≡ true → is_moved e.note.ctype ≡ true → (b : Bool) → is_raw_kind (kind_of e.note.ctype) ≡ b
+            → IsNotStuck (NodeClaims s store entry here h e.note.ctype (node op.Sub)) (evaluated store (Moved (shift s.text.layout e.note.ctype f.note.ctype place true) v w))
+        left_less p moved true raw = raw_left_claims op.Sub (λ at. refl) (λ b. refl) e.note.ctype p raw (shift s.text.layout e.note.ctype f.note.ctype place true) refl
+        left_less p moved false checked = less_claims p moved checked
+
         by : (a b : Bool) → is_pointer e.note.ctype ≡ a → is_pointer f.note.ctype ≡ b → IsNotStuck (NodeClaims s store entry here h r (node op.Sub))
             (evaluated store (if a then (if b then distance s.text.layout e.note.ctype place v w else Moved (shift s.text.layout e.note.ctype f.note.ctype place true) v w)
             else Binary operation.Sub (is_signed_at op.Sub e.note.ctype f.note.ctype) place v w))
@@ -393,9 +457,8 @@ module _ (s : Setting) (store : Store) (entry : List ℕ) (here : Here) (h : Hol
             (operation_word store operation.Sub true place v w small_left small_right) sized)
         by true false p q =
             let row_is = less_row e.note.ctype f.note.ctype r p q row in
-            let is = row_is.0 in
-            subst (λ t. IsNotStuck (NodeClaims s store entry here h t (node op.Sub)) (evaluated store (Moved (shift s.text.layout e.note.ctype f.note.ctype place true) v w))) (sym is)
-            (less_claims p row_is.2 (subst (λ t. is_raw_kind (kind_of t) ≡ false) is checked))
+            subst (λ t. IsNotStuck (NodeClaims s store entry here h t (node op.Sub)) (evaluated store (Moved (shift s.text.layout e.note.ctype f.note.ctype place true) v w))) (sym row_is.0)
+            (left_less p row_is.2 (is_raw_kind (kind_of e.note.ctype)) refl)
         by false b p q =
             number_claims op.Sub (λ b. refl) (plain_less_row e.note.ctype f.note.ctype r p row) (Binary operation.Sub (is_signed_at op.Sub e.note.ctype f.note.ctype) place v w)
             (operation_word store operation.Sub (is_signed_at op.Sub e.note.ctype f.note.ctype) place v w small_left small_right)

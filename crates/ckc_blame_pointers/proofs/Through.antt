@@ -5,6 +5,7 @@ use Rattle.ckc_base.specs.declared.places.Pos.{Pos}
 use Rattle.ckc_types.specs.declared.types.Kind.TheVariants as kind
 use Rattle.ckc_types.specs.declared.types.CType.{CType-F, out-CType}
 use Rattle.ckc_typed.specs.Conversions.{is_terminated_kind}
+use Rattle.ckc_typed.specs.Operands.{is_raw_kind}
 use Rattle.ckc_typed.specs.Trees.{NotedExpr}
 use Rattle.ckc_typed.specs.Types.{kind_of, element_of}
 use Rattle.ckc_bounds_views.specs.Judged.{is_counted_kind}
@@ -30,7 +31,7 @@ use Rattle.ckc_blame_pointers.specs.Valuations.{Valuation, HasEnds}
 use Rattle.ckc_blame_pointers.specs.Covered.{DeclareOnes, IsThrough, IsSoundStore}
 use Rattle.ckc_blame_pointers.specs.Meant.{IsNotStuck}
 use Rattle.ckc_blame_pointers.proofs.Binary.{ExprClaims}
-use Rattle.ckc_blame_pointers.proofs.Elements.{IsRanged}
+use Rattle.ckc_blame_pointers.proofs.Elements.{counted_checked, IsRanged}
 use Rattle.ckc_blame_pointers.proofs.Loads.{IsTested, element_goes, exact_goes, exact_is, reached_by, tested_pointer}
 use Rattle.ckc_blame_pointers.proofs.Numbers.{nothing_behind, same_number}
 use Rattle.ckc_blame_pointers.proofs.Reach.{ComesTo, comes_by, comes_both, element_at, IsStructurePlace}
@@ -56,14 +57,17 @@ module _ (s : Setting) (store : Store) (entry : List ℕ) (next : ℕ) (ready : 
       counted : is_counted_kind (kind_of e.note.ctype) ≡ true
       counted = ap is_counted_kind array
 
+      checked : is_raw_kind (kind_of e.note.ctype) ≡ false
+      checked = counted_checked (kind_of e.note.ctype) counted
+
       tested : IsTested (access_by place index).through (pointee_of s.text.layout e.note.ctype)
       tested = tested_pointer s.text.layout e.note.ctype counted
 
       by : (x.number ≡ 0) ⊎ ((v : Valuation) × (low : Form) × (high : Form) × HasEnds s store v e.note.ctype low high x) → IsNotStuck (λ y. Whole y.number) (given (element (access_by place index) x i) plain)
       by (inl z) = element_goes (access_by place index) x i (λ y. Whole y.number) plain (pointee_of s.text.layout e.note.ctype) tested (inl z) (λ a some at. absurd (some z))
       by (inr (q, low, high, g)) =
-          element_goes (access_by place index) x i (λ y. Whole y.number) plain (pointee_of s.text.layout e.note.ctype) tested (inr (g.from, g.to, g.range))
-          (λ a some at. at_range (ap is_terminated_kind array) x.number g.from g.to a g.true_there (reached_by (access_by place index) x i (pointee_of s.text.layout e.note.ctype) g.from g.to a tested refl g.range at))
+          element_goes (access_by place index) x i (λ y. Whole y.number) plain (pointee_of s.text.layout e.note.ctype) tested (inr (g.from, g.to, g.range checked))
+          (λ a some at. at_range (ap is_terminated_kind array) x.number g.from g.to a g.true_there (reached_by (access_by place index) x i (pointee_of s.text.layout e.note.ctype) g.from g.to a tested refl (g.range checked) at))
 
   through_one : (Whole : ℕ → Type 0) → HoldsReached Whole → kind_of e.note.ctype ≡ Some kind.One → DeclareOnes s → (place : Pos) (x : Value) → ExprClaims s store entry here e x → ComesTo Whole (element (access_by place Int) x 0)
   through_one Whole at_range one ones place x d =

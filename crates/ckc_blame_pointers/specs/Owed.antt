@@ -1,6 +1,6 @@
 -- What is said of the evaluations of either mode. In checked code none is stuck; in unchecked code one may be, and then
 -- nothing is said of it.
-use Rattle.std.specs.Prelude.{◌≡◌, ◌≢◌, Result, Ok, Err}
+use Rattle.std.specs.Prelude.{◌≢◌, Result, Ok, Err}
 use Rattle.ckc_base.specs.declared.arithmetic.Mode.{Mode}
 use Rattle.ckc_base.specs.declared.arithmetic.Mode.TheVariants.{Checked, Unchecked}
 use Rattle.ckc_source.specs.declared.outcome.Halt.{Halt}
