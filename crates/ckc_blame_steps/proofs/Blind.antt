@@ -1,22 +1,28 @@
 -- Rules on expressions that do not look at ranges.
 use Rattle.std.proofs.Common.{◌≡◌, ◌∙◌, sym, ap, subst, refl, ℕ, Bool, true, false, List}
 use Rattle.std.specs.Prelude.{Some, None}
+use Rattle.ckc_base.specs.declared.arithmetic.Mode.{Mode}
+use Rattle.ckc_types.specs.declared.types.CType.{CType}
 use Rattle.ckc_syntax.specs.declared.tree.Name.{Name}
+use Rattle.ckc_syntax.specs.declared.tree.TreeOp.TheVariants as op
 use Rattle.ckc_syntax.specs.declared.tree.Node.{Node-F, out-Node}
 use Rattle.ckc_typed.specs.declared.typed.Note.{Note}
+use Rattle.ckc_typed.specs.Operands.{is_raw_kind}
 use Rattle.ckc_typed.specs.Raw.{has_raw}
 use Rattle.ckc_typed.specs.Trees.{NotedLayer}
+use Rattle.ckc_typed.specs.Types.{kind_of}
 use Rattle.ckc_blame_sound.specs.Safe.{is_assumed}
 use Rattle.ckc_blame_sound.specs.Scopes.{IsAmong, NamesAmong, HasAmong}
 use Rattle.ckc_blame_sound.proofs.Judging.{outline}
 use Rattle.ckc_blame_sound.proofs.Every.{ExprLayer}
-use Rattle.ckc_blame_steps.specs.Checked.{IsCheckedPart}
+use Rattle.ckc_blame_pointers.specs.Covered.{IsRawAddress}
+use Rattle.ckc_blame_steps.specs.Checked.{IsPartOfMode}
 use Rattle.ckc_blame_steps.proofs.Callless.{IsCallless, HasNoCall}
 
 abbrev Bare : Type 0
 Bare = Node-F Name Note (Unit {0}) (Unit {0}) (Unit {0})
 
--- ---- checked casts
+-- ---- code of a mode
 
 abbrev assumed_bare : Bare → Bool
 assumed_bare (Node-F.Trusted w e l) = true
@@ -29,10 +35,29 @@ assumed_outline (Node-F.Tested w e None) = refl
 assumed_outline (Node-F.Tested w e (Some l)) = refl
 assumed_outline n = refl
 
-pub checked_blind : (x y : ExprLayer) → y.note.ctype ≡ x.note.ctype → outline (out-Node Name Note y.node) ≡ outline (out-Node Name Note x.node) → IsCheckedPart x → IsCheckedPart y
-checked_blind x y type same h = record {
-  type = ap has_raw type ∙ h.type;
-  node = assumed_outline (out-Node Name Note y.node) ∙ ap assumed_bare same ∙ sym (assumed_outline (out-Node Name Note x.node)) ∙ h.node;
+-- an address in unchecked code
+abbrev BareRawAddress : CType → Bare → Type 0
+BareRawAddress t (Node-F.Un op.Address e) = is_raw_kind (kind_of t) ≡ true
+BareRawAddress t n = Unit {0}
+
+to_bare_address : (t : CType) (n : NotedLayer) → IsRawAddress t n → BareRawAddress t (outline n)
+to_bare_address t (Node-F.Un op.Address e) h = h
+to_bare_address t (Node-F.Trusted w e None) h = tt
+to_bare_address t (Node-F.Trusted w e (Some l)) h = tt
+to_bare_address t (Node-F.Tested w e None) h = tt
+to_bare_address t (Node-F.Tested w e (Some l)) h = tt
+to_bare_address t n h = tt
+
+from_bare_address : (t : CType) (n : NotedLayer) → BareRawAddress t (outline n) → IsRawAddress t n
+from_bare_address t (Node-F.Un op.Address e) h = h
+from_bare_address t n h = tt
+
+pub mode_blind : (m : Mode) (x y : ExprLayer) → y.note.ctype ≡ x.note.ctype → outline (out-Node Name Note y.node) ≡ outline (out-Node Name Note x.node) → IsPartOfMode m x → IsPartOfMode m y
+mode_blind m x y type same h = record {
+  type = λ c. ap has_raw type ∙ h.type c;
+  node = λ c. assumed_outline (out-Node Name Note y.node) ∙ ap assumed_bare same ∙ sym (assumed_outline (out-Node Name Note x.node)) ∙ h.node c;
+  address = λ c. subst (λ t. IsRawAddress t (out-Node Name Note y.node)) (sym type)
+      (from_bare_address x.note.ctype (out-Node Name Note y.node) (subst (BareRawAddress x.note.ctype) (sym same) (to_bare_address x.note.ctype (out-Node Name Note x.node) (h.address c))));
 }
 
 -- ---- names

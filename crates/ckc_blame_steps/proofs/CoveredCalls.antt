@@ -1,7 +1,7 @@
--- The arguments of a checked call, and what a checked return returns, are covered.
+-- The arguments of a call, and what a return returns, are covered.
 use Rattle.std.proofs.Common.{◌≡◌, refl, sym, subst, ℕ, true, false, List, arith}
 use Rattle.std.specs.Prelude.{◌≤◌, ◌^◌, ◌-◌, ◌||◌, Bool, Option, None, Some, IfSome}
-use Rattle.ckc_base.specs.declared.arithmetic.Mode.TheVariants.{Checked}
+use Rattle.ckc_base.specs.declared.arithmetic.Mode.{Mode}
 use Rattle.ckc_syntax.specs.declared.tree.Name.{Name}
 use Rattle.ckc_syntax.specs.declared.tree.Name.TheVariants as name
 use Rattle.ckc_syntax.specs.declared.tree.Init.TheVariants as init
@@ -35,21 +35,21 @@ use Rattle.ckc_blame_steps.proofs.Stepping.{IsCallStep, call_step}
 
 -- ---- the value of a statement
 
-module _ (globals : Globals) (s : Setting) (seen : List ℕ) where
+module _ (m : Mode) (globals : Globals) (s : Setting) (seen : List ℕ) where
   some_same : {A : Type 0} {a b : A} → ◌≡◌ {A = Option A} (Some a) (Some b) → a ≡ b
   some_same e = cc
 
-  init_fits : (i : NotedInit) (e : NotedExpr) → value_of_init i ≡ Some e → IsFitInit globals s seen i → IsFit globals s seen e
-  init_fits (init.One g) e is h = subst (IsFit globals s seen) (some_same is) h
+  init_fits : (i : NotedInit) (e : NotedExpr) → value_of_init i ≡ Some e → IsFitInit m globals s seen i → IsFit m globals s seen e
+  init_fits (init.One g) e is h = subst (IsFit m globals s seen) (some_same is) h
   init_fits i e is h = absurd cc
 
-  value_fits : (x : ActLayer) (e : NotedExpr) → value_of_act x ≡ Some e → IsFitAct globals s seen x → IsFit globals s seen e
-  value_fits (Act-F.Assign g k) e is h = subst (IsFit globals s seen) (some_same is) h.1
-  value_fits (Act-F.Call g) e is h = subst (IsFit globals s seen) (some_same is) h
+  value_fits : (x : ActLayer) (e : NotedExpr) → value_of_act x ≡ Some e → IsFitAct m globals s seen x → IsFit m globals s seen e
+  value_fits (Act-F.Assign g k) e is h = subst (IsFit m globals s seen) (some_same is) h.1
+  value_fits (Act-F.Call g) e is h = subst (IsFit m globals s seen) (some_same is) h
   value_fits (Act-F.Local d) e is h = init_fits d.init e is h
   value_fits x e is h = absurd cc
 
-  returned_fits : (x : ActLayer) → IsFitAct globals s seen x → IfSome (returned_by_act x) (IsFit globals s seen)
+  returned_fits : (x : ActLayer) → IsFitAct m globals s seen x → IfSome (returned_by_act x) (IsFit m globals s seen)
   returned_fits (Act-F.Return e) h = h
   returned_fits x h = tt
 
@@ -71,10 +71,10 @@ returned_callless : (x : ActLayer) → IsGivenAct x → IfSome (returned_by_act 
 returned_callless (Act-F.Return e) h = h
 returned_callless x h = tt
 
-module _ (p : Typed) (j : IsJudged p) (small : Small j.named.tree) (words : HaveWords p) (safe : AreSafe p) (s : Setting) (f : Function) (function : IsFunction p s f) (store : Store) (here there : Here) where
+module _ (m : Mode) (p : Typed) (j : IsJudged p) (small : Small j.named.tree) (words : HaveWords p) (safe : AreSafe p) (s : Setting) (f : Function) (function : IsFunction p s f) (store : Store) (here there : Here) where
   -- ---- the arguments of a call
 
-  module _ (sp : Spot) (target : Option Kept) (number : ℕ) (es : List Expr) (i : IsStep s here (Call sp target number es) there) (checked : sp.mode ≡ Checked) (known : Premises p s store here i.before) where
+  module _ (sp : Spot) (target : Option Kept) (number : ℕ) (es : List Expr) (i : IsStep s here (Call sp target number es) there) (of_mode : sp.mode ≡ m) (known : Premises m p s store here i.before) where
     word : here.next ≤ 2 ^ 32 - 1
     word =
         let few_here = few_locals p s f j small function in
@@ -88,34 +88,34 @@ module _ (p : Typed) (j : IsJudged p) (small : Small j.named.tree) (words : Have
     called : Called
     called = call_step s here there sp target number es i word
 
-    pub arguments_there : AreCoveredThere p s store here (arguments_of i.before) (arguments_of i.after) here.next
+    pub arguments_there : AreCoveredThere m p s store here (arguments_of i.before) (arguments_of i.after) here.next
     arguments_there =
         let c = called in
         let layer : ActLayer = out-Act Name Note i.before.body in
-        let fit = value_fits (globals_in p) s here.seen layer c.call c.value (fits p j small words safe s f function store here there (Call sp target number es) i checked known) in
-        let right = value_right layer c.call c.value (gives p j small words safe s f function store here there (Call sp target number es) i checked known) in
-        subst (λ (xs : List NotedExpr). AreCoveredThere p s store here xs (arguments_of i.after) here.next) (sym c.before)
-        (subst (λ (ys : List NotedExpr). AreCoveredThere p s store here c.is.args ys here.next) (sym c.after)
-        (parts_covered p j s f function store here known.told known.spoken c.call (name.Function c.function) c.is.args c.afters here.next fit c.is.node
-        (right_arguments p j s f function store here known.told known.spoken c.call (name.Function c.function) c.is.args right c.is.node) c.is.judged))
+        let fit = value_fits m (globals_in p) s here.seen layer c.call c.value (fits m p j small words safe s f function store here there (Call sp target number es) i of_mode known) in
+        let right = value_right layer c.call c.value (gives m p j small words safe s f function store here there (Call sp target number es) i of_mode known) in
+        subst (λ (xs : List NotedExpr). AreCoveredThere m p s store here xs (arguments_of i.after) here.next) (sym c.before)
+        (subst (λ (ys : List NotedExpr). AreCoveredThere m p s store here c.is.args ys here.next) (sym c.after)
+        (parts_covered m p j s f function store here known.told known.spoken c.call (name.Function c.function) c.is.args c.afters here.next fit c.is.node
+        (right_arguments m p j s f function store here known.told known.spoken c.call (name.Function c.function) c.is.args right c.is.node) c.is.judged))
 
   -- ---- what is returned
 
-  module _ (sp : Spot) (e : Expr) (i : IsStep s here (Return sp e) there) (checked : sp.mode ≡ Checked) (known : Premises p s store here i.before) where
+  module _ (sp : Spot) (e : Expr) (i : IsStep s here (Return sp e) there) (of_mode : sp.mode ≡ m) (known : Premises m p s store here i.before) where
     judged_both : (x y : Option NotedExpr) → returns.JudgedIf s here there sp e i x y → JudgedIf s here there (Return sp e) i x y
     judged_both None None h = tt
     judged_both (Some x) (Some y) h = h.0
     judged_both None (Some y) h = absurd h
     judged_both (Some x) None h = absurd h
 
-    pub returned_there : IsCoveredIf p s store here (returned_by i.before) (returned_by i.after) here.next
+    pub returned_there : IsCoveredIf m p s store here (returned_by i.before) (returned_by i.after) here.next
     returned_there =
         let r = returns.return_step s here there sp e i in
         let layer : ActLayer = out-Act Name Note i.before.body in
-        let fit : IfSome r.value (IsFit (globals_in p) s here.seen) =
-        subst (λ o. IfSome o (IsFit (globals_in p) s here.seen)) r.before (returned_fits (globals_in p) s here.seen layer (fits p j small words safe s f function store here there (Return sp e) i checked known)) in
+        let fit : IfSome r.value (IsFit m (globals_in p) s here.seen) =
+        subst (λ o. IfSome o (IsFit m (globals_in p) s here.seen)) r.before (returned_fits m (globals_in p) s here.seen layer (fits m p j small words safe s f function store here there (Return sp e) i of_mode known)) in
         let given : IfSome r.value (λ (x : NotedExpr). callless_expr x ≡ true) =
-        subst (λ o. IfSome o (λ (x : NotedExpr). callless_expr x ≡ true)) r.before (returned_callless layer (gives p j small words safe s f function store here there (Return sp e) i checked known)) in
-        subst (λ o. IsCoveredIf p s store here o (returned_by i.after) here.next) (sym r.before)
-        (subst (λ o. IsCoveredIf p s store here r.value o here.next) (sym r.after)
-        (return_if p j small words safe s f function store here there (Return sp e) i checked known r.value r.made fit given r.fits (judged_both r.value r.made r.judged)))
+        subst (λ o. IfSome o (λ (x : NotedExpr). callless_expr x ≡ true)) r.before (returned_callless layer (gives m p j small words safe s f function store here there (Return sp e) i of_mode known)) in
+        subst (λ o. IsCoveredIf m p s store here o (returned_by i.after) here.next) (sym r.before)
+        (subst (λ o. IsCoveredIf m p s store here r.value o here.next) (sym r.after)
+        (return_if m p j small words safe s f function store here there (Return sp e) i of_mode known r.value r.made fit given r.fits (judged_both r.value r.made r.judged)))

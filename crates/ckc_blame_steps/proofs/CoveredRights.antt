@@ -1,8 +1,10 @@
--- What is assigned, returned and passed at a checked step is covered: an expression without calls, a `calloc`, or a call.
+-- What is assigned, returned and passed at a step is covered: an expression without calls, a `calloc`, or a call.
 use Rattle.std.proofs.Common.{◌≡◌, ◌∙◌, ⊎_elim, sym, ap, subst, refl, inl, inr, ℕ, Bool, true, false, List, [], ◌∷◌, map, rules}
 use Rattle.std.specs.Prelude.{◌⊎◌, ◌&&◌, ◌||◌, ◌+◌, ◌<◌, ◌^◌, Option, Some, None, Ok}
 use Rattle.std.specs.List.{list_all}
 use Rattle.std.proofs.lemmas.Bool.{and_parts}
+use Rattle.ckc_base.specs.declared.arithmetic.Mode.{Mode}
+use Rattle.ckc_base.specs.declared.arithmetic.Mode.TheVariants.{Unchecked}
 use Rattle.ckc_base.specs.Outcomes.{Outcome, bind}
 use Rattle.ckc_types.specs.declared.types.Kind.{Kind}
 use Rattle.ckc_types.specs.declared.types.Kind.TheVariants as kind
@@ -10,7 +12,7 @@ use Rattle.ckc_types.specs.declared.types.CType.{CType, CType-F, out-CType, the_
 use Rattle.ckc_types.specs.declared.types.CType.TheVariants as ctype
 use Rattle.ckc_syntax.specs.declared.tree.Name.{Name}
 use Rattle.ckc_syntax.specs.declared.tree.Name.TheVariants as name
-use Rattle.ckc_syntax.specs.declared.tree.Node.{Node-F, map-Node, fold-Node, out-Node, roll-Node, fold-roll-Node}
+use Rattle.ckc_syntax.specs.declared.tree.Node.{Node-F, map-Node, fold-Node, out-Node, fold-roll-Node}
 use Rattle.ckc_syntax.specs.declared.tree.Expr.{every_here-Expr, fold-roll-Expr}
 use Rattle.ckc_typed.specs.declared.environment.Globals.{Globals}
 use Rattle.ckc_typed.specs.declared.environment.Signature.{Signature}
@@ -40,10 +42,10 @@ use Rattle.ckc_blame_sound.proofs.Same.{same_equal}
 use Rattle.ckc_blame_sound.specs.Typed.{IsRow, HasRow, IsTyped}
 use Rattle.ckc_blame_sound.proofs.Judging.{IsGood, Gives, expr_judged, outline}
 use Rattle.ckc_blame_sound.proofs.Statements.{made_of}
-use Rattle.ckc_blame_pointers.specs.Covered.{IsCoveredNode, IsCoveredExpr, IsCovered}
+use Rattle.ckc_blame_pointers.specs.Covered.{IsCoveredNode, IsUncheckedNode, IsCoveredExpr, IsCovered}
 use Rattle.ckc_blame_sound.specs.JudgedTexts.{IsJudged, globals_in}
 use Rattle.ckc_blame_sound.proofs.Every.{ExprLayer, EachLimits, EachExpr}
-use Rattle.ckc_blame_steps.specs.Checked.{IsCheckedPart, IsChecked}
+use Rattle.ckc_blame_steps.specs.Checked.{IsPartOfMode, IsOfMode}
 use Rattle.ckc_blame_steps.specs.Pointees.{IsFine}
 use Rattle.ckc_blame_steps.specs.Told.{IsTold}
 use Rattle.ckc_blame_steps.specs.Values.{HasFewValues, HaveFewValues}
@@ -58,6 +60,7 @@ use Rattle.ckc_blame_steps.specs.Granted.{HasPlaces, IsCoveredFirst, IsCoveredCa
 use Rattle.ckc_blame_steps.proofs.CallsMade.{call_made, calloc_made}
 use Rattle.ckc_blame_steps.proofs.CoveredTargets.{IsNamedForm, target_covered}
 use Rattle.ckc_blame_steps.proofs.FitExprs.{IsFit}
+use Rattle.ckc_blame_steps.proofs.SafeTargets.{is_raw_target}
 use Rattle.ckc_blame_steps.proofs.ScalarValues.{integer_scalar, converted_scalar}
 
 -- ---- an expression without calls is no `calloc`
@@ -146,29 +149,30 @@ ok_same e = cc
 
 -- ---- at a point
 
-module _ (p : Typed) (j : IsJudged p) (s : Setting) (f : Function) (function : IsFunction p s f) (store : Store) (here : Here) (told : IsTold (globals_in p) s store here.seen) (spoken : AreSpoken p s here) where
+module _ (m : Mode) (p : Typed) (j : IsJudged p) (s : Setting) (f : Function) (function : IsFunction p s f) (store : Store) (here : Here) (told : IsTold (globals_in p) s store here.seen)
+    (spoken : AreSpoken m p s here) where
   abbrev globals : Globals
   globals = globals_in p
 
   abbrev Fits : NotedExpr → Type 0
-  Fits = IsFit globals s here.seen
+  Fits = IsFit m globals s here.seen
 
   few_here : (e : NotedExpr) → Fits e → (view s.frame e).values + 1 < 2 ^ 32
   few_here e h = every_here-Expr Name Note AnyLimits AnyNode (HasFewValues s.frame) e h.few
 
-  pub value_covered : (e g : NotedExpr) (fresh : ℕ) → Fits e → callless_expr e ≡ true → is_scalar e.note.ctype ≡ true → (view s.frame e).judged fresh here.at ≡ Ok g → IsCovered s store here.seen g
+  pub value_covered : (e g : NotedExpr) (fresh : ℕ) → Fits e → callless_expr e ≡ true → is_scalar e.note.ctype ≡ true → (view s.frame e).judged fresh here.at ≡ Ok g → IsCovered m s store here.seen g
   value_covered e g fresh h callless scalar judged =
-      judged_covered globals s store here e g fresh told h.typed h.checked h.names scalar (few_here e h) judged (spoken e g fresh h.typed h.checked callless judged)
+      judged_covered m globals s store here e g fresh told h.typed h.of_mode h.names scalar (few_here e h) judged (spoken e g fresh h.typed h.of_mode callless judged)
 
   -- the left side of an assignment
   pub left_covered : (e x g : NotedExpr) (fresh : ℕ) → Fits e → callless_expr e ≡ true → rows.IsTarget globals s.variables e x → (view s.frame e).judged fresh here.at ≡ Ok g
-      → IsCoveredTarget s store here.seen g (out-Node Name Note g.node)
-  left_covered e x g fresh h callless row judged =
+      → (m ≡ Unchecked → is_raw_target (out-Node Name Note g.node) ≡ false) → IsCoveredTarget m s store here.seen g (out-Node Name Note g.node)
+  left_covered e x g fresh h callless row judged safe =
       let P : Outcome NotedExpr → Type 0 = λ o. Gives (IsGood globals s e) o in
       let good : IsGood globals s e g = subst P judged ((expr_judged globals s e).judged h.typed fresh here.at) in
       let c = value_covered e g fresh h callless row.0 judged in
-      target_covered p j s f function store here.seen told g good.typed c.0
-      (named_kept globals s.variables (out-Node Name Note e.node) (out-Node Name Note g.node) good.alike.outline_is (⊎_elim (λ n. inl n) (λ n. inr n.0) row.1))
+      target_covered m p j s f function store here.seen told g good.typed c.0
+      (named_kept globals s.variables (out-Node Name Note e.node) (out-Node Name Note g.node) good.alike.outline_is (⊎_elim (λ n. inl n) (λ n. inr n.0) row.1)) safe
 
   -- ---- the parts of a call
 
@@ -176,9 +180,9 @@ module _ (p : Typed) (j : IsJudged p) (s : Setting) (f : Function) (function : I
   AllFit [] = Unit {0}
   AllFit (e ∷ es) = Fits e × AllFit es
 
-  all_fit : (es : List NotedExpr) → AllDown (IsTyped globals s) es → AllDown IsChecked es → AllDown (NamesSeen here.seen) es → AllDown (HaveFewValues s.frame) es → AllDown (IsSized s.text.layout) es → AllFit es
+  all_fit : (es : List NotedExpr) → AllDown (IsTyped globals s) es → AllDown (IsOfMode m) es → AllDown (NamesSeen here.seen) es → AllDown (HaveFewValues s.frame) es → AllDown (IsSized s.text.layout) es → AllFit es
   all_fit [] a b c d z = tt
-  all_fit (e ∷ es) a b c d z = (record { typed = a.0; checked = b.0; names = c.0; few = d.0; sized = z.0 }, all_fit es a.1 b.1 c.1 d.1 z.1)
+  all_fit (e ∷ es) a b c d z = (record { typed = a.0; of_mode = b.0; names = c.0; few = d.0; sized = z.0 }, all_fit es a.1 b.1 c.1 d.1 z.1)
 
   down : (P : ExprLayer → Type 0) (e : NotedExpr) (d : NotedLayer) → out-Node Name Note e.node ≡ d → EachExpr P e → Down (EachExpr P) (EachLimits P) d
   down P e d is h = subst (Down (EachExpr P) (EachLimits P)) is (each_parts P e h)
@@ -186,7 +190,7 @@ module _ (p : Typed) (j : IsJudged p) (s : Setting) (f : Function) (function : I
   arguments_fit : (e : NotedExpr) (n : Name) (es : List NotedExpr) → out-Node Name Note e.node ≡ Node-F.Call n es → Fits e → AllFit es
   arguments_fit e n es is h =
       let d = Node-F.Call n es in
-      all_fit es (down (HasRow globals s) e d is h.typed) (down IsCheckedPart e d is h.checked) (down (HasAmong here.seen) e d is h.names) (down (HasFewValues s.frame) e d is h.few)
+      all_fit es (down (HasRow globals s) e d is h.typed) (down (IsPartOfMode m) e d is h.of_mode) (down (HasAmong here.seen) e d is h.names) (down (HasFewValues s.frame) e d is h.few)
       (down (IsSizedPart s.text.layout) e d is h.sized)
 
   count_fits : (e n : NotedExpr) (w u : TypeTree) → out-Node Name Note e.node ≡ Node-F.Calloc w n u → Fits e → Fits n
@@ -194,7 +198,7 @@ module _ (p : Typed) (j : IsJudged p) (s : Setting) (f : Function) (function : I
       let d = Node-F.Calloc w n u in
       record {
         typed = down (HasRow globals s) e d is h.typed;
-        checked = down IsCheckedPart e d is h.checked;
+        of_mode = down (IsPartOfMode m) e d is h.of_mode;
         names = down (HasAmong here.seen) e d is h.names;
         few = down (HasFewValues s.frame) e d is h.few;
         sized = down (IsSizedPart s.text.layout) e d is h.sized;
@@ -202,7 +206,7 @@ module _ (p : Typed) (j : IsJudged p) (s : Setting) (f : Function) (function : I
 
   -- ---- calls
 
-  pub one_covered : (t : CType) (e g : NotedExpr) (fresh : ℕ) → Fits e → callless_expr e ≡ true → converts t e ≡ true → (view s.frame e).judged fresh here.at ≡ Ok g → IsCoveredThere p s store here e g fresh
+  pub one_covered : (t : CType) (e g : NotedExpr) (fresh : ℕ) → Fits e → callless_expr e ≡ true → converts t e ≡ true → (view s.frame e).judged fresh here.at ≡ Ok g → IsCoveredThere m p s store here e g fresh
   one_covered t e g fresh h callless goes judged = record {
     typed = h.typed;
     whole = callless_whole e callless;
@@ -211,18 +215,18 @@ module _ (p : Typed) (j : IsJudged p) (s : Setting) (f : Function) (function : I
   }
 
   arguments_covered : (ts : List CType) (es gs : List NotedExpr) (fresh : ℕ) → AllFit es → list_all callless_expr es ≡ true → AreArguments ts es → all_judged (map (view s.frame) es) fresh here.at ≡ Ok gs
-      → AreCoveredThere p s store here es gs fresh
+      → AreCoveredThere m p s store here es gs fresh
   arguments_covered [] [] gs fresh h callless goes judged =
-      let same : ◌≡◌ {A = List NotedExpr} [] gs = ok_same judged in subst (λ xs. AreCoveredThere p s store here [] xs fresh) same tt
+      let same : ◌≡◌ {A = List NotedExpr} [] gs = ok_same judged in subst (λ xs. AreCoveredThere m p s store here [] xs fresh) same tt
   arguments_covered [] (e ∷ es) gs fresh h callless goes judged = absurd goes
   arguments_covered (t ∷ ts) [] gs fresh h callless goes judged = absurd goes
   arguments_covered (t ∷ ts) (e ∷ es) gs fresh h callless goes judged =
       let next : ℕ = fresh_behind (view s.frame e) fresh here.at in
       let c = and_parts (callless_expr e) (list_all callless_expr es) callless in
-      let m = made_of ((view s.frame e).judged fresh here.at) (λ a. bind (all_judged (map (view s.frame) es) next here.at) (λ rest. Ok (a ∷ rest))) gs judged in
-      let n = made_of (all_judged (map (view s.frame) es) next here.at) (λ rest. Ok (m.0 ∷ rest)) gs m.2 in
-      subst (λ xs. AreCoveredThere p s store here (e ∷ es) xs fresh) (ok_same n.2)
-      (one_covered t e m.0 fresh h.0 c.0 goes.0 m.1, arguments_covered ts es n.0 next h.1 c.1 goes.1 n.1)
+      let first = made_of ((view s.frame e).judged fresh here.at) (λ a. bind (all_judged (map (view s.frame) es) next here.at) (λ rest. Ok (a ∷ rest))) gs judged in
+      let n = made_of (all_judged (map (view s.frame) es) next here.at) (λ rest. Ok (first.0 ∷ rest)) gs first.2 in
+      subst (λ xs. AreCoveredThere m p s store here (e ∷ es) xs fresh) (ok_same n.2)
+      (one_covered t e first.0 fresh h.0 c.0 goes.0 first.1, arguments_covered ts es n.0 next h.1 c.1 goes.1 n.1)
 
   call_row : (e : NotedExpr) (n : Name) (es : List NotedExpr) → Fits e → out-Node Name Note e.node ≡ Node-F.Call n es → IsCall globals n es e.note.ctype
   call_row e n es h is =
@@ -230,7 +234,7 @@ module _ (p : Typed) (j : IsJudged p) (s : Setting) (f : Function) (function : I
       subst (λ (x : NotedLayer). HasType globals s.variables row.mode x e.note.ctype) is row.row
 
   pub parts_covered : (e : NotedExpr) (n : Name) (es gs : List NotedExpr) (fresh : ℕ) → Fits e → out-Node Name Note e.node ≡ Node-F.Call n es → list_all callless_expr es ≡ true
-      → all_judged (map (view s.frame) es) fresh here.at ≡ Ok gs → AreCoveredThere p s store here es gs fresh
+      → all_judged (map (view s.frame) es) fresh here.at ≡ Ok gs → AreCoveredThere m p s store here es gs fresh
   parts_covered e n es gs fresh h is callless judged =
       let w = call_row e n es h is in
       arguments_covered w.0.params es gs fresh (arguments_fit e n es is h) callless w.2 judged
@@ -243,7 +247,7 @@ module _ (p : Typed) (j : IsJudged p) (s : Setting) (f : Function) (function : I
       different : false ≡ true → ⊥
       different h = cc
 
-  first_covered : (t : CType) (ts : List CType) (es gs : List NotedExpr) (fresh : ℕ) → AreArguments (t ∷ ts) es → AreCoveredThere p s store here es gs fresh → IsCoveredFirst s store here.seen gs
+  first_covered : (t : CType) (ts : List CType) (es gs : List NotedExpr) (fresh : ℕ) → AreArguments (t ∷ ts) es → AreCoveredThere m p s store here es gs fresh → IsCoveredFirst m s store here.seen gs
   first_covered t ts [] gs fresh goes h = absurd goes
   first_covered t ts (e ∷ es) [] fresh goes h = absurd h
   first_covered t ts (e ∷ es) (g ∷ gs) fresh goes h = h.0.covered
@@ -252,18 +256,18 @@ module _ (p : Typed) (j : IsJudged p) (s : Setting) (f : Function) (function : I
   pub record IsCallCovered (n : Name) (es : List NotedExpr) (g : NotedExpr) (fresh : ℕ) : Type 0 where
     pub afters : List NotedExpr
     pub node : out-Node Name Note g.node ≡ Node-F.Call n afters
-    pub arguments : AreCoveredThere p s store here es afters fresh
-    pub call : IsCoveredCall s store here.seen n afters
+    pub arguments : AreCoveredThere m p s store here es afters fresh
+    pub call : IsCoveredCall m s store here.seen n afters
 
   pub call_covered : (e g : NotedExpr) (n : Name) (es : List NotedExpr) (fresh : ℕ) → Fits e → out-Node Name Note e.node ≡ Node-F.Call n es → list_all callless_expr es ≡ true
       → (view s.frame e).judged fresh here.at ≡ Ok g → IsCallCovered n es g fresh
   call_covered e g n es fresh h is callless judged =
       let w = call_row e n es h is in
-      let m = call_made s.frame here.at fresh e g judged n es is in
-      let arguments = parts_covered e n es m.afters fresh h is callless m.judged in
-      record { afters = m.afters; node = m.node; arguments = arguments; call = by n w.0 (called_callable p j n w.0 w.1) w.1 w.2 m.afters arguments }
+      let made = call_made s.frame here.at fresh e g judged n es is in
+      let arguments = parts_covered e n es made.afters fresh h is callless made.judged in
+      record { afters = made.afters; node = made.node; arguments = arguments; call = by n w.0 (called_callable p j n w.0 w.1) w.1 w.2 made.afters arguments }
     where
-      by : (n : Name) (t : Signature) → IsCallable n → signature_named globals n ≡ Some t → AreArguments t.params es → (gs : List NotedExpr) → AreCoveredThere p s store here es gs fresh → IsCoveredCall s store here.seen n gs
+      by : (n : Name) (t : Signature) → IsCallable n → signature_named globals n ≡ Some t → AreArguments t.params es → (gs : List NotedExpr) → AreCoveredThere m p s store here es gs fresh → IsCoveredCall m s store here.seen n gs
       by (name.Function k) t c named goes gs a = tt
       by name.Getchar t c named goes gs a = tt
       by name.Putchar t c named goes gs a =
@@ -273,9 +277,9 @@ module _ (p : Typed) (j : IsJudged p) (s : Setting) (f : Function) (function : I
 
   -- ---- right sides
 
-  plain_right : (t : CType) (g : NotedExpr) (d : NotedLayer) → IsCoveredNode s store here.seen g.note.ctype d → IsCovered s store here.seen g → IsCoveredRight s store here.seen t g d
-  plain_right t g (Node-F.Call n es) node c = absurd node
-  plain_right t g (Node-F.Calloc w n u) node c = absurd node
+  plain_right : (t : CType) (g : NotedExpr) (d : NotedLayer) → IsCoveredNode s store here.seen g.note.ctype d ⊎ ((m ≡ Unchecked) × IsUncheckedNode s store g.note.ctype d) → IsCovered m s store here.seen g → IsCoveredRight m s store here.seen t g d
+  plain_right t g (Node-F.Call n es) node c = absurd (⊎_elim (λ x. x) (λ x. x.1) node)
+  plain_right t g (Node-F.Calloc w n u) node c = absurd (⊎_elim (λ x. x) (λ x. x.1) node)
   plain_right t g d node c = c
 
   -- the blocks of a `calloc` may be made at each pointer to its elements
@@ -293,45 +297,45 @@ module _ (p : Typed) (j : IsJudged p) (s : Setting) (f : Function) (function : I
       subst (λ (x : NotedLayer). HasType globals s.variables row.mode x e.note.ctype) is row.row
 
   calloc_covered : (t : CType) (e g n : NotedExpr) (w u : TypeTree) (fresh : ℕ) → Fits e → out-Node Name Note e.node ≡ Node-F.Calloc w n u → callless_expr n ≡ true → converts t e ≡ true → IsFine t
-      → (view s.frame e).judged fresh here.at ≡ Ok g → IsCoveredRight s store here.seen t g (out-Node Name Note g.node)
+      → (view s.frame e).judged fresh here.at ≡ Ok g → IsCoveredRight m s store here.seen t g (out-Node Name Note g.node)
   calloc_covered t e g n w u fresh h is callless goes fine judged =
       let a = calloc_row e n w u h is in
       let other : is_integer e.note.ctype ≡ false = ap is_integer a.pointer ∙ ap is_integer_form (pointer_out kind.Arr (type_written w)) in
       let element : element_of t ≡ type_written w = calloc_element t e n w u is other goes ∙ ap element_of a.pointer ∙ ap element_in (pointer_out kind.Arr (type_written w)) in
-      let m = calloc_made s.frame here.at fresh e g judged w u n is in
-      subst (IsCoveredRight s store here.seen t g) (sym m.node)
-      (calloc_places t e n w u h is element fine, value_covered n m.count fresh (count_fits e n w u is h) callless (integer_scalar n.note.ctype a.counted) m.judged)
+      let made = calloc_made s.frame here.at fresh e g judged w u n is in
+      subst (IsCoveredRight m s store here.seen t g) (sym made.node)
+      (calloc_places t e n w u h is element fine, value_covered n made.count fresh (count_fits e n w u is h) callless (integer_scalar n.note.ctype a.counted) made.judged)
 
   pub right_covered : (t : CType) (e g : NotedExpr) (fresh : ℕ) → Fits e → is_right e ≡ true → converts t e ≡ true → IsFine t → (view s.frame e).judged fresh here.at ≡ Ok g
-      → IsCoveredRight s store here.seen t g (out-Node Name Note g.node)
+      → IsCoveredRight m s store here.seen t g (out-Node Name Note g.node)
   right_covered t e g fresh h right goes fine judged = ⊎_elim (λ c. by (out-Node Name Note e.node) refl c) plain (one_of (is_call e) (callless_expr e) right)
     where
-      plain : callless_expr e ≡ true → IsCoveredRight s store here.seen t g (out-Node Name Note g.node)
+      plain : callless_expr e ≡ true → IsCoveredRight m s store here.seen t g (out-Node Name Note g.node)
       plain callless =
           let c = value_covered e g fresh h callless (converted_scalar globals s t e h.typed goes) judged in
-          plain_right t g (out-Node Name Note g.node) (every_here-Expr Name Note AnyLimits AnyNode (IsCoveredExpr s store here.seen) g c.0).node c
+          plain_right t g (out-Node Name Note g.node) (every_here-Expr Name Note AnyLimits AnyNode (IsCoveredExpr m s store here.seen) g c.0).node c
 
-      by : (d : NotedLayer) → out-Node Name Note e.node ≡ d → call_form d ≡ true → IsCoveredRight s store here.seen t g (out-Node Name Note g.node)
+      by : (d : NotedLayer) → out-Node Name Note e.node ≡ d → call_form d ≡ true → IsCoveredRight m s store here.seen t g (out-Node Name Note g.node)
       by (Node-F.Call n es) is callless =
           let c = call_covered e g n es fresh h is callless judged in
-          subst (IsCoveredRight s store here.seen t g) (sym c.node) c.call
+          subst (IsCoveredRight m s store here.seen t g) (sym c.node) c.call
       by (Node-F.Calloc w n u) is callless = calloc_covered t e g n w u fresh h is callless goes fine judged
       by d is callless = absurd cc
 
   -- a call that is a statement
-  pub alone_covered : (e g : NotedExpr) (fresh : ℕ) → Fits e → is_call e ≡ true → IsFine e.note.ctype → (view s.frame e).judged fresh here.at ≡ Ok g → IsCoveredAlone s store here.seen (out-Node Name Note g.node)
+  pub alone_covered : (e g : NotedExpr) (fresh : ℕ) → Fits e → is_call e ≡ true → IsFine e.note.ctype → (view s.frame e).judged fresh here.at ≡ Ok g → IsCoveredAlone m s store here.seen (out-Node Name Note g.node)
   alone_covered e g fresh h call fine judged = by (out-Node Name Note e.node) refl call
     where
-      by : (d : NotedLayer) → out-Node Name Note e.node ≡ d → call_form d ≡ true → IsCoveredAlone s store here.seen (out-Node Name Note g.node)
+      by : (d : NotedLayer) → out-Node Name Note e.node ≡ d → call_form d ≡ true → IsCoveredAlone m s store here.seen (out-Node Name Note g.node)
       by (Node-F.Call n es) is callless =
           let c = call_covered e g n es fresh h is callless judged in
-          subst (IsCoveredAlone s store here.seen) (sym c.node) c.call
+          subst (IsCoveredAlone m s store here.seen) (sym c.node) c.call
       by (Node-F.Calloc w n u) is callless =
           let a = calloc_row e n w u h is in
           let t = ctype.Pointer kind.Arr (type_written w) in
-          let m = calloc_made s.frame here.at fresh e g judged w u n is in
-          subst (IsCoveredAlone s store here.seen) (sym m.node) (
+          let made = calloc_made s.frame here.at fresh e g judged w u n is in
+          subst (IsCoveredAlone m s store here.seen) (sym made.node) (
             calloc_places t e n w u h is (ap element_in (pointer_out kind.Arr (type_written w))) (subst IsFine a.pointer fine),
-            value_covered n m.count fresh (count_fits e n w u is h) callless (integer_scalar n.note.ctype a.counted) m.judged,
+            value_covered n made.count fresh (count_fits e n w u is h) callless (integer_scalar n.note.ctype a.counted) made.judged,
           )
       by d is callless = absurd cc

@@ -1,5 +1,5 @@
 -- What a name of file scope is: an integer, an array, a pointer or a structure.
-use Rattle.std.proofs.Common.{◌≡◌, ◌∙◌, sym, ap, subst, refl, inl, inr, ℕ, ℤ, List, [], ◌∷◌, map, rules}
+use Rattle.std.proofs.Common.{◌≡◌, ◌∙◌, sym, ap, subst, refl, inl, inr, ℕ, ℤ, List, [], ◌∷◌, map}
 use Rattle.std.specs.Prelude.{All, ◌⊎◌, Bool, true, false, Option, Some, None, is_none, is_some, slice_get}
 use Rattle.std.proofs.lemmas.Bool.{and_parts}
 use Rattle.std.proofs.lemmas.List.Elements.{All-nil, All-cons, All-head, All-tail, All-contains}
@@ -7,8 +7,7 @@ use Rattle.ckc_base.specs.declared.arithmetic.Mode.{Mode}
 use Rattle.ckc_base.specs.declared.arithmetic.Mode.TheVariants.{Unchecked}
 use Rattle.ckc_types.specs.declared.types.Kind.{Kind}
 use Rattle.ckc_types.specs.declared.types.Kind.TheVariants as kind
-use Rattle.ckc_types.specs.declared.types.CType.{CType, CType-F, out-CType, the_lemmas}
-use Rattle.ckc_types.specs.declared.types.CType.TheVariants as ctype
+use Rattle.ckc_types.specs.declared.types.CType.{CType, CType-F, out-CType}
 use Rattle.ckc_types.specs.declared.types.Structs.{Structs}
 use Rattle.ckc_syntax.specs.declared.tree.Name.{Name}
 use Rattle.ckc_syntax.specs.declared.tree.Name.TheVariants as name
@@ -19,7 +18,6 @@ use Rattle.ckc_typed.specs.declared.environment.Globals.{Globals}
 use Rattle.ckc_typed.specs.declared.typed.Typed.{Typed}
 use Rattle.ckc_typed.specs.Declarations.{is_element_for}
 use Rattle.ckc_typed.specs.Environment.{kind_of_array, used, type_of_name}
-use Rattle.ckc_typed.specs.Operands.{is_raw_kind}
 use Rattle.ckc_typed.specs.Statics.{is_terminated}
 use Rattle.ckc_typed.specs.Texts.{globals_of}
 use Rattle.ckc_typed.specs.Trees.{Item, Tree, NotedItem, NotedLimits}
@@ -30,7 +28,6 @@ use Rattle.ckc_typed_welltyped.specs.Texts.{WellTypedItem, WellTypedItems}
 use Rattle.ckc_typed.specs.declared.environment.Amount.{Amount}
 use Rattle.ckc_typed.specs.Amounts.{amount_of_limits}
 use Rattle.ckc_bounds_declared.specs.Written.{takes_bounds_kind}
-use Rattle.ckc_bounds_views.specs.Judged.{is_counted_kind}
 use Rattle.ckc_bounds_views.specs.Ranges.{range_of_object}
 use Rattle.ckc_source.specs.declared.expr.Count.{Count}
 use Rattle.ckc_source.specs.declared.expr.Count.TheVariants as count
@@ -115,18 +112,6 @@ declared_constant structs t (Some l) = amount_constant (amount_of_limits structs
 
 -- ---- a static object
 
-pointer_out : (k : Kind) (t : CType) → out-CType (ctype.Pointer k t) ≡ CType-F.Pointer k t
-pointer_out k t = search (rules, the_lemmas)
-
-counted_array : (n : Length) (a : Kind) → kind_of_array n ≡ Some a → is_raw_kind (Some a) ≡ false → is_counted_kind (Some a) ≡ true
-counted_array lengths.Plain a e h = absurd cc
-counted_array (lengths.Raw n at) a e h = let same : kind.Raw ≡ a = cc in absurd (raw (ap (λ (k : Kind). is_raw_kind (Some k)) same ∙ h))
-  where
-    raw : true ≡ false → ⊥
-    raw e = cc
-counted_array (lengths.Checked n) a e h = let same : kind.Arr ≡ a = cc in ap (λ (k : Kind). is_counted_kind (Some k)) (sym same)
-counted_array (lengths.Nt n) a e h = let same : kind.Nt ≡ a = cc in ap (λ (k : Kind). is_counted_kind (Some k)) (sym same)
-
 plain_ends : (n : Length) → kind_of_array n ≡ None → is_terminated n ≡ false
 plain_ends lengths.Plain e = refl
 plain_ends (lengths.Raw n at) e = absurd cc
@@ -136,7 +121,7 @@ plain_ends (lengths.Nt n) e = absurd cc
 true_false : (b : Bool) → b ≡ true → b ≡ false → ⊥
 true_false b t f = absurd cc
 
-module _ (s : Setting) (store : Store) (t : CType) (k : ℕ) (w : IsStatic s t k) (raw : is_raw_kind (kind_of t) ≡ false) (filled : AreFilled s.text store)
+module _ (s : Setting) (store : Store) (t : CType) (k : ℕ) (w : IsStatic s t k) (filled : AreFilled s.text store)
     (solid : is_void w.object.element ≡ false) where
   single : w.object.array ≡ None → w.object.element ≡ t
   single e = sym (w.type ∙ ap (used w.object.element) e)
@@ -159,11 +144,6 @@ module _ (s : Setting) (store : Store) (t : CType) (k : ℕ) (w : IsStatic s t k
       by : IsConstant (count_of_static s.text t (name.Static k)) → IsCountedAs s t k
       by (inl f) = inl (f.0, f.1, λ own. range own ∙ ap (range_counted own) f.1)
       by (inr f) = inr (f, λ own. range own ∙ ap (range_counted own) f)
-
-  array_of : (a : Kind) → w.object.array ≡ Some a → IsStaticOf s store t k
-  array_of a e =
-      let kinds : kind_of t ≡ Some a = ap kind_of (w.type ∙ ap (used w.object.element) e) ∙ ap kind_in (pointer_out a w.object.element) in
-      inr (inl (statics_arrays s t k a w e (counted_array w.decl.length a (sym w.array ∙ e) (ap is_raw_kind (sym kinds) ∙ raw))))
 
   pointer_of : w.object.array ≡ None → is_pointer t ≡ true → IsStaticOf s store t k
   pointer_of e q = by w.decl.bounds refl
@@ -218,15 +198,15 @@ module _ (s : Setting) (store : Store) (t : CType) (k : ℕ) (w : IsStatic s t k
       form e (CType-F.Pointer kd u) is = pointer_of e (ap is_pointer_form is)
 
       by : (o : Option Kind) → w.object.array ≡ o → IsStaticOf s store t k
-      by (Some a) e = array_of a e
+      by (Some a) e = inr (inl (statics_arrays s t k a w e))
       by None e = form e (out-CType t) refl
 
 pub statics_of : (p : Typed) (s : Setting) (f : Function) (store : Store) → IsJudged p → IsFunction p s f → AreFilled s.text store
-    → (k : ℕ) (t : CType) → type_of_name (globals_in p) s.variables (name.Static k) ≡ Some t → is_raw_kind (kind_of t) ≡ false → IsStaticOf s store t k
+    → (k : ℕ) (t : CType) → type_of_name (globals_in p) s.variables (name.Static k) ≡ Some t → IsStaticOf s store t k
 unfolding setting_of
-statics_of p s f store j is filled k t row raw =
+statics_of p s f store j is filled k t row =
     let text : p ≡ s.text = sym (ap (λ (x : Setting). x.text) is.judged) in
     let w = statics_told p s f t k j is row in
     let solid : is_void (type_written w.decl.ctype) ≡ false =
     All-contains IsSolidHere s.text.tree.items (item.Static w.decl) (subst (λ (x : Typed). All IsSolidHere x.tree.items) text (all_solid p j)) w.declared in
-    static_of s store t k w raw filled (ap is_void w.written ∙ solid)
+    static_of s store t k w filled (ap is_void w.written ∙ solid)

@@ -1,8 +1,9 @@
--- The targets of checked assignments are those of which it is said where they lie.
+-- The targets of assignments, if no unchecked pointer leads to them, are those of which it is said where they lie.
 use Rattle.std.proofs.Common.{◌≡◌, ◌∙◌, ⊎_elim, sym, ap, subst, refl, inl, inr, ℕ, Bool, true, false, List, rules}
-use Rattle.std.specs.Prelude.{◌⊎◌, ◌&&◌, ◌||◌, if◌then◌else◌, Option, Some, None, is_some}
+use Rattle.std.specs.Prelude.{◌⊎◌, not, ◌&&◌, ◌||◌, if◌then◌else◌, Option, Some, None, is_some}
 use Rattle.std.proofs.lemmas.Bool.{and_parts}
 use Rattle.ckc_base.specs.declared.arithmetic.Mode.{Mode}
+use Rattle.ckc_base.specs.declared.arithmetic.Mode.TheVariants.{Unchecked}
 use Rattle.ckc_types.specs.declared.types.Kind.{Kind}
 use Rattle.ckc_types.specs.declared.types.Kind.TheVariants as kind
 use Rattle.ckc_types.specs.declared.types.CType.{CType, CType-F, out-CType, the_lemmas}
@@ -18,23 +19,27 @@ use Rattle.ckc_typed.specs.declared.typed.Note.{Note}
 use Rattle.ckc_typed.specs.declared.typed.Typed.{Typed}
 use Rattle.ckc_typed.specs.Environment.{object_named, type_of_name, used, variable_named}
 use Rattle.ckc_typed.specs.Expressions.{is_no_array, is_object_form, is_placed_form}
-use Rattle.ckc_typed.specs.Operands.{dot_type, index_type, is_moved}
+use Rattle.ckc_typed.specs.Operands.{is_raw_kind, dot_type, index_type, is_moved, target_type}
 use Rattle.ckc_typed.specs.Statements.{is_variable_form}
 use Rattle.ckc_typed.specs.Trees.{NotedExpr, NotedLayer}
-use Rattle.ckc_typed.specs.Types.{is_integer, is_pointer_form, is_scalar, element_of, kind_in, kind_of}
+use Rattle.ckc_typed.specs.Types.{is_integer, is_pointer, is_pointer_form, is_scalar, is_void, element_of, kind_in, kind_of}
 use Rattle.ckc_typed_welltyped.specs.Expressions.{AnyLimits, AnyNode, HasType}
 use Rattle.ckc_bounds_views.specs.Judged.{is_counted_kind}
 use Rattle.ckc_source.specs.Code.{Function}
 use Rattle.ckc_source.specs.Eval.{Store}
+use Rattle.ckc_build_values.specs.Kinds.{through_kind}
 use Rattle.ckc_blame_sound.specs.Settings.{Setting, IsFunction}
 use Rattle.ckc_blame_sound.specs.Typed.{IsRow, HasRow, IsTyped}
-use Rattle.ckc_blame_pointers.specs.Covered as covers
-use Rattle.ckc_blame_pointers.specs.Covered.{IsElement, IsStructureElement, IsPointerTarget, IsArrow, IsPointerArrow, IsStructureNode, IsCoveredUnary, IsCoveredNode, IsCoveredExpr, AreCovered}
+use Rattle.ckc_blame_pointers.specs.Covered.{IsIntegerMember, IsPointerMember, IsStructureNode, IsDot, IsRawPlace, IsCoveredNode, IsUncheckedNode, IsCoveredExpr, AreCovered}
 use Rattle.ckc_blame_sound.specs.JudgedTexts.{IsJudged, globals_in}
 use Rattle.ckc_blame_sound.proofs.Every.{EachLimits}
 use Rattle.ckc_blame_steps.specs.Statics.{IsStatic}
 use Rattle.ckc_blame_steps.specs.Told.{IsTold}
+use Rattle.ckc_blame_steps.specs.Unchecked.{is_raw_through}
+use Rattle.ckc_blame_steps.proofs.Cover.{IsCheckedKind, kind_is, moved_counted, pointer_form}
 use Rattle.ckc_blame_steps.proofs.Down.{Down, each_parts}
+use Rattle.ckc_blame_steps.proofs.Members.{struct_form}
+use Rattle.ckc_blame_steps.proofs.SafeTargets.{leads_raw, is_raw_place, is_raw_target}
 use Rattle.ckc_blame_steps.proofs.StaticTargets.{statics_counts}
 use Rattle.ckc_blame_steps.proofs.Told.{none_named, statics_told}
 use Rattle.ckc_blame_given.specs.Targets.{IsStaticObject, IsStaticTarget, IsThrough, IsMemberNamed, IsCoveredPlace, IsCoveredTarget}
@@ -65,7 +70,21 @@ abbrev pub IsNamedForm : {A L M E : Type 0} → Globals → List Variable → No
 IsNamedForm globals variables n =
     ((is_variable_form variables n || is_object_form globals n) ≡ true) ⊎ (is_placed_form n ≡ true)
 
-module _ (p : Typed) (j : IsJudged p) (s : Setting) (f : Function) (function : IsFunction p s f) (store : Store) (seen : List ℕ) (told : IsTold (globals_in p) s store seen) where
+-- a pointer that leads through no unchecked one is checked
+leads_checked : (k : Option Kind) → is_raw_through (through_kind k) ≡ false → is_raw_kind k ≡ false
+leads_checked (Some kind.Raw) h = absurd cc
+leads_checked (Some kind.One) h = refl
+leads_checked (Some kind.Arr) h = refl
+leads_checked (Some kind.Nt) h = refl
+leads_checked None h = refl
+
+-- what an unchecked pointer leads to has a place
+raw_structure : (x : NotedLayer) → IsRawPlace x → IsStructureNode x
+raw_structure (Node-F.Un op.Deref e) h = tt
+raw_structure (Node-F.Index e f) h = tt
+raw_structure x h = absurd h
+
+module _ (m : Mode) (p : Typed) (j : IsJudged p) (s : Setting) (f : Function) (function : IsFunction p s f) (store : Store) (seen : List ℕ) (told : IsTold (globals_in p) s store seen) where
   abbrev globals : Globals
   globals = globals_in p
 
@@ -74,24 +93,34 @@ module _ (p : Typed) (j : IsJudged p) (s : Setting) (f : Function) (function : I
 
   -- ---- checked pointers
 
-  through : (e : NotedExpr) → covers.IsThrough s e.note.ctype → IsThrough s e
-  through e (inl array) = record { through = inl (ap is_counted_kind array) }
-  through e (inr one) = record { through = inr one }
+  not_raw : (e : NotedExpr) → AreCovered m s store seen e → (m ≡ Unchecked → leads_raw e ≡ false) → is_raw_kind (kind_of e.note.ctype) ≡ false
+  not_raw e covered safe = by (is_raw_kind (kind_of e.note.ctype)) refl
+    where
+      by : (b : Bool) → is_raw_kind (kind_of e.note.ctype) ≡ b → is_raw_kind (kind_of e.note.ctype) ≡ false
+      by true raw = leads_checked (kind_of e.note.ctype) (safe ((every_here-Expr Name Note AnyLimits AnyNode (IsCoveredExpr m s store seen) e covered).checked raw))
+      by false raw = raw
 
-  deref_through : (e : NotedExpr) → IsCoveredUnary s store op.Deref e → IsThrough s e
-  deref_through e (inl x) = record { through = inl x.counted }
-  deref_through e (inr (inl x)) = record { through = inr (x.single, x.declared) }
-  deref_through e (inr (inr (inl x))) = through e x.through
-  deref_through e (inr (inr (inr x))) = through e x.through
+  through : (e : NotedExpr) → is_pointer e.note.ctype ≡ true → is_raw_kind (kind_of e.note.ctype) ≡ false → IsThrough s e
+  through e pointer raw = by (kind_is e.note.ctype pointer raw)
+    where
+      by : IsCheckedKind (kind_of e.note.ctype) → IsThrough s e
+      by (inl one) = record { through = inr (one, told.ones) }
+      by (inr many) = record { through = inl many }
 
-  arrow_through : (e : NotedExpr) (n : Name) (t : CType) → IsArrow s e n t ⊎ IsPointerArrow s store e n t → IsThrough s e
-  arrow_through e n t (inl x) = record { through = x.through }
-  arrow_through e n t (inr x) = through e x.through
+  deref_through : (e : NotedExpr) (t : CType) → target_type e.note.ctype ≡ Some t → is_raw_kind (kind_of e.note.ctype) ≡ false → IsThrough s e
+  deref_through e t row raw =
+      through e (and_parts (is_pointer e.note.ctype) (not (is_void (element_of e.note.ctype)))
+      (held (is_pointer e.note.ctype && not (is_void (element_of e.note.ctype))) (element_of e.note.ctype) t row)).0 raw
 
-  index_counted : (e : NotedExpr) → IsElement e ⊎ (IsStructureElement e ⊎ (IsPointerTarget s store e × (kind_of e.note.ctype ≡ Some kind.Arr))) → is_counted_kind (kind_of e.note.ctype) ≡ true
-  index_counted e (inl x) = x.counted
-  index_counted e (inr (inl x)) = ap is_counted_kind x.array
-  index_counted e (inr (inr x)) = ap is_counted_kind x.1
+  arrow_through : (e : NotedExpr) (n : Name) (t : CType) → dot_type globals.structs (element_of e.note.ctype) n ≡ Some t → is_raw_kind (kind_of e.note.ctype) ≡ false → IsThrough s e
+  arrow_through e n t row raw =
+      let form = struct_form globals.structs n t (out-CType (element_of e.note.ctype)) row in
+      through e (pointer_form (out-CType e.note.ctype) form.0 form.1) raw
+
+  index_counted : (e f : NotedExpr) (t : CType) → index_type e.note.ctype f.note.ctype ≡ Some t → is_raw_kind (kind_of e.note.ctype) ≡ false → is_counted_kind (kind_of e.note.ctype) ≡ true
+  index_counted e f t row raw =
+      moved_counted (kind_of e.note.ctype)
+      (and_parts (is_moved e.note.ctype) (is_integer f.note.ctype) (held (is_moved e.note.ctype && is_integer f.note.ctype) (element_of e.note.ctype) t row)).0 raw
 
   through_scalar : (e : NotedExpr) → IsThrough s e → is_scalar e.note.ctype ≡ true
   through_scalar e h = pointer_scalar e.note.ctype (⊎_elim (λ c. counted_form (out-CType e.note.ctype) c) (λ o. one_form (out-CType e.note.ctype) o.0) h.through)
@@ -152,49 +181,68 @@ module _ (p : Typed) (j : IsJudged p) (s : Setting) (f : Function) (function : I
   row_of : (e : NotedExpr) → IsTyped globals s e → IsRow globals s (out-Node Name Note e.node) e.note
   row_of e typed = every_here-Expr Name Note AnyLimits AnyNode (HasRow globals s) e typed
 
-  node_of : (e : NotedExpr) → AreCovered s store seen e → IsCoveredNode s store seen e.note.ctype (out-Node Name Note e.node)
-  node_of e covered = (every_here-Expr Name Note AnyLimits AnyNode (IsCoveredExpr s store seen) e covered).node
+  abbrev Node : CType → NotedLayer → Type 0
+  Node t d = IsCoveredNode s store seen t d ⊎ ((m ≡ Unchecked) × IsUncheckedNode s store t d)
+
+  node_of : (e : NotedExpr) → AreCovered m s store seen e → Node e.note.ctype (out-Node Name Note e.node)
+  node_of e covered = (every_here-Expr Name Note AnyLimits AnyNode (IsCoveredExpr m s store seen) e covered).node
+
+  -- what is said of one node in checked code alone
+  alone : {A X : Type 0} → A ⊎ (X × ⊥) → A
+  alone (inl a) = a
+  alone (inr x) = absurd x.1
 
   abbrev Parts : NotedLayer → Type 0
-  Parts = Down (AreCovered s store seen) (EachLimits (IsCoveredExpr s store seen))
+  Parts = Down (AreCovered m s store seen) (EachLimits (IsCoveredExpr m s store seen))
 
-  parts_of : (e : NotedExpr) → AreCovered s store seen e → Parts (out-Node Name Note e.node)
-  parts_of e covered = each_parts (IsCoveredExpr s store seen) e covered
+  parts_of : (e : NotedExpr) → AreCovered m s store seen e → Parts (out-Node Name Note e.node)
+  parts_of e covered = each_parts (IsCoveredExpr m s store seen) e covered
 
-  place_form : (t : CType) (tag : ℕ) (mode : Mode) (d : NotedLayer) → out-CType t ≡ CType-F.Struct tag → HasType globals s.variables mode d t → IsCoveredNode s store seen t d → Parts d
-      → IsStructureNode d → IsCoveredPlace s store seen t d
-  place_form t tag mode (Node-F.Name (name.Static k)) struct row node parts operand = let w = static_of t k row in object_of t k w (struct_single t k tag w struct)
-  place_form t tag mode (Node-F.Un op.Deref e) struct row node parts operand = let h = deref_through e node in ((parts, through_scalar e h), h)
-  place_form t tag mode (Node-F.Index e g) struct row node parts operand =
-      let c = index_counted e node in ((parts.0, counted_scalar e c), (parts.1, index_scalar e g t row), c)
-  place_form t tag mode d struct row node parts operand = absurd operand
+  place_form : (t : CType) (tag : ℕ) (mode : Mode) (d : NotedLayer) → out-CType t ≡ CType-F.Struct tag → HasType globals s.variables mode d t → Parts d → IsStructureNode d
+      → (m ≡ Unchecked → is_raw_place d ≡ false) → IsCoveredPlace m s store seen t d
+  place_form t tag mode (Node-F.Name (name.Static k)) struct row parts operand safe = let w = static_of t k row in object_of t k w (struct_single t k tag w struct)
+  place_form t tag mode (Node-F.Un op.Deref e) struct row parts operand safe =
+      let h = deref_through e t row (not_raw e parts safe) in ((parts, through_scalar e h), h)
+  place_form t tag mode (Node-F.Index e g) struct row parts operand safe =
+      let c = index_counted e g t row (not_raw e parts.0 safe) in ((parts.0, counted_scalar e c), (parts.1, index_scalar e g t row), c)
+  place_form t tag mode d struct row parts operand safe = absurd operand
 
-  place_covered : (e : NotedExpr) (tag : ℕ) → out-CType e.note.ctype ≡ CType-F.Struct tag → IsTyped globals s e → AreCovered s store seen e → IsStructureNode (out-Node Name Note e.node)
-      → IsCoveredPlace s store seen e.note.ctype (out-Node Name Note e.node)
-  place_covered e tag struct typed covered operand =
-      place_form e.note.ctype tag (row_of e typed).mode (out-Node Name Note e.node) struct (row_of e typed).row (node_of e covered) (parts_of e covered) operand
+  -- the structure of which `.` gives a member
+  place_covered : (e : NotedExpr) (n : Name) (t : CType) → dot_type globals.structs e.note.ctype n ≡ Some t → IsTyped globals s e → AreCovered m s store seen e → IsStructureNode (out-Node Name Note e.node)
+      → (m ≡ Unchecked → is_raw_place (out-Node Name Note e.node) ≡ false) → IsCoveredPlace m s store seen e.note.ctype (out-Node Name Note e.node)
+  place_covered e n t row typed covered operand safe =
+      let form = struct_form globals.structs n t (out-CType e.note.ctype) row in
+      place_form e.note.ctype form.0 (row_of e typed).mode (out-Node Name Note e.node) form.1 (row_of e typed).row (parts_of e covered) operand safe
+
+  dot_operand : (e : NotedExpr) (n : Name) (t : CType)
+      → IsDot s store e n t ⊎ ((m ≡ Unchecked) × (IsRawPlace (out-Node Name Note e.node) × (IsIntegerMember s e.note.ctype t n ⊎ IsPointerMember s store e.note.ctype t n)))
+      → IsStructureNode (out-Node Name Note e.node)
+  dot_operand e n t (inl dot) = dot.operand
+  dot_operand e n t (inr raw) = raw_structure (out-Node Name Note e.node) raw.1.0
 
   -- ---- targets
 
   abbrev TypedParts : NotedLayer → Type 0
   TypedParts = Down (IsTyped globals s) (EachLimits (HasRow globals s))
 
-  target_form : (e : NotedExpr) (mode : Mode) (d : NotedLayer) → out-Node Name Note e.node ≡ d → HasType globals s.variables mode d e.note.ctype → IsCoveredNode s store seen e.note.ctype d → Parts d → TypedParts d
-      → IsNamed d → IsCoveredTarget s store seen e d
-  target_form e mode (Node-F.Name (name.Local k)) is row node parts typed named = node
-  target_form e mode (Node-F.Name (name.Static k)) is row node parts typed named = static_target e k is row named
-  target_form e mode (Node-F.Un op.Deref a) is row node parts typed named = let h = deref_through a node in ((parts, through_scalar a h), h)
-  target_form e mode (Node-F.Index a b) is row node parts typed named =
-      let c = index_counted a node in ((parts.0, counted_scalar a c), (parts.1, index_scalar a b e.note.ctype row), c)
-  target_form e mode (Node-F.Arrow a n at) is row node parts typed named =
-      let h = arrow_through a n e.note.ctype node in ((parts, through_scalar a h), h, member_named (element_of a.note.ctype) e.note.ctype n row)
-  target_form e mode (Node-F.Dot a n at) is row node parts typed named =
-      (place_covered a node.tag node.struct typed parts node.operand, member_named a.note.ctype e.note.ctype n row)
-  target_form e mode (Node-F.Name n) is row node parts typed named = absurd node
-  target_form e mode d is row node parts typed (inl named) = absurd cc
-  target_form e mode d is row node parts typed (inr named) = absurd cc
+  target_form : (e : NotedExpr) (mode : Mode) (d : NotedLayer) → out-Node Name Note e.node ≡ d → HasType globals s.variables mode d e.note.ctype → Node e.note.ctype d → Parts d → TypedParts d
+      → IsNamed d → (m ≡ Unchecked → is_raw_target d ≡ false) → IsCoveredTarget m s store seen e d
+  target_form e mode (Node-F.Name (name.Local k)) is row node parts typed named safe = alone node
+  target_form e mode (Node-F.Name (name.Static k)) is row node parts typed named safe = static_target e k is row named
+  target_form e mode (Node-F.Un op.Deref a) is row node parts typed named safe =
+      let h = deref_through a e.note.ctype row (not_raw a parts safe) in ((parts, through_scalar a h), h)
+  target_form e mode (Node-F.Index a b) is row node parts typed named safe =
+      let c = index_counted a b e.note.ctype row (not_raw a parts.0 safe) in ((parts.0, counted_scalar a c), (parts.1, index_scalar a b e.note.ctype row), c)
+  target_form e mode (Node-F.Arrow a n at) is row node parts typed named safe =
+      let h = arrow_through a n e.note.ctype row (not_raw a parts safe) in ((parts, through_scalar a h), h, member_named (element_of a.note.ctype) e.note.ctype n row)
+  target_form e mode (Node-F.Dot a n at) is row node parts typed named safe =
+      (place_covered a n e.note.ctype row typed parts (dot_operand a n e.note.ctype node) safe, member_named a.note.ctype e.note.ctype n row)
+  target_form e mode (Node-F.Name n) is row node parts typed named safe = alone node
+  target_form e mode d is row node parts typed (inl named) safe = absurd cc
+  target_form e mode d is row node parts typed (inr named) safe = absurd cc
 
   -- a typed expression that is covered and may be a target
-  pub target_covered : (e : NotedExpr) → IsTyped globals s e → AreCovered s store seen e → IsNamed (out-Node Name Note e.node) → IsCoveredTarget s store seen e (out-Node Name Note e.node)
-  target_covered e typed covered named =
-      target_form e (row_of e typed).mode (out-Node Name Note e.node) refl (row_of e typed).row (node_of e covered) (parts_of e covered) (each_parts (HasRow globals s) e typed) named
+  pub target_covered : (e : NotedExpr) → IsTyped globals s e → AreCovered m s store seen e → IsNamed (out-Node Name Note e.node) → (m ≡ Unchecked → is_raw_target (out-Node Name Note e.node) ≡ false)
+      → IsCoveredTarget m s store seen e (out-Node Name Note e.node)
+  target_covered e typed covered named safe =
+      target_form e (row_of e typed).mode (out-Node Name Note e.node) refl (row_of e typed).row (node_of e covered) (parts_of e covered) (each_parts (HasRow globals s) e typed) named safe

@@ -1,10 +1,11 @@
--- What is known of the expressions of a checked step before it is judged.
+-- What is known of the expressions of a step before it is judged.
 use Rattle.std.proofs.Common.{◌≡◌, ◌∙◌, ⊎_elim, sym, ap, subst, refl, ℕ, true, List, [], ◌∷◌, map, arith, rules}
 use Rattle.std.specs.Prelude.{◌&&◌, nat_le, length, Some, None, IfSome}
 use Rattle.std.specs.List.{AllByRecursion, Contains, list_all}
 use Rattle.std.proofs.lemmas.Bool.{and_parts}
 use Rattle.std.proofs.lemmas.List.{length-map}
 use Rattle.std.proofs.lemmas.List.Elements.{Contains-append_left, Contains-append_right}
+use Rattle.ckc_base.specs.declared.arithmetic.Mode.{Mode}
 use Rattle.ckc_syntax.specs.Inside.{listed, inside_each, inside_init}
 use Rattle.ckc_syntax.specs.declared.tree.Name.{Name}
 use Rattle.ckc_syntax.specs.declared.tree.Init.TheVariants as init
@@ -25,16 +26,16 @@ use Rattle.ckc_blame_sound.specs.Words.{exprs_of_act, exprs_in}
 use Rattle.ckc_blame_sound.proofs.Words.{exprs_inside, exprs_are}
 use Rattle.ckc_blame_sound.specs.Typed.{IsTyped, IsTypedInit, AreTypedSides, IsTypedAct}
 use Rattle.ckc_blame_sound.proofs.Stepping.{ActLayer}
-use Rattle.ckc_blame_steps.specs.Checked.{IsChecked, IsCheckedInit, AreCheckedSides, IsCheckedAct}
+use Rattle.ckc_blame_steps.specs.Checked.{IsOfMode, IsInitOfMode, AreSidesOfMode, IsActOfMode}
 use Rattle.ckc_blame_steps.specs.ExpressionRooms.{HavePlaces}
 use Rattle.ckc_blame_steps.specs.Values.{HaveFewValues}
 use Rattle.ckc_blame_steps.proofs.CalledHeads.{none_in, split_in}
 
-module _ (globals : Globals) (s : Setting) (seen : List ℕ) where
-  -- An expression is typed, safe and small, names locals in scope, and what it allocates has a size.
+module _ (m : Mode) (globals : Globals) (s : Setting) (seen : List ℕ) where
+  -- An expression is typed, of a mode and small, names locals in scope, and what it allocates has a size.
   pub record IsFit (e : NotedExpr) : Type 0 where
     pub typed : IsTyped globals s e
-    pub checked : IsChecked e
+    pub of_mode : IsOfMode m e
     pub names : NamesSeen seen e
     pub few : HaveFewValues s.frame e
     pub sized : IsSized s.text.layout e
@@ -63,45 +64,45 @@ module _ (globals : Globals) (s : Setting) (seen : List ℕ) where
   abbrev AreSmall : List NotedExpr → Type 0
   AreSmall es = (e : NotedExpr) → Contains es e → IsSmall e
 
-  fit : (e : NotedExpr) → IsTyped globals s e → IsChecked e → IsSmall e → IsFit e
-  fit e typed checked small = record { typed = typed; checked = checked; names = small.0; few = small.1; sized = small.2 }
+  fit : (e : NotedExpr) → IsTyped globals s e → IsOfMode m e → IsSmall e → IsFit e
+  fit e typed of_mode small = record { typed = typed; of_mode = of_mode; names = small.0; few = small.1; sized = small.2 }
 
-  fit_init : (i : NotedInit) → IsTypedInit globals s i → IsCheckedInit i → AreSmall (inside_init listed (λ e. e ∷ []) i) → IsFitInit i
-  fit_init init.Nothing typed checked small = tt
-  fit_init (init.One e) typed checked small = fit e typed checked (small e (0, omega arith, refl))
-  fit_init (init.Many es) typed checked small = tt
+  fit_init : (i : NotedInit) → IsTypedInit globals s i → IsInitOfMode m i → AreSmall (inside_init listed (λ e. e ∷ []) i) → IsFitInit i
+  fit_init init.Nothing typed of_mode small = tt
+  fit_init (init.One e) typed of_mode small = fit e typed of_mode (small e (0, omega arith, refl))
+  fit_init (init.Many es) typed of_mode small = tt
 
-  fit_sides : (x : ActLayer) → AreTypedSides globals s x → AreCheckedSides x → AreSmall (exprs_of_act (exprs_inside x)) → AreFitSides x
-  fit_sides (Act-F.Assign e f) typed checked small =
-      (fit e typed.0 checked.0 (small e (0, omega arith, refl)), fit f typed.1 checked.1 (small f (1, omega arith, refl)))
-  fit_sides x typed checked small = tt
+  fit_sides : (x : ActLayer) → AreTypedSides globals s x → AreSidesOfMode m x → AreSmall (exprs_of_act (exprs_inside x)) → AreFitSides x
+  fit_sides (Act-F.Assign e f) typed of_mode small =
+      (fit e typed.0 of_mode.0 (small e (0, omega arith, refl)), fit f typed.1 of_mode.1 (small f (1, omega arith, refl)))
+  fit_sides x typed of_mode small = tt
 
   small_in : (st : NotedStmt) → AreSmall (exprs_in st) → AreSmall (exprs_of_act (exprs_inside (out-Act Name Note st.body)))
   small_in st h e c = h e (subst (λ es. Contains es e) (sym (exprs_are st)) c)
 
   fit_parts : (ss : List NotedStmt) → AllByRecursion (λ (st : NotedStmt). AreTypedSides globals s (out-Act Name Note st.body)) ss
-      → AllByRecursion (λ (st : NotedStmt). AreCheckedSides (out-Act Name Note st.body)) ss
+      → AllByRecursion (λ (st : NotedStmt). AreSidesOfMode m (out-Act Name Note st.body)) ss
       → AreSmall (inside_each listed (λ (es : List NotedExpr). es) (map exprs_in ss))
       → AllByRecursion (λ (st : NotedStmt). AreFitSides (out-Act Name Note st.body)) ss
-  fit_parts [] typed checked small = tt
-  fit_parts (st ∷ ss) typed checked small =
+  fit_parts [] typed of_mode small = tt
+  fit_parts (st ∷ ss) typed of_mode small =
       let rest : List NotedExpr = inside_each listed (λ (es : List NotedExpr). es) (map exprs_in ss) in (
-        fit_sides (out-Act Name Note st.body) typed.0 checked.0 (small_in st (λ e c. small e (Contains-append_left (exprs_in st) rest e c))),
-        fit_parts ss typed.1 checked.1 (λ e c. small e (Contains-append_right (exprs_in st) rest e c)),
+        fit_sides (out-Act Name Note st.body) typed.0 of_mode.0 (small_in st (λ e c. small e (Contains-append_left (exprs_in st) rest e c))),
+        fit_parts ss typed.1 of_mode.1 (λ e c. small e (Contains-append_right (exprs_in st) rest e c)),
       )
 
-  pub fit_act : (x : ActLayer) → IsTypedAct globals s x → IsCheckedAct x → AreSmall (exprs_of_act (exprs_inside x)) → IsFitAct x
-  fit_act (Act-F.Local d) typed checked small = fit_init d.init typed.0 checked small
-  fit_act (Act-F.Call e) typed checked small = fit e typed checked (small e (0, omega arith, refl))
-  fit_act (Act-F.Return None) typed checked small = tt
-  fit_act (Act-F.Return (Some e)) typed checked small = fit e typed checked (small e (0, omega arith, refl))
-  fit_act (Act-F.Check e) typed checked small = fit e typed checked (small e (0, omega arith, refl))
-  fit_act (Act-F.Bundle ss) typed checked small = fit_parts ss typed checked small
-  fit_act (Act-F.Assign e f) typed checked small = fit_sides (Act-F.Assign e f) typed checked small
-  fit_act x typed checked small = tt
+  pub fit_act : (x : ActLayer) → IsTypedAct globals s x → IsActOfMode m x → AreSmall (exprs_of_act (exprs_inside x)) → IsFitAct x
+  fit_act (Act-F.Local d) typed of_mode small = fit_init d.init typed.0 of_mode small
+  fit_act (Act-F.Call e) typed of_mode small = fit e typed of_mode (small e (0, omega arith, refl))
+  fit_act (Act-F.Return None) typed of_mode small = tt
+  fit_act (Act-F.Return (Some e)) typed of_mode small = fit e typed of_mode (small e (0, omega arith, refl))
+  fit_act (Act-F.Check e) typed of_mode small = fit e typed of_mode (small e (0, omega arith, refl))
+  fit_act (Act-F.Bundle ss) typed of_mode small = fit_parts ss typed of_mode small
+  fit_act (Act-F.Assign e f) typed of_mode small = fit_sides (Act-F.Assign e f) typed of_mode small
+  fit_act x typed of_mode small = tt
 
-  pub fit_stmt : (st : NotedStmt) → IsTypedAct globals s (out-Act Name Note st.body) → IsCheckedAct (out-Act Name Note st.body) → AreSmall (exprs_in st) → IsFitAct (out-Act Name Note st.body)
-  fit_stmt st typed checked small = fit_act (out-Act Name Note st.body) typed checked (small_in st small)
+  pub fit_stmt : (st : NotedStmt) → IsTypedAct globals s (out-Act Name Note st.body) → IsActOfMode m (out-Act Name Note st.body) → AreSmall (exprs_in st) → IsFitAct (out-Act Name Note st.body)
+  fit_stmt st typed of_mode small = fit_act (out-Act Name Note st.body) typed of_mode (small_in st small)
 
 -- what has places has few values
 pub few_of : (frame : Frame) (at : State) (first : ℕ) (es : List NotedExpr) → HavePlaces frame at first es → (e : NotedExpr) → Contains es e → HaveFewValues frame e

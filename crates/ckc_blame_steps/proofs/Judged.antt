@@ -1,7 +1,7 @@
--- What a checked expression is judged as is one of which it is said what it comes to.
+-- What an expression of code of a mode is judged as is one of which it is said what it comes to.
 use Rattle.std.proofs.Common.{◌≡◌, ◌∙◌, sym, ap, subst, refl, ℕ, true, false}
 use Rattle.std.specs.Prelude.{if◌then◌else◌, Option, Some, None, IfSome, Ok}
-use Rattle.ckc_base.specs.declared.arithmetic.Mode.TheVariants.{Checked}
+use Rattle.ckc_base.specs.declared.arithmetic.Mode.{Mode}
 use Rattle.ckc_base.specs.Outcomes.{Outcome}
 use Rattle.ckc_typed.specs.declared.environment.Globals.{Globals}
 use Rattle.ckc_typed.specs.declared.typed.Typed.{Typed}
@@ -27,23 +27,23 @@ use Rattle.ckc_blame_pointers.specs.Covered.{IsCovered}
 use Rattle.ckc_blame_sound.specs.JudgedTexts.{globals_in}
 use Rattle.ckc_blame_sound.proofs.SameViews.{same_view}
 use Rattle.ckc_blame_control.proofs.Typed.{condition_typed}
-use Rattle.ckc_blame_steps.specs.Checked.{IsCheckedPart, IsChecked}
+use Rattle.ckc_blame_steps.specs.Checked.{IsPartOfMode, IsOfMode}
 use Rattle.ckc_blame_steps.specs.Told.{IsTold, IsSpoken}
-use Rattle.ckc_blame_steps.proofs.Blind.{checked_blind, scope_blind}
-use Rattle.ckc_blame_steps.proofs.Checked.{condition_checked}
+use Rattle.ckc_blame_steps.proofs.Blind.{mode_blind, scope_blind}
+use Rattle.ckc_blame_steps.proofs.Checked.{condition_of_mode}
 use Rattle.ckc_blame_steps.proofs.Cover.{expressions_are_covered}
 use Rattle.ckc_blame_steps.proofs.FewValues.{IsFew}
 use Rattle.ckc_blame_steps.proofs.Ranges.{judging_keeps}
 
 -- ---- what is judged
 
-pub judged_covered : (globals : Globals) (s : Setting) (store : Store) (here : Here) (before after : NotedExpr) (fresh : ℕ) → IsTold globals s store here.seen → IsTyped globals s before
-    → IsChecked before → NamesSeen here.seen before → is_scalar before.note.ctype ≡ true → IsFew (view s.frame before).values → (view s.frame before).judged fresh here.at ≡ Ok after
-    → IsSpoken s after → IsCovered s store here.seen after
-judged_covered globals s store here before after fresh told typed checked scope scalar few judged spoken =
+pub judged_covered : (m : Mode) (globals : Globals) (s : Setting) (store : Store) (here : Here) (before after : NotedExpr) (fresh : ℕ) → IsTold globals s store here.seen → IsTyped globals s before
+    → IsOfMode m before → NamesSeen here.seen before → is_scalar before.note.ctype ≡ true → IsFew (view s.frame before).values → (view s.frame before).judged fresh here.at ≡ Ok after
+    → IsSpoken m s after → IsCovered m s store here.seen after
+judged_covered m globals s store here before after fresh told typed of_mode scope scalar few judged spoken =
     let t = judged_typed globals s before after fresh here.at typed judged in
     let same = same_view s.frame before after fresh here.at judged s.frame in (
-      expressions_are_covered globals s store here.seen told after t.0 (judging_keeps IsCheckedPart checked_blind s.frame before after fresh here.at judged checked)
+      expressions_are_covered m globals s store here.seen told after t.0 (judging_keeps (IsPartOfMode m) (mode_blind m) s.frame before after fresh here.at judged of_mode)
           (judging_keeps (HasAmong here.seen) (scope_blind here.seen) s.frame before after fresh here.at judged scope) spoken
           (subst IsFew (ap (λ (v : View). v.values) (sym same)) few),
       ap is_scalar t.1 ∙ scalar,
@@ -68,18 +68,18 @@ judged_as frame here before after there counting judged =
     let one = pair_same (Some m.0.0) after m.0.1 there m.2 in
     (n.0, sym one.0 ∙ ap (λ (p : NotedExpr × Here). Some p.0) (sym (ok_same n.2)), sym (ap (λ b. if b then Ok before else (view frame before).judged here.next here.at) counting) ∙ n.1)
 
-pub condition_covered : (p : Typed) (s : Setting) (f : Function) (store : Store) (here one other : Here) (e : Expr) (c : IsCondition s Checked here e one other)
-    → HaveWords p → IsFunction p s f → AreSafe s.text → IsTold (globals_in p) s store here.seen → IfSome c.before (λ x. IsFew (view s.frame x).values) → IfSome c.after (IsSpoken s)
-    → IfSome c.after (IsCovered s store here.seen)
-condition_covered p s f store here one other e c words is safe told few spoken =
-    by c.before c.after c.judged (condition_typed p s f Checked words is c.before c.inside) (condition_checked s here one other e safe c) c.inside.typed c.scope.names few spoken
+pub condition_covered : (m : Mode) (p : Typed) (s : Setting) (f : Function) (store : Store) (here one other : Here) (e : Expr) (c : IsCondition s m here e one other)
+    → HaveWords p → IsFunction p s f → AreSafe s.text → IsTold (globals_in p) s store here.seen → IfSome c.before (λ x. IsFew (view s.frame x).values) → IfSome c.after (IsSpoken m s)
+    → IfSome c.after (IsCovered m s store here.seen)
+condition_covered m p s f store here one other e c words is safe told few spoken =
+    by c.before c.after c.judged (condition_typed p s f m words is c.before c.inside) (condition_of_mode m s here one other e safe c) c.inside.typed c.scope.names few spoken
   where
-    by : (before after : Option NotedExpr) → maybe_judged s.frame before here ≡ Ok (after, c.behind) → IsTypedIf (globals_in p) s before → IfSome before IsChecked
-        → IfSome before (rows.IsCondition (globals_of_text s.text) s.variables Checked) → IfSome before (NamesOnly here.seen) → IfSome before (λ x. IsFew (view s.frame x).values)
-        → IfSome after (IsSpoken s) → IfSome after (IsCovered s store here.seen)
-    by None None judged typed checked row names few spoken = tt
-    by None (Some y) judged typed checked row names few spoken = absurd (none_some y (pair_same None (Some y) here c.behind judged).0)
-    by (Some x) None judged typed checked row names few spoken = tt
-    by (Some x) (Some y) judged typed checked row names few spoken =
-        let m = judged_as s.frame here x (Some y) c.behind c.counting judged in
-        judged_covered (globals_in p) s store here x y here.next told typed checked (names x refl) row.1 few (m.2 ∙ ap Ok (sym (some_same m.1))) spoken
+    by : (before after : Option NotedExpr) → maybe_judged s.frame before here ≡ Ok (after, c.behind) → IsTypedIf (globals_in p) s before → IfSome before (IsOfMode m)
+        → IfSome before (rows.IsCondition (globals_of_text s.text) s.variables m) → IfSome before (NamesOnly here.seen) → IfSome before (λ x. IsFew (view s.frame x).values)
+        → IfSome after (IsSpoken m s) → IfSome after (IsCovered m s store here.seen)
+    by None None judged typed of_mode row names few spoken = tt
+    by None (Some y) judged typed of_mode row names few spoken = absurd (none_some y (pair_same None (Some y) here c.behind judged).0)
+    by (Some x) None judged typed of_mode row names few spoken = tt
+    by (Some x) (Some y) judged typed of_mode row names few spoken =
+        let made = judged_as s.frame here x (Some y) c.behind c.counting judged in
+        judged_covered m (globals_in p) s store here x y here.next told typed of_mode (names x refl) row.1 few (made.2 ∙ ap Ok (sym (some_same made.1))) spoken

@@ -51,6 +51,7 @@ pub mod RunStores
 pub mod Rooms
 pub mod ScalarValues
 pub mod CallsMade
+mod SafeTargets
 pub mod CoveredTargets
 pub mod FitExprs
 pub mod CoveredRights

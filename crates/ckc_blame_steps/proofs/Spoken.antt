@@ -1,4 +1,4 @@
--- Of each expression of a checked scope without calls, as it is judged, it is said what it comes to.
+-- Of each expression without calls, as it is judged, it is said what it comes to.
 use Rattle.std.proofs.Common.{◌≡◌, ◌∙◌, ⊎_elim, sym, ap, subst, refl, inl, inr, ℕ, Bool, true, false}
 use Rattle.std.specs.Prelude.{◌⊎◌, ◌&&◌, ◌||◌, Option, Some, None, is_some, Ok}
 use Rattle.std.proofs.lemmas.Bool.{and_parts}
@@ -37,19 +37,19 @@ use Rattle.ckc_blame_sound.specs.Settings.{Setting, IsFunction}
 use Rattle.ckc_blame_sound.specs.Typed.{HasRow, IsTyped}
 use Rattle.ckc_blame_sound.proofs.Judging.{judged_typed}
 use Rattle.ckc_blame_sound.proofs.Types.{none_is_some, number_wide, sign_row, size_wide}
-use Rattle.ckc_blame_pointers.specs.Covered.{DeclareOnes, IsThrough, IsStructureNode, IsScalarMember, IsAddressed}
+use Rattle.ckc_blame_pointers.specs.Covered.{DeclareOnes, IsThrough, IsStructureNode, IsScalarMember, IsAddressed, IsRaw, IsAddressedRaw}
 use Rattle.ckc_blame_pointers.proofs.Rows.{int_row}
 use Rattle.ckc_blame_pointers.proofs.Scalars.{integer_scalar, kind_scalar, moved_scalar, no_structure, pointer_scalar, true_if}
 use Rattle.ckc_blame_given.proofs.Layers.{view_is, viewed}
 use Rattle.ckc_blame_sound.specs.JudgedTexts.{IsJudged, globals_in}
 use Rattle.ckc_blame_sound.proofs.Every.{ExprLayer, EachExpr, EachLimits, each_follows}
 use Rattle.ckc_blame_sound.proofs.SameViews.{same_view}
-use Rattle.ckc_blame_steps.specs.Checked.{IsCheckedPart, IsChecked}
+use Rattle.ckc_blame_steps.specs.Checked.{IsPartOfMode, IsOfMode}
 use Rattle.ckc_blame_steps.specs.Told.{IsReadElement, IsSpokenNode, IsSpokenPart, IsSpoken}
-use Rattle.ckc_blame_steps.proofs.Addresses.{IsPlain, HasAddress, TakesAddress, addresses_taken}
-use Rattle.ckc_blame_steps.proofs.Blind.{callless_blind, checked_blind}
+use Rattle.ckc_blame_steps.proofs.Addresses.{HasAddress, TakesAddress, addresses_taken}
+use Rattle.ckc_blame_steps.proofs.Blind.{callless_blind, mode_blind}
 use Rattle.ckc_blame_steps.proofs.Callless.{IsCallless, HasNoCall, no_calls}
-use Rattle.ckc_blame_steps.proofs.Cover.{array_is, kind_is, no_raw, pointer_form}
+use Rattle.ckc_blame_steps.proofs.Cover.{array_is, kind_is, raw_mode, pointer_form}
 use Rattle.ckc_blame_steps.proofs.DeclaredTypes.{AreObjects, names_objects, scalar_parts}
 use Rattle.ckc_blame_steps.proofs.Down.{layer, Down, each_parts, each_whole}
 use Rattle.ckc_blame_steps.proofs.Layouts.{structs_told}
@@ -110,7 +110,7 @@ or_none : (b : Bool) → (b || false) ≡ true → b ≡ true
 or_none true e = refl
 or_none false e = absurd cc
 
-module _ (p : Typed) (s : Setting) (f : Function) (j : IsJudged p) (is : IsFunction p s f) (ones : DeclareOnes s) where
+module _ (m : Mode) (p : Typed) (s : Setting) (f : Function) (j : IsJudged p) (is : IsFunction p s f) (ones : DeclareOnes s) where
   abbrev globals : Globals
   globals = globals_in p
 
@@ -123,7 +123,7 @@ module _ (p : Typed) (s : Setting) (f : Function) (j : IsJudged p) (is : IsFunct
   -- what is known of an expression
   record IsKnownPart (x : ExprLayer) : Type 0 where
     pub row : HasRow globals s x
-    pub checked : IsCheckedPart x
+    pub of_mode : IsPartOfMode m x
     pub callless : HasNoCall x
     pub address : TakesAddress s.frame x
 
@@ -159,15 +159,21 @@ module _ (p : Typed) (s : Setting) (f : Function) (j : IsJudged p) (is : IsFunct
       }
 
   -- what `->` reads through
-  through : (e : NotedExpr) (t : CType) (n : Name) → IsKnown e → dot_type globals.structs (element_of e.note.ctype) n ≡ Some t
-      → (is_terminated_kind (kind_of e.note.ctype) ≡ false) × IsThrough s e.note.ctype
-  through e t n known row =
+  no_end : (e : NotedExpr) (t : CType) (n : Name) → IsKnown e → dot_type globals.structs (element_of e.note.ctype) n ≡ Some t → is_terminated_kind (kind_of e.note.ctype) ≡ false
+  no_end e t n known row =
       let form = struct_form globals.structs n t (out-CType (element_of e.note.ctype)) row in
-      let other = other_kind e.note.ctype (value e known) (ap is_integer_form form.1) in (
-        other,
-        ⊎_elim (λ one. inr (one, ones)) (λ many. inl (array_is (kind_of e.note.ctype) many other))
-            (kind_is e.note.ctype (pointer_form (out-CType e.note.ctype) form.0 form.1) (no_raw e.note.ctype (own e known).checked.type)),
-      )
+      other_kind e.note.ctype (value e known) (ap is_integer_form form.1)
+
+  through : (e : NotedExpr) (t : CType) (n : Name) → IsKnown e → dot_type globals.structs (element_of e.note.ctype) n ≡ Some t
+      → ((m ≡ Unchecked) × IsRaw e) ⊎ IsThrough s e.note.ctype
+  through e t n known row = by (is_raw_kind (kind_of e.note.ctype)) refl
+    where
+      by : (raw : Bool) → is_raw_kind (kind_of e.note.ctype) ≡ raw → ((m ≡ Unchecked) × IsRaw e) ⊎ IsThrough s e.note.ctype
+      by true is = inl (raw_mode m (layer e) (own e known).of_mode is, is)
+      by false is =
+          let form = struct_form globals.structs n t (out-CType (element_of e.note.ctype)) row in
+          inr (⊎_elim (λ one. inr (one, ones)) (λ many. inl (array_is (kind_of e.note.ctype) many (no_end e t n known row)))
+          (kind_is e.note.ctype (pointer_form (out-CType e.note.ctype) form.0 form.1) is))
 
   -- ---- addresses
 
@@ -184,16 +190,21 @@ module _ (p : Typed) (s : Setting) (f : Function) (j : IsJudged p) (is : IsFunct
       subst (λ (m : Name). type_of_name globals s.variables m ≡ Some t → is_no_array (object_named globals m) ≡ true → has_none_of_node s.frame (viewed s.frame (Node-F.Name m)) ≡ false → IsAddressed s t (Node-F.Name m))
       (sym i.1) (λ row there bare. free_object p s f j is t i.0 (statics_told p s f t i.0 j is row) there bare)
 
+  abbrev Addressed : CType → NotedLayer → Type 0
+  Addressed t x = IsAddressed s t x ⊎ ((m ≡ Unchecked) × IsAddressedRaw s t x)
+
   addressed_node : (mode : Mode) (x : NotedLayer) (t : CType) → HasType globals s.variables mode x t → PartsKnown x → (is_object_form globals x || is_placed_form x) ≡ true
-      → has_none_of_node s.frame (viewed s.frame x) ≡ false → IsAddressed s t x
-  addressed_node mode (Node-F.Name n) t row parts there bare = let h = or_none (is_no_array (object_named globals n)) there in name_addressed n t (static_there n h) row h bare
-  addressed_node mode (Node-F.Un op.Deref e) t row parts there bare = tt
-  addressed_node mode (Node-F.Index e g) t row parts there bare = tt
-  addressed_node mode (Node-F.Dot e n at) t row parts there bare = scalar_member e.note.ctype t n row
-  addressed_node mode (Node-F.Arrow e n at) t row parts there bare = (scalar_member (element_of e.note.ctype) t n row, (through e t n parts row).1)
+      → has_none_of_node s.frame (viewed s.frame x) ≡ false → Addressed t x
+  addressed_node mode (Node-F.Name n) t row parts there bare = let h = or_none (is_no_array (object_named globals n)) there in inl (name_addressed n t (static_there n h) row h bare)
+  addressed_node mode (Node-F.Un op.Deref e) t row parts there bare = inl tt
+  addressed_node mode (Node-F.Index e g) t row parts there bare = inl tt
+  addressed_node mode (Node-F.Dot e n at) t row parts there bare = inl (scalar_member e.note.ctype t n row)
+  addressed_node mode (Node-F.Arrow e n at) t row parts there bare =
+      let member = scalar_member (element_of e.note.ctype) t n row in
+      ⊎_elim (λ raw. inr (raw.0, (raw.1, member))) (λ checked. inl (member, checked)) (through e t n parts row)
   addressed_node mode x t row parts there bare = absurd cc
 
-  addressed : (e : NotedExpr) → IsKnown e → has_address globals e ≡ true → (view s.frame e).no_address ≡ false → IsAddressed s e.note.ctype (out-Node Name Note e.node)
+  addressed : (e : NotedExpr) → IsKnown e → has_address globals e ≡ true → (view s.frame e).no_address ≡ false → Addressed e.note.ctype (out-Node Name Note e.node)
   addressed e known there free =
       let k = (own e known).row in
       addressed_node k.mode (out-Node Name Note e.node) e.note.ctype k.row (each_parts IsKnownPart e known) there (sym (ap (λ (v : View). v.no_address) (view_is s.frame e)) ∙ free)
@@ -261,54 +272,53 @@ module _ (p : Typed) (s : Setting) (f : Function) (j : IsJudged p) (is : IsFunct
 
   -- ---- nodes
 
-  name_spoken : (n : Name) → IsStaticName n ⊎ ((k : ℕ) × (n ≡ name.Local k)) → IsSpokenNode s (Node-F.Name n)
-  name_spoken n (inl i) = subst (λ (m : Name). IsSpokenNode s (Node-F.Name m)) (sym i.1) tt
-  name_spoken n (inr i) = subst (λ (m : Name). IsSpokenNode s (Node-F.Name m)) (sym i.1) tt
+  name_spoken : (n : Name) → IsStaticName n ⊎ ((k : ℕ) × (n ≡ name.Local k)) → IsSpokenNode m s (Node-F.Name n)
+  name_spoken n (inl i) = subst (λ (x : Name). IsSpokenNode m s (Node-F.Name x)) (sym i.1) tt
+  name_spoken n (inr i) = subst (λ (x : Name). IsSpokenNode m s (Node-F.Name x)) (sym i.1) tt
 
-  unary_spoken : (mode : Mode) (o : TreeOp) (e : NotedExpr) (t : CType) → IsKnown e → unary_row globals mode o e ≡ Some t → HasAddress s.frame (Node-F.Un o e) → IsSpokenNode s (Node-F.Un o e)
+  unary_spoken : (mode : Mode) (o : TreeOp) (e : NotedExpr) (t : CType) → IsKnown e → unary_row globals mode o e ≡ Some t → HasAddress s.frame (Node-F.Un o e) → IsSpokenNode m s (Node-F.Un o e)
   unary_spoken mode op.Deref e t known row free = read_element e (target_object e.note.ctype t (value e known) row)
   unary_spoken mode op.Address e t known row free = addressed e known (true_if (has_address globals e) (ctype.Pointer (address_kind mode) e.note.ctype) t row) free
   unary_spoken mode o e t known row free = tt
 
-  node_spoken : (mode : Mode) (x : NotedLayer) (t : CType) → HasType globals s.variables mode x t → IsCallless x → HasAddress s.frame x → PartsKnown x → IsSpokenNode s x
+  node_spoken : (mode : Mode) (x : NotedLayer) (t : CType) → HasType globals s.variables mode x t → IsCallless x → HasAddress s.frame x → PartsKnown x → IsSpokenNode m s x
   node_spoken mode (Node-F.Name n) t row c free parts = name_spoken n (⊎_elim (λ i. inl i) (λ v. inr (variable_local p s f j is n v.0 v.1)) (typed_name p s f j is n t row))
   node_spoken mode (Node-F.Un o e) t row c free parts = unary_spoken mode o e t parts row free
   node_spoken mode (Node-F.Index e g) t row c free parts = read_element e (index_object e.note.ctype g.note.ctype t (value e parts.0) row)
   node_spoken mode (Node-F.Dot e n at) t row c free parts = structure e t n parts row
-  node_spoken mode (Node-F.Arrow e n at) t row c free parts = (through e t n parts row).0
+  node_spoken mode (Node-F.Arrow e n at) t row c free parts = no_end e t n parts row
   node_spoken mode (Node-F.Call n es) t row c free parts = absurd c
   node_spoken mode (Node-F.Calloc w e u) t row c free parts = absurd c
   node_spoken mode x t row c free parts = tt
 
   -- ---- expressions
 
-  expr_spoken : (e : NotedExpr) → IsKnown e → IsSpokenPart s (layer e)
+  expr_spoken : (e : NotedExpr) → IsKnown e → IsSpokenPart m s (layer e)
   expr_spoken e known =
       let k = own e known in
       node_spoken k.row.mode (out-Node Name Note e.node) e.note.ctype k.row.row k.callless k.address (each_parts IsKnownPart e known)
 
-  record IsTypedChecked (x : ExprLayer) : Type 0 where
+  record IsTypedPart (x : ExprLayer) : Type 0 where
     pub row : HasRow globals s x
-    pub checked : IsCheckedPart x
+    pub of_mode : IsPartOfMode m x
 
   record IsCalllessPart (x : ExprLayer) : Type 0 where
     pub callless : HasNoCall x
     pub address : TakesAddress s.frame x
 
-  pub judged_spoken : (before after : NotedExpr) (fresh : ℕ) (at : State) → IsTyped globals s before → IsChecked before → callless_expr before ≡ true
-      → (view s.frame before).judged fresh at ≡ Ok after → IsSpoken s after
-  judged_spoken before after fresh at typed checked callless judged =
+  pub judged_spoken : (before after : NotedExpr) (fresh : ℕ) (at : State) → IsTyped globals s before → IsOfMode m before → callless_expr before ≡ true
+      → (view s.frame before).judged fresh at ≡ Ok after → IsSpoken m s after
+  judged_spoken before after fresh at typed of_mode callless judged =
       let rows : IsTyped globals s after = (judged_typed globals s before after fresh at typed judged).0 in
-      let safe : IsChecked after = judging_keeps IsCheckedPart checked_blind s.frame before after fresh at judged checked in
+      let modes : IsOfMode m after = judging_keeps (IsPartOfMode m) (mode_blind m) s.frame before after fresh at judged of_mode in
       let calls : EachExpr HasNoCall after = judging_keeps HasNoCall callless_blind s.frame before after fresh at judged (no_calls before callless) in
-      let plain : EachExpr IsPlain after = each_follows HasNoCall IsCheckedPart IsPlain (λ x c k. record { callless = c; safe = k.node }) after calls safe in
       let again : (view s.frame after).judged fresh at ≡ Ok after =
       ap (λ (v : View). v.judged fresh at) (same_view s.frame before after fresh at judged s.frame) ∙ judged in
-      let one = each_follows (HasRow globals s) IsCheckedPart IsTypedChecked (λ x r k. record { row = r; checked = k }) after rows safe in
-      let two = each_follows HasNoCall (TakesAddress s.frame) IsCalllessPart (λ x c a. record { callless = c; address = a }) after calls (addresses_taken s.frame after fresh at again plain) in
-      let known = each_follows IsTypedChecked IsCalllessPart IsKnownPart (λ x a b. record { row = a.row; checked = a.checked; callless = b.callless; address = b.address }) after one two in
-      each_whole IsKnownPart (IsSpokenPart s) expr_spoken after known
+      let one = each_follows (HasRow globals s) (IsPartOfMode m) IsTypedPart (λ x r k. record { row = r; of_mode = k }) after rows modes in
+      let two = each_follows HasNoCall (TakesAddress s.frame) IsCalllessPart (λ x c a. record { callless = c; address = a }) after calls (addresses_taken s.frame after fresh at again calls) in
+      let known = each_follows IsTypedPart IsCalllessPart IsKnownPart (λ x a b. record { row = a.row; of_mode = a.of_mode; callless = b.callless; address = b.address }) after one two in
+      each_whole IsKnownPart (IsSpokenPart m s) expr_spoken after known
 
-pub checked_spoken : (p : Typed) (s : Setting) (f : Function) (before after : NotedExpr) (fresh : ℕ) (at : State) → IsJudged p → IsFunction p s f → DeclareOnes s → IsTyped (globals_in p) s before
-    → IsChecked before → callless_expr before ≡ true → (view s.frame before).judged fresh at ≡ Ok after → IsSpoken s after
-checked_spoken p s f before after fresh at j is ones = judged_spoken p s f j is ones before after fresh at
+pub expressions_are_spoken : (m : Mode) (p : Typed) (s : Setting) (f : Function) (before after : NotedExpr) (fresh : ℕ) (at : State) → IsJudged p → IsFunction p s f → DeclareOnes s → IsTyped (globals_in p) s before
+    → IsOfMode m before → callless_expr before ≡ true → (view s.frame before).judged fresh at ≡ Ok after → IsSpoken m s after
+expressions_are_spoken m p s f before after fresh at j is ones = judged_spoken m p s f j is ones before after fresh at

@@ -4,6 +4,7 @@ use Rattle.std.specs.Prelude.{◌&&◌, Option, Some, None, is_none, is_some}
 use Rattle.ckc_types.specs.declared.types.CType.{CType, CType-F, out-CType, the_lemmas}
 use Rattle.ckc_types.specs.declared.types.CType.TheVariants as ctype
 use Rattle.ckc_types.specs.declared.types.Kind.{Kind}
+use Rattle.ckc_types.specs.declared.types.Kind.TheVariants as kind
 use Rattle.ckc_syntax.specs.declared.tree.Length.{Length}
 use Rattle.ckc_syntax.specs.declared.tree.Length.TheVariants as lengths
 use Rattle.ckc_syntax.specs.declared.tree.Name.TheVariants as name
@@ -13,7 +14,6 @@ use Rattle.ckc_typed.specs.Statics.{is_terminated}
 use Rattle.ckc_typed.specs.Trees.{NotedLimits}
 use Rattle.ckc_typed.specs.Types.{is_integer, is_pointer, is_integer_form, is_pointer_form, kind_in, kind_of, element_in, element_of}
 use Rattle.ckc_bounds_declared.specs.Written.{takes_bounds_kind, takes_bounds}
-use Rattle.ckc_bounds_views.specs.Judged.{is_counted_kind}
 use Rattle.ckc_build_values.specs.Kinds.{count_of_kind}
 use Rattle.ckc_build_values.specs.Names.{count_declared, count_of_static}
 use Rattle.ckc_build_elaborate.specs.Objects.{object_elaborated}
@@ -67,6 +67,13 @@ ends_are (lengths.Nt n) = refl
 array_ends : (n : Length) (k : Kind) → kind_of_array n ≡ Some k → is_terminated n ≡ is_terminated_kind (Some k)
 array_ends n k e = ends_are n ∙ ap is_terminated_kind e
 
+-- no array is a `_Ptr`
+no_one : (n : Length) (a : Kind) → kind_of_array n ≡ Some a → a ≡ kind.One → ⊥
+no_one lengths.Plain a e h = absurd cc
+no_one (lengths.Raw n at) a e h = let same : ◌≡◌ {A = Option Kind} (Some kind.Raw) (Some kind.One) = e ∙ ap Some h in absurd cc
+no_one (lengths.Checked n) a e h = let same : ◌≡◌ {A = Option Kind} (Some kind.Arr) (Some kind.One) = e ∙ ap Some h in absurd cc
+no_one (lengths.Nt n) a e h = let same : ◌≡◌ {A = Option Kind} (Some kind.Nt) (Some kind.One) = e ∙ ap Some h in absurd cc
+
 module _ (s : Setting) (t : CType) (k : ℕ) (w : IsStatic s t k) where
   -- what has an element type has no written bounds if that may not have some
   bare : takes_bounds w.object.element w.decl.length ≡ false → w.decl.bounds ≡ None
@@ -102,8 +109,8 @@ module _ (s : Setting) (t : CType) (k : ℕ) (w : IsStatic s t k) where
             bare = ap (λ u. count_of_static s.text u (name.Static k)) (sym element) ∙ count_is none ∙ ap count_of_kind kinds;
           }
 
-  pub array : (a : Kind) → w.object.array ≡ Some a → is_counted_kind (Some a) ≡ true → IsStaticArray s t k
-  array a e c =
+  pub array : (a : Kind) → w.object.array ≡ Some a → IsStaticArray s t k
+  array a e =
       let type : t ≡ ctype.Pointer a w.object.element = w.type ∙ ap (used w.object.element) e in
       let none : w.decl.bounds ≡ None = bare (no_bounds (takes_bounds_kind (kind_of w.object.element)) (sym w.array ∙ e)) in
       record {
@@ -112,7 +119,7 @@ module _ (s : Setting) (t : CType) (k : ℕ) (w : IsStatic s t k) where
         judged = w.judged;
         kind = a;
         array = e;
-        counted = c;
+        several = no_one w.decl.length a (sym w.array ∙ e);
         ends = w.ends ∙ array_ends w.decl.length a (sym w.array ∙ e);
         free = w.placed ∙ ap (λ (o : Option NotedLimits). Some (object_elaborated s.text.layout (Some (is_none o)) w.object)) none;
         pointer = ap is_pointer type ∙ pointer_is a w.object.element;
@@ -146,7 +153,7 @@ module _ (s : Setting) (t : CType) (k : ℕ) (w : IsStatic s t k) where
 pub statics_integers : (s : Setting) (t : CType) (k : ℕ) → IsStatic s t k → is_integer t ≡ true → IsStaticInteger s t k
 statics_integers s t k w = integer s t k w
 
-pub statics_arrays : (s : Setting) (t : CType) (k : ℕ) (a : Kind) (w : IsStatic s t k) → w.object.array ≡ Some a → is_counted_kind (Some a) ≡ true → IsStaticArray s t k
+pub statics_arrays : (s : Setting) (t : CType) (k : ℕ) (a : Kind) (w : IsStatic s t k) → w.object.array ≡ Some a → IsStaticArray s t k
 statics_arrays s t k a w = array s t k w a
 
 pub statics_pointers : (s : Setting) (store : Store) (t : CType) (k : ℕ) (w : IsStatic s t k) → w.object.array ≡ None → is_pointer t ≡ true → w.decl.bounds ≡ None → AreFilled s.text store → IsStaticPointer s store t k

@@ -1,4 +1,4 @@
--- What of a judged text lets its checked expressions be those of which it is said what they come to.
+-- What of a judged text lets its expressions be those of which it is said what they come to.
 use Rattle.std.proofs.Common.{◌∙◌, sym, ap, ℕ, List}
 use Rattle.std.specs.List.{Contains}
 use Rattle.ckc_typed.specs.declared.typed.Typed.{Typed}

@@ -1,4 +1,5 @@
--- The expressions of code of a mode: in checked code there is no unchecked pointer and no `_Assume_bounds_cast`.
+-- The expressions of code of a mode: in checked code there is no unchecked pointer and no `_Assume_bounds_cast`, and in
+-- unchecked code addresses are unchecked pointers.
 use Rattle.std.specs.Prelude.{◌≡◌, false, IfSome}
 use Rattle.std.specs.List.{AllByRecursion}
 use Rattle.ckc_base.specs.declared.arithmetic.Mode.{Mode}
@@ -14,11 +15,14 @@ use Rattle.ckc_typed.specs.Trees.{NotedLimits, NotedNode, NotedExpr, NotedInit, 
 use Rattle.ckc_typed_welltyped.specs.Expressions.{AnyLimits, AnyNode}
 use Rattle.ckc_source.specs.Code.{Code, Assign, Bundle, Get, Put, Call, If, Loop, Return, Check}
 use Rattle.ckc_blame_sound.specs.Safe.{is_assumed}
+use Rattle.ckc_blame_pointers.specs.Covered.{IsRawAddress}
 
--- In checked code, an expression has a type with no unchecked pointer in it, and is no `_Assume_bounds_cast`.
+-- In checked code, an expression has a type with no unchecked pointer in it, and is no `_Assume_bounds_cast`; in unchecked
+-- code, an address is an unchecked pointer.
 pub record IsPartOfMode (m : Mode) (e : Expr-F Name Note NotedLimits NotedNode NotedExpr) : Type 0 where
   pub type : m ≡ Checked → has_raw e.note.ctype ≡ false
   pub node : m ≡ Checked → is_assumed (out-Node Name Note e.node) ≡ false
+  pub address : m ≡ Unchecked → IsRawAddress e.note.ctype (out-Node Name Note e.node)
 
 -- this of an expression and each expression in it, however deep
 abbrev pub IsOfMode : Mode → NotedExpr → Type 0

@@ -2,7 +2,7 @@
 
 ghost use Rattle.std.specs.Prelude.{◌≡◌, ◌⊎◌, ℕ, ◌+◌, ◌<◌, ◌^◌, true, List, Some, IfSome, Ok};
 ghost use Rattle.std.specs.List.{Contains};
-ghost use Rattle.ckc_base.specs.declared.arithmetic.Mode.TheVariants.{Checked};
+ghost use Rattle.ckc_base.specs.declared.arithmetic.Mode.{Mode};
 ghost use Rattle.ckc_types.specs.declared.types.CType.{CType};
 ghost use Rattle.ckc_syntax.specs.declared.tree.Name.{Name};
 ghost use Rattle.ckc_typed.specs.declared.environment.Globals.{Globals};
@@ -26,7 +26,7 @@ ghost use Rattle.ckc_blame_sound.specs.Typed.{IsTyped};
 ghost use Rattle.ckc_blame_pointers.specs.Covered.{DeclareOnes, KeepRunsFree, IsInScope, AreCovered, IsCovered, IsIntegerMember, IsPointerMember};
 ghost use Rattle.ckc_blame_sound.specs.Elements.{NameIntegerMembers};
 ghost use Rattle.ckc_blame_sound.specs.JudgedTexts.{IsJudged, globals_in};
-ghost use Rattle.ckc_blame_steps.specs.Checked.{IsChecked, IsCheckedStmt, mode_of};
+ghost use Rattle.ckc_blame_steps.specs.Checked.{IsOfMode, IsStmtOfMode, mode_of};
 ghost use Rattle.ckc_blame_steps.specs.Told.{IsTold, IsSpoken};
 
 /// In checked scopes the expressions of a text that is scoped have no unchecked pointer and no `_Assume_bounds_cast`.
@@ -34,14 +34,15 @@ pub fn texts_are_safe()
     ensures { (q p : Typed) → Scoped q → bounding.Makes q p → AreSafe p }
 {}
 
-/// No expression of a step or a condition of mode Checked has an unchecked pointer in its type or is an
-/// `_Assume_bounds_cast`, nor is one in it, if those of the text are safe.
-pub fn checked_parts_are_safe()
-    ensures step { (s : Setting) (here there : Here) (step : Code → Code) → AreSafe s.text
-        → (is : IsStep s here step there) → mode_of (step End) ≡ Checked
-        → IsCheckedStmt is.before }
-    ensures condition { (s : Setting) (here yes no : Here) (e : Expr) → AreSafe s.text
-        → (c : IsCondition s Checked here e yes no) → IfSome c.before IsChecked }
+/// The expressions of a step and of a condition are of its mode: in checked code none has an unchecked
+/// pointer in its type or is an `_Assume_bounds_cast`, nor is one in it, if those of the text are
+/// safe.
+pub fn parts_are_of_mode()
+    ensures step { (m : Mode) (s : Setting) (here there : Here) (step : Code → Code) →
+        AreSafe s.text → (is : IsStep s here step there) → mode_of (step End) ≡ m
+        → IsStmtOfMode m is.before }
+    ensures condition { (m : Mode) (s : Setting) (here yes no : Here) (e : Expr) → AreSafe s.text
+        → (c : IsCondition s m here e yes no) → IfSome c.before (IsOfMode m) }
 {}
 
 /// The structures that a judged text declares are those that it is laid out by.
@@ -68,26 +69,26 @@ pub fn texts_are_told()
         → IsTold (globals_in p) s store seen }
 {}
 
-/// A typed expression without unchecked pointers, of few values, that names locals in scope is one of which it is said
-/// what it comes to, if it has only such nodes; so is what a scalar is judged as, if it has.
+/// A typed expression of code of a mode, of few values, that names locals in scope is one of which it is said what it
+/// comes to, if it has only such nodes; so is what a scalar is judged as, if it has.
 pub fn expressions_are_covered()
-    ensures whole { (globals : Globals) (s : Setting) (store : Store) (seen : List ℕ) →
-        IsTold globals s store seen → (e : NotedExpr) → IsTyped globals s e → IsChecked e
-        → NamesSeen seen e → IsSpoken s e → (view s.frame e).values + 1 < 2 ^ 32
-        → AreCovered s store seen e }
-    ensures judged { (globals : Globals) (s : Setting) (store : Store) (here : Here)
+    ensures whole { (m : Mode) (globals : Globals) (s : Setting) (store : Store)
+        (seen : List ℕ) → IsTold globals s store seen → (e : NotedExpr) → IsTyped globals s e
+        → IsOfMode m e → NamesSeen seen e → IsSpoken m s e
+        → (view s.frame e).values + 1 < 2 ^ 32 → AreCovered m s store seen e }
+    ensures judged { (m : Mode) (globals : Globals) (s : Setting) (store : Store) (here : Here)
         (before after : NotedExpr) (fresh : ℕ) → IsTold globals s store here.seen
-        → IsTyped globals s before → IsChecked before → NamesSeen here.seen before
+        → IsTyped globals s before → IsOfMode m before → NamesSeen here.seen before
         → is_scalar before.note.ctype ≡ true → (view s.frame before).values + 1 < 2 ^ 32
-        → (view s.frame before).judged fresh here.at ≡ Ok after → IsSpoken s after
-        → IsCovered s store here.seen after }
+        → (view s.frame before).judged fresh here.at ≡ Ok after → IsSpoken m s after
+        → IsCovered m s store here.seen after }
 {}
 
-/// So is a condition of mode Checked of a text with words as literals whose expressions are safe.
-pub fn checked_conditions_are_covered()
-    ensures { (p : Typed) (s : Setting) (f : Function) (store : Store) (here yes no : Here)
-        (e : Expr) (c : IsCondition s Checked here e yes no) → HaveWords p → IsFunction p s f
-        → AreSafe s.text → IsTold (globals_in p) s store here.seen
+/// So is a condition of a mode of a text with words as literals whose expressions are safe.
+pub fn conditions_are_covered()
+    ensures { (m : Mode) (p : Typed) (s : Setting) (f : Function) (store : Store)
+        (here yes no : Here) (e : Expr) (c : IsCondition s m here e yes no) → HaveWords p
+        → IsFunction p s f → AreSafe s.text → IsTold (globals_in p) s store here.seen
         → IfSome c.before (λ x. (view s.frame x).values + 1 < 2 ^ 32)
-        → IfSome c.after (IsSpoken s) → IfSome c.after (IsCovered s store here.seen) }
+        → IfSome c.after (IsSpoken m s) → IfSome c.after (IsCovered m s store here.seen) }
 {}

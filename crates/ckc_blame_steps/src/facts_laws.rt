@@ -20,7 +20,6 @@ ghost use Rattle.ckc_typed.specs.declared.environment.Globals.{Globals};
 ghost use Rattle.ckc_blame_sound.specs.Typed.{IsTyped};
 ghost use Rattle.ckc_blame_steps.specs.Pointees.{AreFine, IsFine};
 ghost use Rattle.ckc_bounds_stores.specs.Targets.{memory_bounds};
-ghost use Rattle.ckc_bounds_views.specs.Judged.{is_counted_kind};
 ghost use Rattle.ckc_bounds_views.specs.Ranges.{range_of_static};
 ghost use Rattle.ckc_source.specs.declared.expr.Count.{Count};
 ghost use Rattle.ckc_build_values.specs.Names.{count_of_static};
@@ -73,7 +72,7 @@ pub fn statics_are_told()
     ensures integers { (s : Setting) (t : CType) (k : ℕ) → IsStatic s t k → is_integer t ≡ true
         → IsStaticInteger s t k }
     ensures arrays { (s : Setting) (t : CType) (k : ℕ) (a : Kind) (w : IsStatic s t k) →
-        w.object.array ≡ Some a → is_counted_kind (Some a) ≡ true → IsStaticArray s t k }
+        w.object.array ≡ Some a → IsStaticArray s t k }
     ensures pointers { (s : Setting) (store : Store) (t : CType) (k : ℕ) (w : IsStatic s t k) →
         w.object.array ≡ None → is_pointer t ≡ true → w.decl.bounds ≡ None
         → AreFilled s.text store → IsStaticPointer s store t k }

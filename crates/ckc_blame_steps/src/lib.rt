@@ -24,10 +24,10 @@ pub use accepted_laws::{
 };
 pub use allocated_laws::allocations_draw;
 pub use calls_laws::{calls_keep_sound, ends_keep_sound, results_are_known, returns_keep_sound};
-pub use covered_laws::checked_steps_are_covered;
+pub use covered_laws::steps_are_covered;
 pub use covers_laws::{
-    checked_conditions_are_covered, checked_parts_are_safe, declared_structures_are_laid_out,
-    expressions_are_covered, members_are_told, texts_are_safe, texts_are_told,
+    conditions_are_covered, declared_structures_are_laid_out, expressions_are_covered,
+    members_are_told, parts_are_of_mode, texts_are_safe, texts_are_told,
 };
 pub use decided_laws::conditions_are_decided;
 pub use declared_laws::{results_are_spared, steps_declare};
@@ -47,7 +47,7 @@ pub use results_laws::{
     callees_are_known, covered_give_words, objects_keep_results, points_after_results_hold,
 };
 pub use rooms_laws::{arguments_have_room, steps_have_places};
-pub use spoken_laws::checked_expressions_are_spoken;
+pub use spoken_laws::expressions_are_spoken;
 pub use stores_laws::{
     accepted_stores_lie, checked_states_are_sound, checked_stores_lie, evaluations_stay,
     planned_stores_lie,
