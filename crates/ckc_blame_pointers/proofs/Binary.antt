@@ -140,7 +140,7 @@ module _ (s : Setting) (store : Store) (entry : List ℕ) where
 
       module _ (point : (x : Value) → evaluated store v ≡ Ok x → ExprClaims here e x → (b : Bool) → (x.number == 0) ≡ not b → HoldsAt s store entry (record here { at = (view s.frame e).side b here.at })) where
         pub and_claims : both_type e.note.ctype f.note.ctype ≡ Some r
-            → (HoldsAt s store entry (record here { at = right_point op.AndThen (view s.frame e) here.at })
+            → ((x : Value) → evaluated store v ≡ Ok x → (x.number == 0) ≡ false → HoldsAt s store entry (record here { at = right_point op.AndThen (view s.frame e) here.at })
             → IsNotStuck (ExprClaims (record here { at = right_point op.AndThen (view s.frame e) here.at }) f) (evaluated store w))
             → IsNotStuck (Result' op.AndThen) (evaluated store (And v w))
         and_claims row right =
@@ -161,7 +161,7 @@ module _ (s : Setting) (store : Store) (entry : List ℕ) where
                 sides true e = absurd (cc)
                 sides false e = stays s store entry here h
             by x is c false z =
-                goes_on (ExprClaims (record here { at = (view s.frame e).side true here.at }) f) (Result' op.AndThen) (evaluated store w) (λ y. plain (truth y.number)) (right (point x is c true z))
+                goes_on (ExprClaims (record here { at = (view s.frame e).side true here.at }) f) (Result' op.AndThen) (evaluated store w) (λ y. plain (truth y.number)) (right x is z (point x is c true z))
                 (λ y there d. made (truth y.number) (truth_word y.number (word_wide f.note.ctype y.number d.word)) (sides y d))
               where
                 sides : (y : Value) → ExprClaims (record here { at = (view s.frame e).side true here.at }) f y → (b : Bool) → (truth y.number == 0) ≡ not b
@@ -184,7 +184,7 @@ module _ (s : Setting) (store : Store) (entry : List ℕ) where
         }
 
         pub or_claims : both_type e.note.ctype f.note.ctype ≡ Some r
-            → (HoldsAt s store entry (record here { at = right_point op.OrElse (view s.frame e) here.at })
+            → ((x : Value) → evaluated store v ≡ Ok x → (x.number == 0) ≡ true → HoldsAt s store entry (record here { at = right_point op.OrElse (view s.frame e) here.at })
             → IsNotStuck (ExprClaims (record here { at = right_point op.OrElse (view s.frame e) here.at }) f) (evaluated store w))
             → IsNotStuck (Result' op.OrElse) (evaluated store (Or v w))
         or_claims row right =
@@ -205,7 +205,7 @@ module _ (s : Setting) (store : Store) (entry : List ℕ) where
                 sides true e = stays s store entry here h
                 sides false e = absurd (cc)
             by x is c true z =
-                goes_on (ExprClaims (record here { at = narrowed here.at ((view s.frame e).side false here.at) }) f) (Result' op.OrElse) (evaluated store w) (λ y. plain (truth y.number)) (right (or_point x is c z))
+                goes_on (ExprClaims (record here { at = narrowed here.at ((view s.frame e).side false here.at) }) f) (Result' op.OrElse) (evaluated store w) (λ y. plain (truth y.number)) (right x is z (or_point x is c z))
                 (λ y there d. made (truth y.number) (truth_word y.number (word_wide f.note.ctype y.number d.word)) (sides y d))
               where
                 sides : (y : Value) → ExprClaims (record here { at = narrowed here.at ((view s.frame e).side false here.at) }) f y → (b : Bool) → (truth y.number == 0) ≡ not b

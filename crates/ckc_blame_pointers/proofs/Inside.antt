@@ -5,7 +5,7 @@ use Rattle.ckc_base.specs.declared.places.Pos.{Pos}
 use Rattle.ckc_base.specs.declared.places.Refusal.{Refusal}
 use Rattle.ckc_base.specs.Outcomes.{Outcome, bind, unless, refused}
 use Rattle.ckc_syntax.specs.declared.tree.Name.{Name}
-use Rattle.ckc_typed.specs.Trees.{NotedExpr, TypeTree}
+use Rattle.ckc_typed.specs.Trees.{NotedExpr}
 use Rattle.ckc_syntax.specs.declared.tree.Limits.{Limits-F, map-Limits, out-Limits, roll-Limits, every-Limits, every_held-Limits}
 use Rattle.ckc_syntax.specs.declared.tree.Node.{Node-F, map-Node, out-Node, roll-Node, fold_out-Node, every-Node, every_held-Node, the_lemmas}
 use Rattle.ckc_syntax.specs.declared.tree.Node.TheVariants as node
@@ -49,6 +49,8 @@ module _ (P : Expr-F Name Note NotedLimits NotedNode NotedExpr → Type 0) where
   PartsEvery (Node-F.Arrow e n spot) = Every e
   PartsEvery (Node-F.Tested w e None) = Every e
   PartsEvery (Node-F.Tested w e (Some l)) = Every e × EveryLimits l
+  PartsEvery (Node-F.Trusted w e None) = Every e
+  PartsEvery (Node-F.Trusted w e (Some l)) = Every e × EveryLimits l
   PartsEvery n = Unit {0}
 
   -- and of those of limits
@@ -80,6 +82,8 @@ module _ (P : Expr-F Name Note NotedLimits NotedNode NotedExpr → Type 0) where
   parts_of (Node-F.Arrow e n spot) = e.1
   parts_of (Node-F.Tested w e None) = e.1
   parts_of (Node-F.Tested w e (Some l)) = (e.1, l.1)
+  parts_of (Node-F.Trusted w e None) = e.1
+  parts_of (Node-F.Trusted w e (Some l)) = (e.1, l.1)
   parts_of z = tt
 
   abbrev bare_limits : Limits-F Name Note FitLimits FitNode FitExpr → LimitsLayer
@@ -176,15 +180,13 @@ limits_part made same o b code pos e is =
     by a false is = (same_limits (made a) (made e) is, refl)
 
 -- the operand and the limits of a bounds cast
-pub tested_parts : (w : TypeTree) (o : Outcome NotedExpr) (q : Outcome (Option NotedLimits)) (e : NotedExpr) (l : Option NotedLimits)
-    → bind o (λ a. bind q (λ k. Ok (node.Tested w a k))) ≡ Ok (node.Tested w e l) → (o ≡ Ok e) × (q ≡ Ok l)
-tested_parts w o q e l is =
-    let b = bind_is o (λ a. bind q (λ k. Ok (node.Tested w a k))) (node.Tested w e l) is in
-    let c = bind_is q (λ k. Ok (node.Tested w b.0 k)) (node.Tested w e l) b.2 in
-    let same : ◌≡◌ {A = NotedLayer} (Node-F.Tested w b.0 c.0) (Node-F.Tested w e l) = same_layer (Node-F.Tested w b.0 c.0) (Node-F.Tested w e l) c.2 in
-    let x : b.0 ≡ e = cc in
-    let y : c.0 ≡ l = cc in
-    (b.1 ∙ ap Ok x, c.1 ∙ ap Ok y)
+pub cast_parts : (made : NotedExpr → Option NotedLimits → NotedLayer) → ((a b : NotedExpr) (c d : Option NotedLimits) → made a c ≡ made b d → (a ≡ b) × (c ≡ d)) → (o : Outcome NotedExpr) (q : Outcome (Option NotedLimits)) (e : NotedExpr) (l : Option NotedLimits)
+    → bind o (λ a. bind q (λ k. Ok (node_of (made a k)))) ≡ Ok (node_of (made e l)) → (o ≡ Ok e) × (q ≡ Ok l)
+cast_parts made same o q e l is =
+    let b = bind_is o (λ a. bind q (λ k. Ok (node_of (made a k)))) (node_of (made e l)) is in
+    let c = bind_is q (λ k. Ok (node_of (made b.0 k))) (node_of (made e l)) b.2 in
+    let both = same b.0 e c.0 l (same_layer (made b.0 c.0) (made e l) c.2) in
+    (b.1 ∙ ap Ok both.0, c.1 ∙ ap Ok both.1)
 
 -- of limits between two ends there are none
 pub no_ends : {A B C : Type 0} (o : Outcome A) (q : Outcome B) (code : ℕ) (pos : Pos) (c : C) → bind o (λ a. bind q (λ b. refused code pos)) ≡ Ok c → ⊥

@@ -1,6 +1,6 @@
 -- The claims of numbers, of null, of locals, of unary operators, of `?:` and of casts.
 use Rattle.std.proofs.Common.{◌≡◌, ◌⊎◌, inl, refl, sym, ap, subst, ◌∙◌, ℕ, Bool, true, false, List, [], arith}
-use Rattle.std.specs.Prelude.{◌+◌, ◌%◌, ◌==◌, ◌<◌, ◌^◌, ◌&&◌, ◌||◌, not, if◌then◌else◌, slice_index, pos, Option, None, Some}
+use Rattle.std.specs.Prelude.{◌+◌, ◌%◌, ◌==◌, ◌<◌, ◌^◌, ◌&&◌, ◌||◌, not, if◌then◌else◌, slice_index, pos, Option, None, Some, Ok}
 use Rattle.std.specs.Option.{option_or}
 use Rattle.std.proofs.lemmas.Bool.{eqb-true}
 use Rattle.ckc_base.specs.declared.places.Pos.{Pos}
@@ -226,12 +226,13 @@ module _ (s : Setting) (store : Store) (entry : List ℕ) (here : Here) (h : Hol
 
   -- ---- `?:`
 
-  pub choice_claims : (e f g : NotedExpr) (r : CType) (u v w : Expr) → IsNotStuck (ExprClaims s store entry here e) (evaluated store u) → IsNotStuck (ExprClaims s store entry here f) (evaluated store v)
-      → IsNotStuck (ExprClaims s store entry here g) (evaluated store w) → choice_type e.note.ctype f.note.ctype g.note.ctype ≡ Some r
+  pub choice_claims : (e f g : NotedExpr) (r : CType) (u v w : Expr) → IsNotStuck (ExprClaims s store entry here e) (evaluated store u)
+      → ((x : Value) → evaluated store u ≡ Ok x → (x.number == 0) ≡ false → IsNotStuck (ExprClaims s store entry here f) (evaluated store v))
+      → ((x : Value) → evaluated store u ≡ Ok x → (x.number == 0) ≡ true → IsNotStuck (ExprClaims s store entry here g) (evaluated store w)) → choice_type e.note.ctype f.note.ctype g.note.ctype ≡ Some r
       → IsNotStuck (NodeClaims s store entry here h r (node_view s.frame (Node-F.Pick (view s.frame e) (view s.frame f) (view s.frame g)))) (evaluated store (Choice u v w))
   choice_claims e f g r u v w first second third row =
       goes_on (ExprClaims s store entry here e) (NodeClaims s store entry here h r made) (evaluated store u) (λ x. if x.number == 0 then evaluated store w else evaluated store v) first
-      (λ x is c. by (x.number == 0))
+      (λ x is c. by x is (x.number == 0) refl)
     where
       made : NodeView
       made = node_view s.frame (Node-F.Pick (view s.frame e) (view s.frame f) (view s.frame g))
@@ -246,6 +247,6 @@ module _ (s : Setting) (store : Store) (entry : List ℕ) (here : Here) (h : Hol
       quiet : (p : Value) → p.number < 2 ^ 32 → NodeClaims s store entry here h r made p
       quiet p k = quiet_claims s store entry here h r made (no_pointer r wide.wide.integer) refl refl refl (λ b. nothing_read s store entry (λ facts. None) b here.at) p (wide_small r wide p.number k)
 
-      by : (b : Bool) → IsNotStuck (NodeClaims s store entry here h r made) (if b then evaluated store w else evaluated store v)
-      by true = weaker (evaluated store w) (small_value s store entry here g (evaluated store w) third) (λ x is k. quiet x k)
-      by false = weaker (evaluated store v) (small_value s store entry here f (evaluated store v) second) (λ x is k. quiet x k)
+      by : (x : Value) → evaluated store u ≡ Ok x → (b : Bool) → (x.number == 0) ≡ b → IsNotStuck (NodeClaims s store entry here h r made) (if b then evaluated store w else evaluated store v)
+      by x is true z = weaker (evaluated store w) (small_value s store entry here g (evaluated store w) (third x is z)) (λ x is k. quiet x k)
+      by x is false z = weaker (evaluated store v) (small_value s store entry here f (evaluated store v) (second x is z)) (λ x is k. quiet x k)

@@ -51,3 +51,7 @@ pub mod RawReads
 pub mod Trusted
 pub mod RawNames
 pub mod RawCasts
+pub mod Runs
+pub mod Carried
+pub mod Locations
+pub mod BoundsCasts

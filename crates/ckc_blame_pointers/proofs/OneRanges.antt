@@ -5,6 +5,7 @@ use Rattle.std.specs.List.{list_any}
 use Rattle.std.proofs.lemmas.Bool.{and_parts}
 use Rattle.ckc_base.specs.declared.arithmetic.Mode.{Mode}
 use Rattle.ckc_base.specs.declared.arithmetic.Mode.TheVariants.{Checked, Unchecked}
+use Rattle.ckc_base.specs.declared.places.Pos.{Pos}
 use Rattle.ckc_types.specs.declared.types.Kind.{Kind}
 use Rattle.ckc_types.specs.declared.types.Kind.TheVariants as kind
 use Rattle.ckc_types.specs.declared.types.CType.{CType, CType-F, out-CType}
@@ -34,7 +35,7 @@ use Rattle.ckc_bounds_points.specs.declared.frame.Local.{Local}
 use Rattle.ckc_bounds_points.specs.Flow.{State}
 use Rattle.ckc_bounds_ranges.specs.Rows.{range_by, range_widened, range_of_bounds, range_of_array}
 use Rattle.ckc_bounds_views.specs.Fresh.{member_bounds, is_checked}
-use Rattle.ckc_bounds_views.specs.Judged.{is_counted_kind, is_missing, is_declared_object}
+use Rattle.ckc_bounds_views.specs.Judged.{is_missing, is_declared_object}
 use Rattle.ckc_bounds_views.specs.Parts.{LimitsView, NodeView, View, NodeOfViews}
 use Rattle.ckc_bounds_views.specs.Ranges.{own_numbers, pointer_range, range_by_type, range_in_struct, range_of_object, range_of_static}
 use Rattle.ckc_bounds_views.specs.declared.variables.Own.{Own}
@@ -44,7 +45,7 @@ use Rattle.ckc_source.specs.Eval.{Store}
 use Rattle.ckc_blame_sound.specs.Settings.{Setting}
 use Rattle.ckc_blame_sound.specs.Typed.{IsRow, HasRow, IsTyped, Agrees}
 use Rattle.ckc_blame_sound.proofs.Types.{some_is, no_pointer, number_wide, size_wide, sign_row, arithmetic_row, wide_type}
-use Rattle.ckc_blame_pointers.specs.Covered.{DeclareOnes, IsStaticInteger, IsStaticArray, IsStaticPointer, IsStaticBounded, IsStaticStructure, IsIntegerMember, IsPointerMember, IsArrow, IsPointerArrow, IsCoveredUnary, IsCoveredNode, IsCoveredExpr, AreCovered}
+use Rattle.ckc_blame_pointers.specs.Covered.{DeclareOnes, IsStaticInteger, IsStaticArray, IsStaticPointer, IsStaticBounded, IsStaticStructure, IsIntegerMember, IsPointerMember, IsArrow, IsPointerArrow, IsCoveredNode, IsUncheckedNode, IsCoveredExpr, AreCovered}
 use Rattle.ckc_blame_pointers.proofs.Addresses.{address_row}
 use Rattle.ckc_blame_pointers.proofs.Arrows.{arrow_node}
 use Rattle.ckc_blame_pointers.proofs.Casts.{no_limits}
@@ -152,7 +153,7 @@ string_no_one Checked e = absurd (cc)
 string_no_one Unchecked e = absurd (cc)
 
 address_no_one : (mode : Mode) (t r : CType) → ctype.Pointer (address_kind mode) t ≡ r → kind_of r ≡ Some kind.One → ⊥
-address_no_one mode t r e one = let array = (address_row mode t r e (ap is_raw_kind one)).1 in absurd (cc)
+address_no_one mode t r e one = (address_row mode t r e).0.several one
 
 -- ---- ranges
 
@@ -172,7 +173,7 @@ bare_object (Some (Some b)) t own e = absurd (cc)
 bare_object (Some None) t own e = refl
 bare_object None t own e = refl
 
-module _ (globals : Globals) (s : Setting) (agrees : Agrees globals s) (ones : DeclareOnes s) (store : Store) (here : Here) (first fresh : ℕ) (viewed : (e : NotedExpr) → (view s.frame e).ctype ≡ e.note.ctype) where
+module _ (m : Mode) (globals : Globals) (s : Setting) (agrees : Agrees globals s) (ones : DeclareOnes s) (store : Store) (here : Here) (first fresh : ℕ) (viewed : (e : NotedExpr) → (view s.frame e).ctype ≡ e.note.ctype) where
   abbrev viewed_node : NotedLayer → NodeOfViews
   viewed_node = map-Node Name Note NotedLimits NotedNode NotedExpr LimitsView NodeView View (view_of_limits s.frame) (view_of_node s.frame) (view s.frame)
 
@@ -194,7 +195,7 @@ module _ (globals : Globals) (s : Setting) (agrees : Agrees globals s) (ones : D
 
     static_known : (k : ℕ) → (IsStaticInteger s t k ⊎ (IsStaticArray s t k ⊎ (IsStaticPointer s store t k ⊎ (IsStaticBounded s store t k ⊎ IsStaticStructure s t k)))) → IsKnown (Node-F.Name (name.Static k))
     static_known k (inl c) = absurd (no_integer t (subst (λ t. is_integer t ≡ true) refl c.integer) one)
-    static_known k (inr (inl c)) = let counted : is_counted_kind (kind_of t) ≡ true = ap is_counted_kind c.kind_is ∙ c.counted in let other : is_counted_kind (kind_of t) ≡ false = ap is_counted_kind one in absurd (cc)
+    static_known k (inr (inl c)) = let is : ◌≡◌ {A = Option Kind} (Some c.kind) (Some kind.One) = sym c.kind_is ∙ one in let same : c.kind ≡ kind.One = cc in absurd (c.several same)
     static_known k (inr (inr (inl c))) = inr (known_if (is_pointer t) _ (one_pointer t one) (ap is_missing (by_object ∙ bare_object (slice_get s.frame.objects k) t own.value c.bare) ∙ by_type (kind_of t) own.value one))
       where
         own : Own
@@ -205,48 +206,57 @@ module _ (globals : Globals) (s : Setting) (agrees : Agrees globals s) (ones : D
     static_known k (inr (inr (inr (inl c)))) = absurd (c.several one)
     static_known k (inr (inr (inr (inr c)))) = absurd (no_structure t (kind_scalar t kind.One one) c.tag c.struct)
 
-    unary_known : (mode : Mode) (o : TreeOp) (e : NotedExpr) → unary_row globals mode o e ≡ Some t → IsCoveredUnary s store o e → IsKnown (Node-F.Un o e)
-    unary_known mode op.Deref e row c = inr (known_if (is_pointer t) _ (one_pointer t one) (by_type (kind_of t) _ one))
-    unary_known mode op.Address e row c = absurd (address_no_one mode e.note.ctype t (type_if (has_address globals e) (ctype.Pointer (address_kind mode) e.note.ctype) t row) one)
-    unary_known mode op.Minus e row c = absurd (no_integer t (sign_row e.note.ctype t row).1.integer one)
-    unary_known mode op.Plus e row c = absurd (no_integer t (sign_row e.note.ctype t row).1.integer one)
-    unary_known mode op.Flip e row c = absurd (no_integer t (sign_row e.note.ctype t row).1.integer one)
-    unary_known mode op.Not e row c = absurd (no_integer t (int_if (is_scalar e.note.ctype) t row) one)
-    unary_known mode o e row c = absurd (cc)
+    unary_known : (mode : Mode) (o : TreeOp) (e : NotedExpr) → unary_row globals mode o e ≡ Some t → IsKnown (Node-F.Un o e)
+    unary_known mode op.Deref e row = inr (known_if (is_pointer t) _ (one_pointer t one) (by_type (kind_of t) _ one))
+    unary_known mode op.Address e row = absurd (address_no_one mode e.note.ctype t (type_if (has_address globals e) (ctype.Pointer (address_kind mode) e.note.ctype) t row) one)
+    unary_known mode op.Minus e row = absurd (no_integer t (sign_row e.note.ctype t row).1.integer one)
+    unary_known mode op.Plus e row = absurd (no_integer t (sign_row e.note.ctype t row).1.integer one)
+    unary_known mode op.Flip e row = absurd (no_integer t (sign_row e.note.ctype t row).1.integer one)
+    unary_known mode op.Not e row = absurd (no_integer t (int_if (is_scalar e.note.ctype) t row) one)
+    unary_known mode o e row = absurd (cc)
+
+    -- what `.` and `->` read
+    dot_known : (e : NotedExpr) (n : Name) (spot : Pos) → IsIntegerMember s e.note.ctype t n ⊎ IsPointerMember s store e.note.ctype t n → IsKnown (Node-F.Dot e n spot)
+    dot_known e n spot (inl c) = absurd (no_integer t c.integer one)
+    dot_known e n spot (inr c) = inr (known_if (is_pointer t) _ (one_pointer t one)
+        (ap is_missing ((dot_node s store here e n spot t c (viewed e)).ranged _ first fresh at.widened) ∙ member_known t _ (member_bounds s.frame.structs (record { tag = c.tag; number = c.number })) one (c.judged ∙ c.single one)))
+
+    arrow_known : (e : NotedExpr) (n : Name) (spot : Pos) → IsIntegerMember s (element_of e.note.ctype) t n ⊎ IsPointerMember s store (element_of e.note.ctype) t n → IsKnown (Node-F.Arrow e n spot)
+    arrow_known e n spot (inl c) = absurd (no_integer t c.integer one)
+    arrow_known e n spot (inr c) = inr (known_if (is_pointer t) _ (one_pointer t one)
+        (ap is_missing ((arrow_node s store here e n spot t c (viewed e)).ranged _ first fresh at.widened) ∙ member_known t _ (member_bounds s.frame.structs (record { tag = c.tag; number = c.number })) one (c.judged ∙ c.single one)))
 
     -- It is null, or its range is known.
-    layer_known : (x : NotedLayer) → IsRow globals s x note → IsCoveredNode s store here.seen t x → IsKnown x
+    layer_known : (x : NotedLayer) → IsRow globals s x note → IsCoveredNode s store here.seen t x ⊎ ((m ≡ Unchecked) × IsUncheckedNode s store t x) → IsKnown x
     layer_known (Node-F.Number n unsigned) row node = absurd (no_integer t (subst (λ t. is_integer t ≡ true) (sym row.row) (number_wide unsigned).integer) one)
     layer_known (Node-F.Text bytes) row node = absurd (string_no_one row.mode (sym (ap kind_of row.row) ∙ one))
     layer_known Node-F.Null row node = inl refl
-    layer_known (Node-F.Name (name.Local k)) row node =
+    layer_known (Node-F.Name (name.Local k)) row (inl node) =
         inr (known_if (is_pointer t) _ (one_pointer t one) (ap (λ l. is_missing (range_by l (list_any (λ p. p == k) at.widened))) node.there
         ∙ one_bounds k (list_any (λ p. p == k) at.widened) node.local (ones k node.local node.there (ap kind_of (agrees.locals k node.local t node.there row.row) ∙ one))))
-    layer_known (Node-F.Name (name.Static k)) row node = static_known k node
-    layer_known (Node-F.Un o e) row node = unary_known row.mode o e row.row node
+    layer_known (Node-F.Name (name.Static k)) row (inl node) = static_known k node
+    layer_known (Node-F.Un o e) row node = unary_known row.mode o e row.row
     layer_known (Node-F.Bin o e f) row node = absurd (no_one t (binary_no_one e.note.ctype f.note.ctype t o (is_null e) (is_null f) row.row) one)
     layer_known (Node-F.Pick e f g) row node = absurd (no_one t (choice_no_one e.note.ctype f.note.ctype g.note.ctype t row.row) one)
     layer_known (Node-F.Index e f) row node = inr (known_if (is_pointer t) _ (one_pointer t one) (by_type (kind_of t) _ one))
-    layer_known (Node-F.Dot e n spot) row node =
-        ⊎_elim (λ (c : IsIntegerMember s e.note.ctype t n). absurd (no_integer t c.integer one))
-        (λ (c : IsPointerMember s store e.note.ctype t n). inr (known_if (is_pointer t) _ (one_pointer t one)
-        (ap is_missing ((dot_node s store here e n spot t c (viewed e)).ranged _ first fresh at.widened) ∙ member_known t _ (member_bounds s.frame.structs (record { tag = c.tag; number = c.number })) one (c.judged ∙ c.single one)))) node.member
-    layer_known (Node-F.Arrow e n spot) row node =
-        ⊎_elim (λ (c : IsArrow s e n t). absurd (no_integer t c.member.integer one))
-        (λ (c : IsPointerArrow s store e n t). inr (known_if (is_pointer t) _ (one_pointer t one)
-        (ap is_missing ((arrow_node s store here e n spot t c.member (viewed e)).ranged _ first fresh at.widened)
-        ∙ member_known t _ (member_bounds s.frame.structs (record { tag = c.member.tag; number = c.member.number })) one (c.member.judged ∙ c.member.single one)))) node
+    layer_known (Node-F.Dot e n spot) row (inl node) = dot_known e n spot node.member
+    layer_known (Node-F.Dot e n spot) row (inr node) = dot_known e n spot node.1.1
+    layer_known (Node-F.Arrow e n spot) row (inl node) = arrow_known e n spot (⊎_elim (λ (c : IsArrow s e n t). inl c.member) (λ (c : IsPointerArrow s store e n t). inr c.member) node)
+    layer_known (Node-F.Arrow e n spot) row (inr node) = arrow_known e n spot node.1
     layer_known (Node-F.Cast w e) row node = absurd (cast_no_one (type_written w) e.note.ctype (is_null e) row.row.0 (sym (ap kind_of row.row.1) ∙ one))
     layer_known (Node-F.Size w) row node = absurd (no_integer t (size_wide (type_written w) t row.row).integer one)
     layer_known (Node-F.Tested w e None) row node = inr (known_if (is_pointer t) _ (one_pointer t one) refl)
     layer_known (Node-F.Tested w e (Some l)) row node = absurd (no_limits (type_written w) t row.row.2 row.row.0 one)
-    layer_known x row node = absurd node
+    layer_known (Node-F.Trusted w e None) row node = inr (known_if (is_pointer t) _ (one_pointer t one) refl)
+    layer_known (Node-F.Trusted w e (Some l)) row node = absurd (no_limits (type_written w) t row.row.2 row.row.0 one)
+    layer_known x row (inl node) = absurd node
+    layer_known x row (inr node) = absurd node.1
 
   -- An expression that is a `_Ptr` is null, or its range is known.
-  pub one_known : (e : NotedExpr) → IsTyped globals s e → AreCovered s store here.seen e → kind_of e.note.ctype ≡ Some kind.One → (is_null e ≡ true) ⊎ (is_missing ((view s.frame e).range first fresh here.at) ≡ false)
+  pub one_known : (e : NotedExpr) → IsTyped globals s e → AreCovered m s store here.seen e → kind_of e.note.ctype ≡ Some kind.One → (is_null e ≡ true) ⊎ (is_missing ((view s.frame e).range first fresh here.at) ≡ false)
   one_known e typed covered one =
       subst (λ q. (is_null e ≡ true) ⊎ (is_missing q ≡ false)) (sym range_is)
-      (layer_known e.note one (out-Node Name Note e.node) (every_here-Expr Name Note AnyLimits AnyNode (HasRow globals s) e typed) (every_here-Expr Name Note AnyLimits AnyNode (IsCoveredExpr s store here.seen) e covered).node)
+      (layer_known e.note one (out-Node Name Note e.node) (every_here-Expr Name Note AnyLimits AnyNode (HasRow globals s) e typed) (every_here-Expr Name Note AnyLimits AnyNode (IsCoveredExpr m s store here.seen) e covered).node)
     where
       range_is : (view s.frame e).range first fresh here.at ≡ pointer_range e.note.ctype (node_view s.frame (viewed_node (out-Node Name Note e.node))) first fresh here.at
       range_is = ap (λ (v : View). v.range first fresh here.at) (view_is s.frame e) ∙ ap (λ n. pointer_range e.note.ctype n first fresh here.at) (node_view_is s.frame e.node)

@@ -1,6 +1,7 @@
 //! What follows from the definitions alone, each the contract of a function that does nothing.
 
 ghost use Rattle.std.specs.Prelude.{◌≡◌, ℕ, ◌+◌, ◌<◌, ◌≤◌, ◌^◌, List, length, Ok};
+ghost use Rattle.ckc_base.specs.declared.arithmetic.Mode.{Mode};
 ghost use Rattle.ckc_typed.specs.declared.environment.Globals.{Globals};
 ghost use Rattle.ckc_typed.specs.Statics.{strings_of_expr};
 ghost use Rattle.ckc_typed.specs.Trees.{NotedExpr};
@@ -15,21 +16,22 @@ ghost use Rattle.ckc_blame_sound.specs.Points.{HoldsAt};
 ghost use Rattle.ckc_blame_sound.specs.Typed.{IsTyped, Agrees};
 ghost use Rattle.ckc_blame_sound.specs.Bodies.{AreFresh};
 ghost use Rattle.ckc_blame_pointers.specs.Covered.{DeclareLocals, IsSoundStore, IsCovered};
-ghost use Rattle.ckc_blame_pointers.specs.Meant.{IsNotStuck, IsMeant};
+ghost use Rattle.ckc_blame_pointers.specs.Meant.{IsMeant};
+ghost use Rattle.ckc_blame_pointers.specs.Owed.{Comes};
 
-/// What becomes of a judged expression gives a value that is as it is judged to be, or stops at a named check. It is
-/// not stuck. This is said of numbers, string literals, `sizeof`, `NULL`, locals in scope, static integers and arrays,
-/// operators, `?:`, casts, bounds casts that are tested, static pointers, members, what is read through checked
-/// pointers, and the addresses of static objects, elements and members; and of no unchecked pointers.
-pub fn expressions_are_not_stuck()
-    ensures { (globals : Globals) (s : Setting) (entry : List ℕ) (here : Here)
+/// What becomes of a judged expression, in code of either mode, gives a value that is as it is judged to be, or stops at
+/// a named check; in checked code it is not stuck. This is said of numbers, string literals, `sizeof`, `NULL`, locals in
+/// scope, static integers and arrays, operators, `?:`, casts, bounds casts, static pointers, members, what is read
+/// through pointers, and the addresses of static objects, elements and members.
+pub fn expressions_come()
+    ensures { (m : Mode) (globals : Globals) (s : Setting) (entry : List ℕ) (here : Here)
         (before after : NotedExpr) (fresh literals next : ℕ) (store : Store) → Agrees globals s
         → DeclareLocals s → IsSoundStore s store next
         → fresh + length ((view s.frame before).fresh here.at) < 2 ^ 32 → AreFresh s.frame fresh
         → IsTyped globals s before
-        → (view s.frame before).judged fresh here.at ≡ Ok after → IsCovered s store here.seen after
+        → (view s.frame before).judged fresh here.at ≡ Ok after → IsCovered m s store here.seen after
         → AreStrings s literals (strings_of_expr after) → HoldsAt s store entry here
-        → IsNotStuck (IsMeant s store entry here (view s.frame before))
+        → Comes m (IsMeant s store entry here (view s.frame before))
         (evaluated store (expr_elaborated s.text s.variables literals after)) }
 {}
 

@@ -3,4 +3,4 @@
 
 mod laws;
 
-pub use laws::{expressions_are_not_stuck, fresh_variables_are_few};
+pub use laws::{expressions_come, fresh_variables_are_few};

@@ -1,6 +1,0 @@
-use Rattle.ckc_blame_pointers.proofs.Whole.{judged_meant}
-use Rattle.ckc_blame_pointers.proofs.laws.expressions_are_not_stuck.Goals as goal
-
-pub returns : goal.returns
-returns c = λ globals s entry here before after fresh literals next store agrees declares ready little are typed is covered strings holds.
-    judged_meant globals s agrees declares store entry next ready here before after fresh literals little are typed is covered strings holds
