@@ -1,7 +1,7 @@
 -- The claims of string literals in code of either mode, and of the addresses of members that are reached through unchecked
 -- pointers.
 use Rattle.std.proofs.Common.{◌≡◌, sym, ap, subst, ◌∙◌, ℕ, ◌+◌, List, arith}
-use Rattle.std.specs.Prelude.{◌<◌, ◌^◌, length, None, Some, Result, Ok, Err}
+use Rattle.std.specs.Prelude.{◌<◌, ◌^◌, length, None, Some, Result}
 use Rattle.ckc_base.specs.declared.arithmetic.Mode.{Mode}
 use Rattle.ckc_base.specs.declared.arithmetic.Mode.TheVariants.{Checked, Unchecked}
 use Rattle.ckc_base.specs.declared.places.Pos.{Pos}
@@ -21,12 +21,11 @@ use Rattle.ckc_bounds_views.specs.declared.variables.Own.{Own}
 use Rattle.ckc_bounds_views.specs.Parts.{NodeView}
 use Rattle.ckc_bounds_views.specs.Views.{node_view, expr_view}
 use Rattle.ckc_bounds_statements.specs.Paths.{Here}
-use Rattle.ckc_source.specs.declared.expr.Access.{Access}
 use Rattle.ckc_source.specs.declared.outcome.Halt.{Halt}
 use Rattle.ckc_source.specs.declared.outcome.Range.TheVariants.{Within}
 use Rattle.ckc_source.specs.declared.outcome.Value.{Value}
 use Rattle.ckc_source.specs.Code.{Array}
-use Rattle.ckc_source.specs.Eval.{Store, given, element, place_in, spanned, accessed, evaluated}
+use Rattle.ckc_source.specs.Eval.{Store, given, element, place_in, spanned, evaluated}
 use Rattle.ckc_build_values.specs.Names.{address_of}
 use Rattle.ckc_build_values.specs.Places.{Place, address_at}
 use Rattle.ckc_blame_sound.specs.Settings.{Setting, IsString}
@@ -35,6 +34,7 @@ use Rattle.ckc_blame_pointers.specs.Covered.{IsSoundStore}
 use Rattle.ckc_blame_pointers.specs.Meant.{IsNotStuck}
 use Rattle.ckc_blame_pointers.specs.Owed.{IfGives}
 use Rattle.ckc_blame_pointers.proofs.Addresses.{IsAddressType}
+use Rattle.ckc_blame_pointers.proofs.Given.{given_gives}
 use Rattle.ckc_blame_pointers.proofs.Held.{IsOwnNode}
 use Rattle.ckc_blame_pointers.proofs.Literals.{literal_claims, bare_literal_claims}
 use Rattle.ckc_blame_pointers.proofs.Nodes.{NodeClaims}
@@ -58,15 +58,6 @@ module _ (s : Setting) (store : Store) (entry : List ℕ) (next : ℕ) (ready : 
 
 -- ---- addresses
 
-accessed_gives : (P : Value → Type 0) (access : Access) (x y : Result Value Halt) (go : ℕ → Result Value Halt) → ((a : ℕ) → IfGives P (go a)) → IfGives P (accessed access x y go)
-accessed_gives P access (Ok v) (Ok k) go next = by (element access v k.number)
-  where
-    by : (r : Result ℕ Halt) → IfGives P (given r go)
-    by (Ok a) = next a
-    by (Err why) = tt
-accessed_gives P access (Ok v) (Err why) go next = tt
-accessed_gives P access (Err why) y go next = tt
-
 module _ (s : Setting) (store : Store) (entry : List ℕ) (here : Here) (h : HoldsAt s store entry here) (note : Note) (place : Pos) (t r : CType) (type : IsAddressType r t) (n : NodeView)
     (kept : (widened : List ℕ) → n.fresh (record here.at { widened = widened }) ≡ n.fresh here.at) (missing : (own : Own) (first fresh : ℕ) (at : State) → n.address own first fresh at ≡ range.Missing)
     (nowhere : (first : ℕ) (facts : Known) → n.target first facts ≡ None) where
@@ -76,16 +67,23 @@ module _ (s : Setting) (store : Store) (entry : List ℕ) (here : Here) (h : Hol
   -- the address of what is at whatever place, if nothing is known of its range
   pub raw_address_claims : (q : Place) → IfGives (NodeClaims s store entry here h r made) (evaluated store (address_at s.text.layout t q))
   raw_address_claims q =
-      accessed_gives (NodeClaims s store entry here h r made) q.access (evaluated store q.pointer) (evaluated store q.index) (λ a. spanned (place_in a q.access.offset) (size_of s.text.layout t))
-      (λ a. is_there (place_in a q.access.offset) (small a q.access.offset))
+      given_gives Made (evaluated store q.pointer) (λ v. given (evaluated store q.index) (λ k. given (element q.access v k.number) go))
+      (λ v is. given_gives Made (evaluated store q.index) (λ k. given (element q.access v k.number) go)
+      (λ k there. given_gives Made (element q.access v k.number) go (λ a at. comes (place_in a q.access.offset) (small a q.access.offset))))
     where
+      Made : Value → Type 0
+      Made = NodeClaims s store entry here h r made
+
+      go : ℕ → Result Value Halt
+      go a = spanned (place_in a q.access.offset) (size_of s.text.layout t)
+
       node : IsOwnNode here r (λ own. range.Missing) None made
       node = address_node_by (λ own. range.Missing) s here note place r n kept missing nowhere
 
       small : (a offset : ℕ) → place_in a offset < 2 ^ 32
       small a offset = omega arith
 
-      is_there : (m : ℕ) → m < 2 ^ 32 → NodeClaims s store entry here h r made (record { number = m; range = Within m (m + size_of s.text.layout t) })
-      is_there m low =
+      comes : (m : ℕ) → m < 2 ^ 32 → Made (record { number = m; range = Within m (m + size_of s.text.layout t) })
+      comes m low =
           missing_claims s store entry here h r type.pointer type.several made node.alone node.known node.nowhere node.kept node.ranged node.needs node.behind node.some node.quiet
           (record { number = m; range = Within m (m + size_of s.text.layout t) }) low
