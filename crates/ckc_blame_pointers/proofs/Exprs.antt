@@ -423,7 +423,7 @@ module _ (m : Mode) (globals : Globals) (s : Setting) (agrees : Agrees globals s
                 refl refl (λ b. refl) (ap kind_of (viewed_type e.0)) (λ x c j there a at f target. target_aims s store entry next ready here h e.0 fresh few little are x c j there a at f target)
     node_step (Node-F.Un op.Address e) note place row typed covered node checked address scalar fresh little are fault judged noted k strings runs =
         e.1.address typed here covered node h fresh little are (one_part (λ a. Node-F.Un op.Address a) (λ a b e. cc) _ e.0 judged) (unbroken (view s.frame e.0).no_address bounds_address place fault) note.ctype
-        (address_row row.mode e.0.note.ctype note.ctype (some_if (has_address globals e.0) (ctype.Pointer (address_kind row.mode) e.0.note.ctype) note.ctype row.row)).0 (λ bare. kept m refl bare) k strings runs
+        (address_row row.mode e.0.note.ctype note.ctype (some_if (has_address globals e.0) (ctype.Pointer (address_kind row.mode) e.0.note.ctype) note.ctype row.row)) (λ bare. kept m refl bare) k strings runs
       where
         -- An address that is no unchecked pointer is in checked code.
         kept : (q : Mode) → m ≡ q → is_raw_kind (kind_of note.ctype) ≡ false → m ≡ Checked

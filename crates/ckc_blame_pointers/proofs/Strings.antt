@@ -1,6 +1,6 @@
 -- The string literals in the parts of an expression, and what becomes of a string literal.
 use Rattle.std.proofs.Common.{◌≡◌, refl, sym, ap, subst, ◌∙◌, ℕ, ◌+◌, List, ◌++◌, rules}
-use Rattle.std.specs.Prelude.{true, false, Option, Some}
+use Rattle.std.specs.Prelude.{true, Option, Some}
 use Rattle.ckc_base.specs.declared.arithmetic.Mode.{Mode}
 use Rattle.ckc_base.specs.declared.arithmetic.Mode.TheVariants.{Checked, Unchecked}
 use Rattle.ckc_types.specs.declared.types.Kind.{Kind}
@@ -18,7 +18,6 @@ use Rattle.ckc_typed.specs.declared.typed.Note.{Note}
 use Rattle.ckc_typed.specs.declared.typed.StaticObject.{StaticObject}
 use Rattle.ckc_typed.specs.Conversions.{is_string_form, is_terminated_kind}
 use Rattle.ckc_typed.specs.Expressions.{string_type}
-use Rattle.ckc_typed.specs.Operands.{is_raw_kind}
 use Rattle.ckc_typed.specs.Statics.{Strings, node_strings, expr_strings, strings_of_limits, strings_of_expr}
 use Rattle.ckc_typed.specs.Trees.{NotedLimits, NotedNode, NotedExpr, NotedLayer}
 use Rattle.ckc_typed.specs.Types.{is_char, is_char_form, is_pointer, is_pointer_form, element_of, element_in, kind_of, kind_in}
@@ -64,11 +63,6 @@ checked_out = search (rules, ctype_lemmas)
 
 unchecked_out : out-CType (string_type Unchecked) ≡ CType-F.Pointer kind.Raw ctype.Char
 unchecked_out = search (rules, ctype_lemmas)
-
--- that is no unchecked pointer
-pub string_out : (mode : Mode) → is_raw_kind (kind_of (string_type mode)) ≡ false → out-CType (string_type mode) ≡ CType-F.Pointer kind.Nt ctype.Char
-string_out Checked e = checked_out
-string_out Unchecked e = let raw : is_raw_kind (kind_of (string_type Unchecked)) ≡ true = ap (λ f. is_raw_kind (kind_in f)) unchecked_out in absurd cc
 
 -- a pointer to characters that end with a zero
 pub record IsStringType (t : CType) : Type 0 where
