@@ -38,62 +38,62 @@ use Rattle.ckc_blame_pointers.proofs.Nodes.{node_fresh, NodeClaims}
 use Rattle.ckc_blame_pointers.proofs.Binary.{ExprClaims}
 use Rattle.ckc_blame_pointers.proofs.Later.{parts_room}
 use Rattle.ckc_blame_pointers.proofs.Reach.{IsStructurePlace, element_at}
-use Rattle.ckc_blame_pointers.proofs.Carried as carried
+use Rattle.ckc_blame_pointers.proofs.Hypotheses as hypotheses
 use Rattle.ckc_blame_pointers.proofs.Exprs as steps
 use Rattle.ckc_blame_pointers.proofs.Locations as locations
 use Rattle.ckc_blame_pointers.proofs.Strings.{node_strings_are, expr_strings_are}
 
 module _ (m : Mode) (globals : Globals) (s : Setting) (agrees : Agrees globals s) (declares : DeclareLocals s) (store : Store) (entry : List ℕ) (next : ℕ) (ready : IsSoundStore s store next) where
   abbrev NodeHolds : NotedNode → Type 0
-  NodeHolds = carried.NodeHolds m globals s agrees declares store entry next ready
+  NodeHolds = hypotheses.NodeHolds m globals s agrees declares store entry next ready
 
   abbrev ExprHolds : NotedExpr → Type 0
-  ExprHolds = carried.ExprHolds m globals s agrees declares store entry next ready
+  ExprHolds = hypotheses.ExprHolds m globals s agrees declares store entry next ready
 
   abbrev PartsHold : LimitsLayer → Type 0
-  PartsHold = carried.PartsHold m globals s agrees declares store entry next ready
+  PartsHold = hypotheses.PartsHold m globals s agrees declares store entry next ready
 
   abbrev LimitsHold : NotedLimits → Type 0
-  LimitsHold = carried.LimitsHold m globals s agrees declares store entry next ready
+  LimitsHold = hypotheses.LimitsHold m globals s agrees declares store entry next ready
 
   abbrev KeptLimits : Type 0
-  KeptLimits = carried.KeptLimits m globals s agrees declares store entry next ready
+  KeptLimits = hypotheses.KeptLimits m globals s agrees declares store entry next ready
 
   abbrev KeptNode : Type 0
-  KeptNode = carried.KeptNode m globals s agrees declares store entry next ready
+  KeptNode = hypotheses.KeptNode m globals s agrees declares store entry next ready
 
   abbrev KeptExpr : Type 0
-  KeptExpr = carried.KeptExpr m globals s agrees declares store entry next ready
+  KeptExpr = hypotheses.KeptExpr m globals s agrees declares store entry next ready
 
   abbrev IsNode : List ℕ → CType → NotedLayer → Type 0
-  IsNode = carried.IsNode m globals s agrees declares store entry next ready
+  IsNode = hypotheses.IsNode m globals s agrees declares store entry next ready
 
   abbrev HasAddress : CType → NotedLayer → Type 0
-  HasAddress = carried.HasAddress m globals s agrees declares store entry next ready
+  HasAddress = hypotheses.HasAddress m globals s agrees declares store entry next ready
 
   abbrev HoldsPlace : CType → NodeView → Place → Type 0
-  HoldsPlace = carried.HoldsPlace m globals s agrees declares store entry next ready
+  HoldsPlace = hypotheses.HoldsPlace m globals s agrees declares store entry next ready
 
   abbrev inner_node : Node-F Name Note KeptLimits KeptNode KeptExpr → NotedLayer
-  inner_node = carried.inner_node m globals s agrees declares store entry next ready
+  inner_node = hypotheses.inner_node m globals s agrees declares store entry next ready
 
   abbrev inner_limits : Limits-F Name Note KeptLimits KeptNode KeptExpr → LimitsLayer
-  inner_limits = carried.inner_limits m globals s agrees declares store entry next ready
+  inner_limits = hypotheses.inner_limits m globals s agrees declares store entry next ready
 
   abbrev inner_expr : Expr-F Name Note KeptLimits KeptNode KeptExpr → Expr-F Name Note NotedLimits NotedNode NotedExpr
-  inner_expr = carried.inner_expr m globals s agrees declares store entry next ready
+  inner_expr = hypotheses.inner_expr m globals s agrees declares store entry next ready
 
   abbrev viewed_node : NotedLayer → NodeOfViews
-  viewed_node = carried.viewed_node m globals s agrees declares store entry next ready
+  viewed_node = hypotheses.viewed_node m globals s agrees declares store entry next ready
 
   abbrev viewed_expr : Expr-F Name Note NotedLimits NotedNode NotedExpr → Expr-F Name Note LimitsView NodeView View
-  viewed_expr = carried.viewed_expr m globals s agrees declares store entry next ready
+  viewed_expr = hypotheses.viewed_expr m globals s agrees declares store entry next ready
 
   abbrev part_node : NotedLayer → Node-F Name Note LimitsPart NodePart Part
-  part_node = carried.part_node m globals s agrees declares store entry next ready
+  part_node = hypotheses.part_node m globals s agrees declares store entry next ready
 
   abbrev part_expr : Expr-F Name Note NotedLimits NotedNode NotedExpr → Expr-F Name Note LimitsPart NodePart Part
-  part_expr = carried.part_expr m globals s agrees declares store entry next ready
+  part_expr = hypotheses.part_expr m globals s agrees declares store entry next ready
 
   -- ---- the induction
 
