@@ -73,7 +73,7 @@ use Rattle.ckc_blame_pointers.proofs.ReadThrough.{read_claims}
 use Rattle.ckc_blame_pointers.proofs.Casts.{one_claims, no_limits}
 use Rattle.ckc_blame_pointers.proofs.Bytes.{amount_claims}
 use Rattle.ckc_blame_pointers.proofs.Operands.{tested_pointer, operand_scalar, operand_testable}
-use Rattle.ckc_blame_pointers.proofs.Reach.{IsStructurePlace, element_at}
+use Rattle.ckc_blame_pointers.proofs.Reach.{IsStructurePlace}
 use Rattle.ckc_blame_pointers.proofs.Pointees.{pointee_claims}
 use Rattle.ckc_bounds_points.specs.Codes.{bounds_address}
 use Rattle.ckc_blame_pointers.proofs.Dots.{dot_node, integer_held}
@@ -590,7 +590,7 @@ module _ (m : Mode) (globals : Globals) (s : Setting) (agrees : Agrees globals s
         Of : CType → Type 0
         Of u = Runs m (evaluated store (At u)) → IsNotStuck (NodeClaims s store entry here h note.ctype made) (evaluated store (At u))
 
-        held : IsDot s store e.0 n note.ctype → (is_raw_kind (view s.frame e.0).behind ≡ true → m ≡ Unchecked) × (is_raw_kind (view s.frame e.0).behind ≡ false → Runs m (element_at store there) → IsStructurePlace store e.0.note.ctype there)
+        held : IsDot s store e.0 n note.ctype → hypotheses.HoldsPlace m globals s agrees declares store entry next ready e.0.note.ctype (view s.frame e.0).behind there
         held node =
             e.1.place typed here covered node.operand node.tag node.struct h fresh (parts_room fresh ((view s.frame e.0).fresh here.at) (own_fresh note.ctype made here.at.facts) little) are (one_part (λ a. Node-F.Dot a n spot) (λ a b e. cc) _ e.0 judged) k strings
 

@@ -1,6 +1,6 @@
 -- The place and the address of each node that has one, from the claims of its parts.
 use Rattle.std.proofs.Common.{⊎_elim, ◌≡◌, inl, inr, refl, sym, ap, subst, ◌∙◌, ℕ, ◌+◌, Bool, true, false, List}
-use Rattle.std.specs.Prelude.{◌<◌, ◌^◌, ◌&&◌, not, length, if◌then◌else◌, None, Some, Ok}
+use Rattle.std.specs.Prelude.{◌<◌, ◌^◌, ◌&&◌, not, length, if◌then◌else◌, None, Some, Ok, Option}
 use Rattle.ckc_base.specs.declared.arithmetic.Mode.{Mode}
 use Rattle.ckc_base.specs.declared.arithmetic.Mode.TheVariants.{Checked, Unchecked}
 use Rattle.ckc_base.specs.declared.places.Pos.{Pos}
@@ -58,6 +58,7 @@ use Rattle.ckc_blame_pointers.proofs.Hypotheses.{only, none_of, some_if, not_raw
 use Rattle.ckc_blame_pointers.proofs.RawNames.{raw_address_claims}
 use Rattle.ckc_blame_pointers.proofs.Runs.{gives_meant, operands_run, address_runs, pointer_runs, reached_run}
 use Rattle.ckc_blame_pointers.proofs.Structures.{IsStructureAt}
+use Rattle.ckc_types.specs.declared.types.Kind.{Kind}
 
 module _ (m : Mode) (globals : Globals) (s : Setting) (agrees : Agrees globals s) (declares : DeclareLocals s) (store : Store) (entry : List ℕ) (next : ℕ) (ready : IsSoundStore s store next) where
   abbrev NodeHolds : NotedNode → Type 0
@@ -81,7 +82,7 @@ module _ (m : Mode) (globals : Globals) (s : Setting) (agrees : Agrees globals s
   abbrev IsNode : List ℕ → CType → NotedLayer → Type 0
   IsNode = hypotheses.IsNode m globals s agrees declares store entry next ready
 
-  abbrev HoldsPlace : CType → NodeView → Place → Type 0
+  abbrev HoldsPlace : CType → Option Kind → Place → Type 0
   HoldsPlace = hypotheses.HoldsPlace m globals s agrees declares store entry next ready
 
   abbrev HasAddress : CType → NotedLayer → Type 0
@@ -114,7 +115,7 @@ module _ (m : Mode) (globals : Globals) (s : Setting) (agrees : Agrees globals s
     pub place_step : (y : Node-F Name Note KeptLimits KeptNode KeptExpr) (note : Note) (place : Pos) → IsRow globals s (inner_node y) note → PartsEvery (HasRow globals s) (inner_node y)
         → PartsEvery (IsCoveredExpr m s store here.seen) (inner_node y) → IsNode here.seen note.ctype (inner_node y) → IsStructureNode (inner_node y) → (tag : ℕ) → out-CType note.ctype ≡ CType-F.Struct tag
         → (fresh : ℕ) → fresh + length ((node_view s.frame (viewed_node (inner_node y))).fresh here.at) < 2 ^ 32 → AreFresh s.frame fresh → node_judged s.frame (viewed_node (inner_node y)) note.ctype fresh here.at ≡ Ok (node_of (inner_node y))
-        → fault_of_node s.frame (viewed_node (inner_node y)) place fresh here.at ≡ None → (k : ℕ) → AreStrings s k (strings_in_node (inner_node y)) → HoldsPlace note.ctype (node_view s.frame (viewed_node (inner_node y))) (node_place (part_node (inner_node y)) note place s.text s.variables k)
+        → fault_of_node s.frame (viewed_node (inner_node y)) place fresh here.at ≡ None → (k : ℕ) → AreStrings s k (strings_in_node (inner_node y)) → HoldsPlace note.ctype (node_view s.frame (viewed_node (inner_node y))).behind (node_place (part_node (inner_node y)) note place s.text s.variables k)
     place_step (Node-F.Name (name.Static j)) note place row typed covered node structure tag struct fresh little are judged fault k strings = (
       λ raw. absurd (cc),
       λ bare runs.
@@ -317,8 +318,7 @@ module _ (m : Mode) (globals : Globals) (s : Setting) (agrees : Agrees globals s
         operand : IsStructureNode (out-Node Name Note e.0.node)
         operand = ⊎_elim (λ (n : IsDot s store e.0 n note.ctype). n.operand) (λ u. raw_structure (out-Node Name Note e.0.node) u.1.0) node
 
-        place_there : IsScalarMember s e.0.note.ctype note.ctype n → (is_raw_kind (view s.frame e.0).behind ≡ true → m ≡ Unchecked)
-            × (is_raw_kind (view s.frame e.0).behind ≡ false → Runs m (element_at store ((part_of e.0).place s.text s.variables k)) → IsStructurePlace store e.0.note.ctype ((part_of e.0).place s.text s.variables k))
+        place_there : IsScalarMember s e.0.note.ctype note.ctype n → HoldsPlace e.0.note.ctype (view s.frame e.0).behind ((part_of e.0).place s.text s.variables k)
         place_there member = e.1.place typed here covered operand member.tag member.struct h fresh little are (one_part (λ a. Node-F.Dot a n spot) (λ a b e. cc) _ e.0 judged) k strings
 
         by_kind : (b : Bool) → is_raw_kind (view s.frame e.0).behind ≡ b → IsScalarMember s e.0.note.ctype note.ctype n → Of e.0.note.ctype
