@@ -83,8 +83,8 @@ module _ (s : Setting) (store : Store) (entry : List ℕ) (next : ℕ) (ready : 
 
 -- A pointer n, whose place is its address, may be read within its range as what a terminator ends, whatever its fresh
 -- variables are numbered from.
-abbrev pub IsEndedAt : Setting → Store → State → View → CType → ℕ → Type 0
-IsEndedAt s store at w t n =
+abbrev pub EndsAt : Setting → Store → State → View → CType → ℕ → Type 0
+EndsAt s store at w t n =
     (v : Valuation) → v.number 0 ≡ pos 0 → (first fresh : ℕ)
     → ((facts : Known) (f : Form) → AreFacts v facts → w.place first facts ≡ Some f → form_address v (size_behind s.text.layout t) f ≡ pos n)
     → IsReadWithin (ending (memory_of s store t)) v n (w.range first fresh at)
@@ -92,7 +92,7 @@ IsEndedAt s store at w t n =
 sums : (a x : ℤ) (n m : ℕ) → a +ℤ x ≡ pos n → x ≡ pos 0 → pos (n + m) ≡ a +ℤ pos m
 sums a x n m begins none = omega (arith, ints)
 
--- where so many bytes behind one end
+-- the address so many bytes after another one
 far : (a z : ℤ) (size count n : ℕ) → size ≡ 1 → z ≡ pos 0 → a +ℤ (pos size *ℤ (z +ℤ pos 0)) ≡ pos n → pos (n + count) ≡ a +ℤ (pos size *ℤ (z +ℤ pos count))
 far a z size count n one zero begins = sums a (pos size *ℤ (z +ℤ pos 0)) n count begins (by 0) ∙ ap (λ x. a +ℤ x) (sym (by count))
   where
@@ -130,8 +130,8 @@ module _ (s : Setting) (store : Store) (at : State) (e : NotedExpr) (bytes : Lis
   true_here =
       subst (λ u. is_true store.shapes store.blocks (record { element = u; size = size_of s.text.layout u; terminated = true }) n n (n + length bytes) ≡ true) (sym char) true_there
 
-  text_ended : IsEndedAt s store at (view s.frame e) e.note.ctype n
-  text_ended v zero first fresh place = subst (IsReadWithin (ending (memory_of s store e.note.ctype)) v n) (sym (range_is first fresh)) (by (is_pointer e.note.ctype) refl)
+  text_ends : EndsAt s store at (view s.frame e) e.note.ctype n
+  text_ends v zero first fresh place = subst (IsReadWithin (ending (memory_of s store e.note.ctype)) v n) (sym (range_is first fresh)) (by (is_pointer e.note.ctype) refl)
     where
       begins : is_pointer e.note.ctype ≡ true → form_address v sized (base_form (own first)) ≡ pos n
       begins p = place none (base_form (own first)) (λ k d less. let no : ⊥ = omega arith in absurd no) (place_is first p)
@@ -170,10 +170,10 @@ text_of x e = absurd cc
 
 module _ (globals : Globals) (s : Setting) (store : Store) (entry : List ℕ) (next : ℕ) (ready : IsSoundStore s store next) (here : Here) (h : HoldsAt s store entry here) where
   -- what is said of a literal that has been judged
-  literal_ended : (e : NotedExpr) (k : ℕ) → IsTyped globals s e → AreStrings s k (strings_of_expr e) → (p : Value) → evaluated store ((part_of e).value s.text s.variables k) ≡ Ok p
-      → is_string e ≡ true → IsEndedAt s store here.at (view s.frame e) e.note.ctype p.number
-  literal_ended e k typed strings p there string =
-      text_ended s store here.at e text.0 text.1 char p.number (one_byte s store entry next ready here h text.0 k is_there)
+  literal_ends : (e : NotedExpr) (k : ℕ) → IsTyped globals s e → AreStrings s k (strings_of_expr e) → (p : Value) → evaluated store ((part_of e).value s.text s.variables k) ≡ Ok p
+      → is_string e ≡ true → EndsAt s store here.at (view s.frame e) e.note.ctype p.number
+  literal_ends e k typed strings p there string =
+      text_ends s store here.at e text.0 text.1 char p.number (one_byte s store entry next ready here h text.0 k is_there)
       (subst (λ a. is_true store.shapes store.blocks (chars s) a a (a + length text.0) ≡ true) address (chars_true s store entry next ready here h text.0 k is_there))
     where
       text : (bytes : List ℕ) × (out-Node Name Note e.node ≡ Node-F.Text bytes)
@@ -193,12 +193,12 @@ module _ (globals : Globals) (s : Setting) (store : Store) (entry : List ℕ) (n
           cc
 
   -- of what becomes of a literal
-  pub judged_ended : (before after : NotedExpr) (fresh k : ℕ) → (view s.frame before).judged fresh here.at ≡ Ok after → IsTyped globals s after → view s.frame after ≡ view s.frame before → after.note.ctype ≡ before.note.ctype
+  pub judged_ends : (before after : NotedExpr) (fresh k : ℕ) → (view s.frame before).judged fresh here.at ≡ Ok after → IsTyped globals s after → view s.frame after ≡ view s.frame before → after.note.ctype ≡ before.note.ctype
       → AreStrings s k (strings_of_expr after) → (p : Value) → evaluated store ((part_of after).value s.text s.variables k) ≡ Ok p → is_string before ≡ true
-      → IsEndedAt s store here.at (view s.frame before) before.note.ctype p.number
-  judged_ended before after fresh k is typed same types strings p there string =
-      subst (λ t. IsEndedAt s store here.at (view s.frame before) t p.number) types
-      (subst (λ w. IsEndedAt s store here.at w after.note.ctype p.number) same (literal_ended after k typed strings p there (kept ∙ string)))
+      → EndsAt s store here.at (view s.frame before) before.note.ctype p.number
+  judged_ends before after fresh k is typed same types strings p there string =
+      subst (λ t. EndsAt s store here.at (view s.frame before) t p.number) types
+      (subst (λ w. EndsAt s store here.at w after.note.ctype p.number) same (literal_ends after k typed strings p there (kept ∙ string)))
     where
       kept : is_string after ≡ is_string before
       kept = sym (fold_is after) ∙ same_fold s.frame (Unit {0}) Bool Bool (λ l. tt) is_string_form (λ e. e.node) (λ n pos note r. refl) before after fresh here.at is ∙ fold_is before
