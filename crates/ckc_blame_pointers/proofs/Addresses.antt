@@ -217,9 +217,14 @@ module _ (s : Setting) (store : Store) (entry : List ℕ) (here : Here) (h : Hol
 pointer_form : (k : Kind) (t : CType) → out-CType (ctype.Pointer k t) ≡ CType-F.Pointer k t
 pointer_form k t = search (rules, the_lemmas)
 
--- The address of what has a type, in code of either mode. It is an unchecked pointer in unchecked code alone.
-pub address_row : (mode : Mode) (t u : CType) → ctype.Pointer (address_kind mode) t ≡ u → IsAddressType u t × (is_raw_kind (kind_of u) ≡ false → mode ≡ Checked)
-address_row mode t u e = subst (λ u. IsAddressType u t × (is_raw_kind (kind_of u) ≡ false → mode ≡ Checked)) e (typed, by mode)
+-- the type of an address in code of either mode
+pub address_row : (mode : Mode) (t u : CType) → ctype.Pointer (address_kind mode) t ≡ u → IsAddressType u t
+address_row mode t u e = subst (λ u. IsAddressType u t) e (record {
+  pointer = ap is_pointer_form (pointer_form (address_kind mode) t);
+  several = λ one. no_one mode (sym kind_is ∙ one);
+  bare = ap is_terminated_kind kind_is ∙ ends_bare mode;
+  element = ap element_in (pointer_form (address_kind mode) t);
+})
   where
     kind_is : kind_of (ctype.Pointer (address_kind mode) t) ≡ Some (address_kind mode)
     kind_is = ap kind_in (pointer_form (address_kind mode) t)
@@ -231,18 +236,6 @@ address_row mode t u e = subst (λ u. IsAddressType u t × (is_raw_kind (kind_of
     ends_bare : (mode : Mode) → is_terminated_kind (Some (address_kind mode)) ≡ false
     ends_bare Checked = refl
     ends_bare Unchecked = refl
-
-    typed : IsAddressType (ctype.Pointer (address_kind mode) t) t
-    typed = record {
-      pointer = ap is_pointer_form (pointer_form (address_kind mode) t);
-      several = λ one. no_one mode (sym kind_is ∙ one);
-      bare = ap is_terminated_kind kind_is ∙ ends_bare mode;
-      element = ap element_in (pointer_form (address_kind mode) t);
-    }
-
-    by : (mode : Mode) → is_raw_kind (kind_of (ctype.Pointer (address_kind mode) t)) ≡ false → mode ≡ Checked
-    by Checked no_raw = refl
-    by Unchecked no_raw = let raw : is_raw_kind (kind_of (ctype.Pointer kind.Raw t)) ≡ true = ap (λ f. is_raw_kind (kind_in f)) (pointer_form kind.Raw t) in absurd (cc)
 
 module _ (s : Setting) (store : Store) (entry : List ℕ) (here : Here) (h : HoldsAt s store entry here) (e : NotedExpr) (note : Note) (place : Pos) (r : CType) (type : IsAddressType r (element_of e.note.ctype)) where
   abbrev pub address_view : NodeView → NodeView

@@ -43,54 +43,54 @@ use Rattle.ckc_blame_pointers.proofs.Bytes.{IsAmount, bytes_amount}
 use Rattle.ckc_blame_pointers.proofs.Scalars.{integer_scalar}
 use Rattle.std.proofs.lemmas.Bool.{and_parts}
 use Rattle.ckc_blame_pointers.proofs.Strings.{strings_in_limits, limits_strings_are}
-use Rattle.ckc_blame_pointers.proofs.Carried as carried
+use Rattle.ckc_blame_pointers.proofs.Hypotheses as hypotheses
 use Rattle.ckc_blame_pointers.proofs.Runs.{elements_run}
 
 module _ (m : Mode) (globals : Globals) (s : Setting) (agrees : Agrees globals s) (declares : DeclareLocals s) (store : Store) (entry : List ℕ) (next : ℕ) (ready : IsSoundStore s store next) where
   abbrev NodeHolds : NotedNode → Type 0
-  NodeHolds = carried.NodeHolds m globals s agrees declares store entry next ready
+  NodeHolds = hypotheses.NodeHolds m globals s agrees declares store entry next ready
 
   abbrev ExprHolds : NotedExpr → Type 0
-  ExprHolds = carried.ExprHolds m globals s agrees declares store entry next ready
+  ExprHolds = hypotheses.ExprHolds m globals s agrees declares store entry next ready
 
   abbrev PartsHold : LimitsLayer → Type 0
-  PartsHold = carried.PartsHold m globals s agrees declares store entry next ready
+  PartsHold = hypotheses.PartsHold m globals s agrees declares store entry next ready
 
   abbrev KeptLimits : Type 0
-  KeptLimits = carried.KeptLimits m globals s agrees declares store entry next ready
+  KeptLimits = hypotheses.KeptLimits m globals s agrees declares store entry next ready
 
   abbrev KeptNode : Type 0
-  KeptNode = carried.KeptNode m globals s agrees declares store entry next ready
+  KeptNode = hypotheses.KeptNode m globals s agrees declares store entry next ready
 
   abbrev KeptExpr : Type 0
-  KeptExpr = carried.KeptExpr m globals s agrees declares store entry next ready
+  KeptExpr = hypotheses.KeptExpr m globals s agrees declares store entry next ready
 
   abbrev IsNode : List ℕ → CType → NotedLayer → Type 0
-  IsNode = carried.IsNode m globals s agrees declares store entry next ready
+  IsNode = hypotheses.IsNode m globals s agrees declares store entry next ready
 
   abbrev HasAddress : CType → NotedLayer → Type 0
-  HasAddress = carried.HasAddress m globals s agrees declares store entry next ready
+  HasAddress = hypotheses.HasAddress m globals s agrees declares store entry next ready
 
   abbrev inner_node : Node-F Name Note KeptLimits KeptNode KeptExpr → NotedLayer
-  inner_node = carried.inner_node m globals s agrees declares store entry next ready
+  inner_node = hypotheses.inner_node m globals s agrees declares store entry next ready
 
   abbrev viewed_node : NotedLayer → NodeOfViews
-  viewed_node = carried.viewed_node m globals s agrees declares store entry next ready
+  viewed_node = hypotheses.viewed_node m globals s agrees declares store entry next ready
 
   abbrev viewed_limits : LimitsLayer → Limits-F Name Note LimitsView NodeView View
-  viewed_limits = carried.viewed_limits m globals s agrees declares store entry next ready
+  viewed_limits = hypotheses.viewed_limits m globals s agrees declares store entry next ready
 
   abbrev part_node : NotedLayer → Node-F Name Note LimitsPart NodePart Part
-  part_node = carried.part_node m globals s agrees declares store entry next ready
+  part_node = hypotheses.part_node m globals s agrees declares store entry next ready
 
   abbrev part_limits : LimitsLayer → Limits-F Name Note LimitsPart NodePart Part
-  part_limits = carried.part_limits m globals s agrees declares store entry next ready
+  part_limits = hypotheses.part_limits m globals s agrees declares store entry next ready
 
   viewed_type : (e : NotedExpr) → (view s.frame e).ctype ≡ e.note.ctype
-  viewed_type = carried.viewed_type m globals s agrees declares store entry next ready
+  viewed_type = hypotheses.viewed_type m globals s agrees declares store entry next ready
 
   parted_type : (e : NotedExpr) → (part_of e).ctype ≡ e.note.ctype
-  parted_type = carried.parted_type m globals s agrees declares store entry next ready
+  parted_type = hypotheses.parted_type m globals s agrees declares store entry next ready
 
   module _ (here : Here) (h : HoldsAt s store entry here) (x : TypeTree) (e : NotedExpr) (l : KeptLimits) (t : CType) (same_type : t ≡ type_written x) where
     -- what is told of the amount that limits count, in elements
@@ -137,8 +137,8 @@ module _ (m : Mode) (globals : Globals) (s : Setting) (agrees : Agrees globals s
             subst (λ t. Goal t v (integer_of (part_of f).ctype) (w t (part_of f).ctype)) same_type
             (subst (λ u. Goal t v (integer_of u) (w t u)) (sym (parted_type f))
             (told f v same counted ((part_of f).value s.text s.variables k) integer
-            (λ runs. held.claims rows here covers (integer_scalar f.note.ctype integer) h (fresh_behind (view s.frame e) fresh here.at) second (carried.are_on m globals s agrees declares store entry next ready here h e fresh first are) right k within runs)
-            (λ c there. carried.index_of m globals s agrees declares store entry next ready here h f rows k c there) (w t f.note.ctype) (inner t f.note.ctype) (amount integer)))
+            (λ runs. held.claims rows here covers (integer_scalar f.note.ctype integer) h (fresh_behind (view s.frame e) fresh here.at) second (hypotheses.are_on m globals s agrees declares store entry next ready here h e fresh first are) right k within runs)
+            (λ c there. hypotheses.index_of m globals s agrees declares store entry next ready here h f rows k c there) (w t f.note.ctype) (inner t f.note.ctype) (amount integer)))
           where
             integer : is_integer f.note.ctype ≡ true
             integer = sym (ap is_integer (viewed_type f)) ∙ whole

@@ -55,7 +55,7 @@ use Rattle.ckc_blame_pointers.specs.Covered.{DeclareLocals, DeclareOnes, IsSound
 use Rattle.ckc_blame_pointers.specs.Meant.{IsNotStuck}
 use Rattle.ckc_blame_pointers.specs.Owed.{Runs, IfGives}
 use Rattle.ckc_blame_pointers.proofs.Claims.{nothing_read}
-use Rattle.ckc_blame_pointers.proofs.Inside.{PartsEvery, one_part, two_parts, three_parts, limits_every, cast_parts}
+use Rattle.ckc_blame_pointers.proofs.Inside.{PartsEvery, one_part, two_parts, three_parts, limits_every, tested_parts, trusted_parts}
 use Rattle.ckc_blame_pointers.proofs.Nodes.{node_fresh, NodeClaims}
 use Rattle.ckc_blame_pointers.proofs.Binary.{ExprClaims, other_claims, unequal_claims, and_claims, or_claims}
 use Rattle.ckc_blame_pointers.proofs.Sums.{sum_claims, difference_claims}
@@ -73,7 +73,7 @@ use Rattle.ckc_blame_pointers.proofs.ReadThrough.{read_claims}
 use Rattle.ckc_blame_pointers.proofs.Casts.{one_claims, no_limits}
 use Rattle.ckc_blame_pointers.proofs.Bytes.{amount_claims}
 use Rattle.ckc_blame_pointers.proofs.Operands.{tested_pointer, operand_scalar, operand_testable}
-use Rattle.ckc_blame_pointers.proofs.Reach.{IsStructurePlace, element_at}
+use Rattle.ckc_blame_pointers.proofs.Reach.{IsStructurePlace}
 use Rattle.ckc_blame_pointers.proofs.Pointees.{pointee_claims}
 use Rattle.ckc_bounds_points.specs.Codes.{bounds_address}
 use Rattle.ckc_blame_pointers.proofs.Dots.{dot_node, integer_held}
@@ -86,11 +86,11 @@ use Rattle.ckc_blame_pointers.proofs.Arrays.{array_claims}
 use Rattle.ckc_blame_pointers.proofs.Pointers.{pointer_claims, bounded_claims}
 use Rattle.ckc_blame_pointers.proofs.Strings.{strings_in_node, first_strings, later_strings}
 use Rattle.ckc_blame_pointers.proofs.Leaves.{number_claims, size_claims, null_claims, local_claims, minus_claims, plus_claims, flip_claims, not_claims, cast_claims, choice_claims}
-use Rattle.ckc_blame_pointers.proofs.Carried as carried
+use Rattle.ckc_blame_pointers.proofs.Hypotheses as hypotheses
 use Rattle.ckc_source.specs.declared.expr.Operation.TheVariants as operation
 use Rattle.ckc_bounds_views.specs.declared.variables.Own.{Own}
 use Rattle.ckc_bounds_points.specs.Shown.{Known}
-use Rattle.ckc_blame_pointers.proofs.Carried.{only, none_of, unchecked_alone, some_if, not_raw}
+use Rattle.ckc_blame_pointers.proofs.Hypotheses.{only, none_of, unchecked_alone, some_if, not_raw}
 use Rattle.ckc_blame_pointers.proofs.RawCasts.{raw_type, raw_cast_claims}
 use Rattle.ckc_blame_pointers.proofs.RawNames.{text_claims}
 use Rattle.ckc_blame_pointers.proofs.RawReads.{raw_integer, raw_pointer, raw_member}
@@ -101,49 +101,49 @@ use Rattle.ckc_blame_pointers.proofs.BoundsCasts as casts
 
 module _ (m : Mode) (globals : Globals) (s : Setting) (agrees : Agrees globals s) (declares : DeclareLocals s) (store : Store) (entry : List ℕ) (next : ℕ) (ready : IsSoundStore s store next) where
   abbrev NodeHolds : NotedNode → Type 0
-  NodeHolds = carried.NodeHolds m globals s agrees declares store entry next ready
+  NodeHolds = hypotheses.NodeHolds m globals s agrees declares store entry next ready
 
   abbrev ExprHolds : NotedExpr → Type 0
-  ExprHolds = carried.ExprHolds m globals s agrees declares store entry next ready
+  ExprHolds = hypotheses.ExprHolds m globals s agrees declares store entry next ready
 
   abbrev PartsHold : LimitsLayer → Type 0
-  PartsHold = carried.PartsHold m globals s agrees declares store entry next ready
+  PartsHold = hypotheses.PartsHold m globals s agrees declares store entry next ready
 
   abbrev KeptLimits : Type 0
-  KeptLimits = carried.KeptLimits m globals s agrees declares store entry next ready
+  KeptLimits = hypotheses.KeptLimits m globals s agrees declares store entry next ready
 
   abbrev KeptNode : Type 0
-  KeptNode = carried.KeptNode m globals s agrees declares store entry next ready
+  KeptNode = hypotheses.KeptNode m globals s agrees declares store entry next ready
 
   abbrev KeptExpr : Type 0
-  KeptExpr = carried.KeptExpr m globals s agrees declares store entry next ready
+  KeptExpr = hypotheses.KeptExpr m globals s agrees declares store entry next ready
 
   abbrev IsNode : List ℕ → CType → NotedLayer → Type 0
-  IsNode = carried.IsNode m globals s agrees declares store entry next ready
+  IsNode = hypotheses.IsNode m globals s agrees declares store entry next ready
 
   abbrev HasAddress : CType → NotedLayer → Type 0
-  HasAddress = carried.HasAddress m globals s agrees declares store entry next ready
+  HasAddress = hypotheses.HasAddress m globals s agrees declares store entry next ready
 
   abbrev inner_node : Node-F Name Note KeptLimits KeptNode KeptExpr → NotedLayer
-  inner_node = carried.inner_node m globals s agrees declares store entry next ready
+  inner_node = hypotheses.inner_node m globals s agrees declares store entry next ready
 
   abbrev viewed_node : NotedLayer → NodeOfViews
-  viewed_node = carried.viewed_node m globals s agrees declares store entry next ready
+  viewed_node = hypotheses.viewed_node m globals s agrees declares store entry next ready
 
   abbrev viewed_limits : LimitsLayer → Limits-F Name Note LimitsView NodeView View
-  viewed_limits = carried.viewed_limits m globals s agrees declares store entry next ready
+  viewed_limits = hypotheses.viewed_limits m globals s agrees declares store entry next ready
 
   abbrev part_node : NotedLayer → Node-F Name Note LimitsPart NodePart Part
-  part_node = carried.part_node m globals s agrees declares store entry next ready
+  part_node = hypotheses.part_node m globals s agrees declares store entry next ready
 
   abbrev part_limits : LimitsLayer → Limits-F Name Note LimitsPart NodePart Part
-  part_limits = carried.part_limits m globals s agrees declares store entry next ready
+  part_limits = hypotheses.part_limits m globals s agrees declares store entry next ready
 
   viewed_type : (e : NotedExpr) → (view s.frame e).ctype ≡ e.note.ctype
-  viewed_type = carried.viewed_type m globals s agrees declares store entry next ready
+  viewed_type = hypotheses.viewed_type m globals s agrees declares store entry next ready
 
   parted_type : (e : NotedExpr) → (part_of e).ctype ≡ e.note.ctype
-  parted_type = carried.parted_type m globals s agrees declares store entry next ready
+  parted_type = hypotheses.parted_type m globals s agrees declares store entry next ready
 
   -- ---- a node
 
@@ -161,7 +161,7 @@ module _ (m : Mode) (globals : Globals) (s : Setting) (agrees : Agrees globals s
       right_value = (part_of f.0).value s.text s.variables (k + (part_of e.0).literals)
 
       left_claims : Runs m (evaluated store left_value) → IsNotStuck (ExprClaims s store entry here e.0) (evaluated store left_value)
-      left_claims = carried.left_claims m globals s agrees declares store entry next ready here h e f typed covered scalars fresh little are k strings left
+      left_claims = hypotheses.left_claims m globals s agrees declares store entry next ready here h e f typed covered scalars fresh little are k strings left
 
       -- the right operand at a point
       abbrev IsRight : State → Type 0
@@ -171,7 +171,7 @@ module _ (m : Mode) (globals : Globals) (s : Setting) (agrees : Agrees globals s
       HasRight at = fresh_behind (view s.frame e.0) fresh here.at + length ((view s.frame f.0).fresh at) < 2 ^ 32
 
       right_claims : (at : State) → HasRight at → IsRight at → HoldsAt s store entry (record here { at = at }) → Runs m (evaluated store right_value) → IsNotStuck (ExprClaims s store entry (record here { at = at }) f.0) (evaluated store right_value)
-      right_claims = carried.right_claims m globals s agrees declares store entry next ready here h e f typed covered scalars fresh little are k strings
+      right_claims = hypotheses.right_claims m globals s agrees declares store entry next ready here h e f typed covered scalars fresh little are k strings
 
       abbrev Of : TreeOp → Type 0
       Of o = Runs m (evaluated store (of_operands s.text.layout o e.0.note.ctype f.0.note.ctype place left_value right_value))
@@ -187,18 +187,18 @@ module _ (m : Mode) (globals : Globals) (s : Setting) (agrees : Agrees globals s
           → HasRight (right_point o (view s.frame e.0) here.at) → IsRight (right_point o (view s.frame e.0) here.at) → Of o
       binary_step op.AndThen row sized room right runs =
           and_claims s store entry here h s.text.layout e.0 f.0 note.ctype place left_value right_value (left_claims (and_left m store left_value right_value runs)) (is_null e.0) (is_null f.0)
-          (λ x is c b side. carried.point_of m globals s agrees declares store entry next ready here h e.0 typed.0 k x is c b side) row.row (λ x is some there. right_claims _ room right there (and_right m store left_value right_value x is some runs))
+          (λ x is c b side. hypotheses.point_of m globals s agrees declares store entry next ready here h e.0 typed.0 k x is c b side) row.row (λ x is some there. right_claims _ room right there (and_right m store left_value right_value x is some runs))
       binary_step op.OrElse row sized room right runs =
           or_claims s store entry here h s.text.layout e.0 f.0 note.ctype place left_value right_value (left_claims (or_left m store left_value right_value runs)) (is_null e.0) (is_null f.0)
-          (λ x is c b side. carried.point_of m globals s agrees declares store entry next ready here h e.0 typed.0 k x is c b side) row.row (λ x is none there. right_claims _ room right there (or_right m store left_value right_value x is none runs))
+          (λ x is c b side. hypotheses.point_of m globals s agrees declares store entry next ready here h e.0 typed.0 k x is c b side) row.row (λ x is none there. right_claims _ room right there (or_right m store left_value right_value x is none runs))
       binary_step op.Ne row sized room right runs =
           by_both op.Ne refl row (λ a b. unequal_claims s store entry here h s.text.layout e.0 f.0 note.ctype place left_value right_value (left_claims a) (is_null e.0) (is_null f.0) row.row (right_claims here.at room right h b)) runs
       binary_step op.Add row sized room right runs =
           by_both op.Add refl row (λ a b. sum_claims s store entry here h e.0 f.0 note.ctype place left_value right_value (left_claims a) (right_claims here.at room right h b) (viewed_type e.0)
-          (λ x is. carried.index_of m globals s agrees declares store entry next ready here h e.0 typed.0 k x is) (λ x is. carried.index_of m globals s agrees declares store entry next ready here h f.0 typed.1 (k + (part_of e.0).literals) x is) row.row) runs
+          (λ x is. hypotheses.index_of m globals s agrees declares store entry next ready here h e.0 typed.0 k x is) (λ x is. hypotheses.index_of m globals s agrees declares store entry next ready here h f.0 typed.1 (k + (part_of e.0).literals) x is) row.row) runs
       binary_step op.Sub row sized room right runs =
           by_both op.Sub refl row (λ a b. difference_claims s store entry here h e.0 f.0 note.ctype place left_value right_value (left_claims a) (right_claims here.at room right h b) (viewed_type e.0)
-          (λ x is. carried.index_of m globals s agrees declares store entry next ready here h e.0 typed.0 k x is) (λ x is. carried.index_of m globals s agrees declares store entry next ready here h f.0 typed.1 (k + (part_of e.0).literals) x is) sized row.row) runs
+          (λ x is. hypotheses.index_of m globals s agrees declares store entry next ready here h e.0 typed.0 k x is) (λ x is. hypotheses.index_of m globals s agrees declares store entry next ready here h f.0 typed.1 (k + (part_of e.0).literals) x is) sized row.row) runs
       binary_step o row sized room right runs =
           by_both o refl row (λ a b. other_claims s store entry here h s.text.layout e.0 f.0 note.ctype place left_value right_value (left_claims a) (is_null e.0) (is_null f.0) o refl refl row.row (right_claims here.at room right h b)) runs
 
@@ -285,7 +285,7 @@ module _ (m : Mode) (globals : Globals) (s : Setting) (agrees : Agrees globals s
     node_step (Node-F.Bin o e f) note place row typed covered node checked address scalar fresh little are fault judged noted k strings runs =
         let parts = two_parts (λ a b. Node-F.Bin o a b) (λ a b c d e. (cc, cc)) _ _ e.0 f.0 judged in
         subst (λ t. Of t (part_of f.0).ctype) (sym (parted_type e.0)) (subst (λ u. Of e.0.note.ctype u) (sym (parted_type f.0))
-        (binary_step e f typed covered (binary_scalar e.0.note.ctype f.0.note.ctype note.ctype o (is_null e.0) (is_null f.0) (null_scalar globals s e.0 typed.0) (null_scalar globals s f.0 typed.1) row.row) fresh (left_room fresh ((view s.frame e.0).fresh here.at) _ little) are k strings note place parts.0 o row (carried.covered_sized m globals s agrees declares store entry next ready here h e.0 covered.0)
+        (binary_step e f typed covered (binary_scalar e.0.note.ctype f.0.note.ctype note.ctype o (is_null e.0) (is_null f.0) (null_scalar globals s e.0 typed.0) (null_scalar globals s f.0 typed.1) row.row) fresh (left_room fresh ((view s.frame e.0).fresh here.at) _ little) are k strings note place parts.0 o row (hypotheses.covered_sized m globals s agrees declares store entry next ready here h e.0 covered.0)
         (subst (λ us. fresh_behind (view s.frame e.0) fresh here.at + length us < 2 ^ 32) (right_fresh_is s.frame o (view s.frame e.0) f.0 here.at) (right_room fresh ((view s.frame e.0).fresh here.at) _ little)) parts.1)) runs
       where
         At : CType → CType → Expr
@@ -295,9 +295,9 @@ module _ (m : Mode) (globals : Globals) (s : Setting) (agrees : Agrees globals s
         Of t u = Runs m (evaluated store (At t u)) → IsNotStuck (NodeClaims s store entry here h note.ctype (node_view s.frame (Node-F.Bin o (view s.frame e.0) (view s.frame f.0)))) (evaluated store (At t u))
     node_step (Node-F.Pick e f g) note place row typed covered node checked address scalar fresh little are fault judged noted k strings runs =
         choice_claims s store entry here h e.0 f.0 g.0 note.ctype u v w (e.1.claims typed.0 here covered.0 scalars.0 h fresh first are parts.0 k (first_strings s e.0 rest k joined) (choice_first m store u v w runs))
-        (λ x is some. f.1.claims typed.1 here covered.1 scalars.1 h (fresh_behind (view s.frame e.0) fresh here.at) second (carried.are_on m globals s agrees declares store entry next ready here h e.0 fresh first are) parts.1 (k + (part_of e.0).literals)
+        (λ x is some. f.1.claims typed.1 here covered.1 scalars.1 h (fresh_behind (view s.frame e.0) fresh here.at) second (hypotheses.are_on m globals s agrees declares store entry next ready here h e.0 fresh first are) parts.1 (k + (part_of e.0).literals)
         (first_strings s f.0 (strings_of_expr g.0) (k + (part_of e.0).literals) behind) (choice_second m store u v w x is some runs))
-        (λ x is none. g.1.claims typed.2 here covered.2 scalars.2 h (fresh_behind (view s.frame f.0) (fresh_behind (view s.frame e.0) fresh here.at) here.at) third (carried.are_on m globals s agrees declares store entry next ready here h f.0 _ second (carried.are_on m globals s agrees declares store entry next ready here h e.0 fresh first are)) parts.2
+        (λ x is none. g.1.claims typed.2 here covered.2 scalars.2 h (fresh_behind (view s.frame f.0) (fresh_behind (view s.frame e.0) fresh here.at) here.at) third (hypotheses.are_on m globals s agrees declares store entry next ready here h f.0 _ second (hypotheses.are_on m globals s agrees declares store entry next ready here h e.0 fresh first are)) parts.2
         (k + (part_of e.0).literals + (part_of f.0).literals) (later_strings s f.0 (strings_of_expr g.0) (k + (part_of e.0).literals) behind) (choice_third m store u v w x is none runs)) row.row
       where
         u : Expr
@@ -394,7 +394,7 @@ module _ (m : Mode) (globals : Globals) (s : Setting) (agrees : Agrees globals s
         checked_target left = ⊎_elim several (⊎_elim single (⊎_elim structure pointer))
           where
             few : (view s.frame e.0).values + 1 < 2 ^ 32
-            few = carried.covered_few m globals s agrees declares store entry next ready here h e.0 covered
+            few = hypotheses.covered_few m globals s agrees declares store entry next ready here h e.0 covered
 
             structure : IsStructureTarget s e.0 → Read
             structure node = absurd (no_structure (element_of e.0.note.ctype) (ap is_scalar is ∙ scalar) node.tag node.struct)
@@ -423,7 +423,7 @@ module _ (m : Mode) (globals : Globals) (s : Setting) (agrees : Agrees globals s
                 refl refl (λ b. refl) (ap kind_of (viewed_type e.0)) (λ x c j there a at f target. target_aims s store entry next ready here h e.0 fresh few little are x c j there a at f target)
     node_step (Node-F.Un op.Address e) note place row typed covered node checked address scalar fresh little are fault judged noted k strings runs =
         e.1.address typed here covered node h fresh little are (one_part (λ a. Node-F.Un op.Address a) (λ a b e. cc) _ e.0 judged) (unbroken (view s.frame e.0).no_address bounds_address place fault) note.ctype
-        (address_row row.mode e.0.note.ctype note.ctype (some_if (has_address globals e.0) (ctype.Pointer (address_kind row.mode) e.0.note.ctype) note.ctype row.row)).0 (λ bare. kept m refl bare) k strings runs
+        (address_row row.mode e.0.note.ctype note.ctype (some_if (has_address globals e.0) (ctype.Pointer (address_kind row.mode) e.0.note.ctype) note.ctype row.row)) (λ bare. kept m refl bare) k strings runs
       where
         -- An address that is no unchecked pointer is in checked code.
         kept : (q : Mode) → m ≡ q → is_raw_kind (kind_of note.ctype) ≡ false → m ≡ Checked
@@ -468,10 +468,10 @@ module _ (m : Mode) (globals : Globals) (s : Setting) (agrees : Agrees globals s
         Read = IsNotStuck (NodeClaims s store entry here h (element_of e.0.note.ctype) made) (evaluated store (At (element_of e.0.note.ctype) e.0.note.ctype f.0.note.ctype))
 
         left : Runs m (evaluated store v) → IsNotStuck (ExprClaims s store entry here e.0) (evaluated store v)
-        left runs = carried.left_claims m globals s agrees declares store entry next ready here h e f typed covered scalars fresh first are k strings parts.0 runs
+        left runs = hypotheses.left_claims m globals s agrees declares store entry next ready here h e f typed covered scalars fresh first are k strings parts.0 runs
 
         right : Runs m (evaluated store w) → IsNotStuck (ExprClaims s store entry here f.0) (evaluated store w)
-        right runs = carried.right_claims m globals s agrees declares store entry next ready here h e f typed covered scalars fresh first are k strings here.at (right_room fresh ((view s.frame e.0).fresh here.at) ((view s.frame f.0).fresh here.at) little) parts.1 h runs
+        right runs = hypotheses.right_claims m globals s agrees declares store entry next ready here h e f typed covered scalars fresh first are k strings here.at (right_room fresh ((view s.frame e.0).fresh here.at) ((view s.frame f.0).fresh here.at) little) parts.1 h runs
 
         kept : (widened : List ℕ) → (view s.frame e.0).fresh (record here.at { widened = widened }) ++ (view s.frame f.0).fresh (record here.at { widened = widened }) ≡ (view s.frame e.0).fresh here.at ++ (view s.frame f.0).fresh here.at
         kept widened = ap (λ us. us ++ (view s.frame f.0).fresh (record here.at { widened = widened })) (fresh_same s.frame e.0 here.at widened) ∙ ap (λ us. (view s.frame e.0).fresh here.at ++ us) (fresh_same s.frame f.0 here.at widened)
@@ -486,14 +486,14 @@ module _ (m : Mode) (globals : Globals) (s : Setting) (agrees : Agrees globals s
         checked_element a b = ⊎_elim several (⊎_elim structure pointer)
           where
             few : (view s.frame e.0).values + 1 < 2 ^ 32
-            few = carried.covered_few m globals s agrees declares store entry next ready here h e.0 covered.0
+            few = hypotheses.covered_few m globals s agrees declares store entry next ready here h e.0 covered.0
 
             several : IsElement e.0 → Read
             several node =
                 read_claims globals s agrees declares store entry next ready here h (Node-F.Index (view s.frame e.0) (view s.frame f.0)) e.0 (viewed_type e.0) node place (integer_of f.0.note.ctype) v w (ExprClaims s store entry here f.0)
                 a b few fresh first are fault refl refl (λ b. refl) (ap kind_of (viewed_type e.0))
                 (λ x c j there n at g target. element_aims s store entry next ready here h e.0 fresh few first are x c (exact (integer_of f.0.note.ctype) j.number) (view s.frame f.0).form
-                (carried.index_of m globals s agrees declares store entry next ready here h f.0 typed.1 (k + (part_of e.0).literals) j there) n at (is_raw_kind (kind_of (view s.frame e.0).ctype))
+                (hypotheses.index_of m globals s agrees declares store entry next ready here h f.0 typed.1 (k + (part_of e.0).literals) j there) n at (is_raw_kind (kind_of (view s.frame e.0).ctype))
                 (ap is_raw_kind (ap kind_of (viewed_type e.0)) ∙ counted_checked (kind_of e.0.note.ctype) node.counted) g target)
 
             structure : IsStructureElement e.0 → Read
@@ -516,7 +516,7 @@ module _ (m : Mode) (globals : Globals) (s : Setting) (agrees : Agrees globals s
         room = parts_room fresh ((view s.frame e.0).fresh here.at) (own_fresh note.ctype made here.at.facts) little
 
         few : (view s.frame e.0).values + 1 < 2 ^ 32
-        few = carried.covered_few m globals s agrees declares store entry next ready here h e.0 covered
+        few = hypotheses.covered_few m globals s agrees declares store entry next ready here h e.0 covered
 
         v : Expr
         v = (part_of e.0).value s.text s.variables k
@@ -590,7 +590,7 @@ module _ (m : Mode) (globals : Globals) (s : Setting) (agrees : Agrees globals s
         Of : CType → Type 0
         Of u = Runs m (evaluated store (At u)) → IsNotStuck (NodeClaims s store entry here h note.ctype made) (evaluated store (At u))
 
-        held : IsDot s store e.0 n note.ctype → (is_raw_kind (view s.frame e.0).behind ≡ true → m ≡ Unchecked) × (is_raw_kind (view s.frame e.0).behind ≡ false → Runs m (element_at store there) → IsStructurePlace store e.0.note.ctype there)
+        held : IsDot s store e.0 n note.ctype → hypotheses.HoldsPlace m globals s agrees declares store entry next ready e.0.note.ctype (view s.frame e.0).behind there
         held node =
             e.1.place typed here covered node.operand node.tag node.struct h fresh (parts_room fresh ((view s.frame e.0).fresh here.at) (own_fresh note.ctype made here.at.facts) little) are (one_part (λ a. Node-F.Dot a n spot) (λ a b e. cc) _ e.0 judged) k strings
 
@@ -624,7 +624,7 @@ module _ (m : Mode) (globals : Globals) (s : Setting) (agrees : Agrees globals s
         first = left_room fresh ((view s.frame e.0).fresh here.at) [] (parts_room fresh ((view s.frame e.0).fresh here.at ++ []) None little)
 
         left : (view s.frame e.0).judged fresh here.at ≡ Ok e.0
-        left = (cast_parts (λ a l. Node-F.Tested x a l) (λ a b c d e. (cc, cc)) ((view s.frame e.0).judged fresh here.at) (Ok None) e.0 None judged).0
+        left = (tested_parts x ((view s.frame e.0).judged fresh here.at) (Ok None) e.0 None judged).0
 
         tested : is_tested note.ctype e.0 ≡ true
         tested = subst (λ t. is_tested t e.0 ≡ true) (sym row.row.2) row.row.1
@@ -658,7 +658,7 @@ module _ (m : Mode) (globals : Globals) (s : Setting) (agrees : Agrees globals s
         first = left_room fresh ((view s.frame e.0).fresh here.at) ((view_of_limits s.frame l.0).fresh here.at) both
 
         parts : ((view s.frame e.0).judged fresh here.at ≡ Ok e.0) × (there_judged (Some (view_of_limits s.frame l.0)) (size_of s.frame.structs (element_of note.ctype)) (fresh_behind (view s.frame e.0) fresh here.at) here.at ≡ Ok (Some l.0))
-        parts = cast_parts (λ a l. Node-F.Tested x a l) (λ a b c d e. (cc, cc)) _ _ e.0 (Some l.0) judged
+        parts = tested_parts x _ _ e.0 (Some l.0) judged
 
         tested : is_tested note.ctype e.0 ≡ true
         tested = subst (λ t. is_tested t e.0 ≡ true) (sym row.row.2) row.row.1
@@ -683,7 +683,7 @@ module _ (m : Mode) (globals : Globals) (s : Setting) (agrees : Agrees globals s
         first = left_room fresh ((view s.frame e.0).fresh here.at) [] (parts_room fresh ((view s.frame e.0).fresh here.at ++ []) None little)
 
         left : (view s.frame e.0).judged fresh here.at ≡ Ok e.0
-        left = (cast_parts (λ a l. Node-F.Trusted x a l) (λ a b c d e. (cc, cc)) ((view s.frame e.0).judged fresh here.at) (Ok None) e.0 None judged).0
+        left = (trusted_parts x ((view s.frame e.0).judged fresh here.at) (Ok None) e.0 None judged).0
 
         same : same_element note.ctype e.0.note.ctype ≡ true
         same = subst (λ t. same_element t e.0.note.ctype ≡ true) (sym row.row.2) row.row.1
@@ -714,7 +714,7 @@ module _ (m : Mode) (globals : Globals) (s : Setting) (agrees : Agrees globals s
         first = left_room fresh ((view s.frame e.0).fresh here.at) ((view_of_limits s.frame l.0).fresh here.at) both
 
         parts : ((view s.frame e.0).judged fresh here.at ≡ Ok e.0) × (there_judged (Some (view_of_limits s.frame l.0)) (size_of s.frame.structs (element_of note.ctype)) (fresh_behind (view s.frame e.0) fresh here.at) here.at ≡ Ok (Some l.0))
-        parts = cast_parts (λ a l. Node-F.Trusted x a l) (λ a b c d e. (cc, cc)) _ _ e.0 (Some l.0) judged
+        parts = trusted_parts x _ _ e.0 (Some l.0) judged
 
         same : same_element note.ctype e.0.note.ctype ≡ true
         same = subst (λ t. same_element t e.0.note.ctype ≡ true) (sym row.row.2) row.row.1

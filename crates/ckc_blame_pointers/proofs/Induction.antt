@@ -1,8 +1,7 @@
 -- The claims of all expressions that are covered, by induction.
-use Rattle.std.proofs.Common.{◌≡◌, sym, ap, subst, ◌∙◌, ℕ, ◌+◌, true, false, List}
-use Rattle.std.specs.Prelude.{◌<◌, ◌^◌, length, None, Ok}
+use Rattle.std.proofs.Common.{◌≡◌, sym, ap, subst, ◌∙◌, ℕ, ◌+◌, false, List}
+use Rattle.std.specs.Prelude.{◌<◌, ◌^◌, length, None, Ok, Option}
 use Rattle.ckc_base.specs.declared.arithmetic.Mode.{Mode}
-use Rattle.ckc_base.specs.declared.arithmetic.Mode.TheVariants.{Unchecked}
 use Rattle.ckc_types.specs.declared.types.CType.{CType}
 use Rattle.ckc_syntax.specs.declared.tree.Name.{Name}
 use Rattle.ckc_syntax.specs.declared.tree.TreeOp.TheVariants as op
@@ -11,7 +10,6 @@ use Rattle.ckc_syntax.specs.declared.tree.Node.{Node-F, out-Node, roll-Node, fol
 use Rattle.ckc_syntax.specs.declared.tree.Expr.{Expr-F, ind-Expr, roll-Expr, fold-roll-Expr, every_here-Expr}
 use Rattle.ckc_typed.specs.declared.environment.Globals.{Globals}
 use Rattle.ckc_typed.specs.declared.typed.Note.{Note}
-use Rattle.ckc_typed.specs.Operands.{is_raw_kind}
 use Rattle.ckc_typed.specs.Trees.{NotedLimits, NotedNode, NotedExpr, NotedLayer}
 use Rattle.ckc_typed.specs.Statics.{strings_of_expr}
 use Rattle.ckc_typed_welltyped.specs.Expressions.{AnyLimits, AnyNode}
@@ -37,63 +35,63 @@ use Rattle.ckc_blame_pointers.proofs.Inside.{PartsEvery, parts_every, node_every
 use Rattle.ckc_blame_pointers.proofs.Nodes.{node_fresh, NodeClaims}
 use Rattle.ckc_blame_pointers.proofs.Binary.{ExprClaims}
 use Rattle.ckc_blame_pointers.proofs.Later.{parts_room}
-use Rattle.ckc_blame_pointers.proofs.Reach.{IsStructurePlace, element_at}
-use Rattle.ckc_blame_pointers.proofs.Carried as carried
+use Rattle.ckc_blame_pointers.proofs.Hypotheses as hypotheses
 use Rattle.ckc_blame_pointers.proofs.Exprs as steps
 use Rattle.ckc_blame_pointers.proofs.Locations as locations
 use Rattle.ckc_blame_pointers.proofs.Strings.{node_strings_are, expr_strings_are}
+use Rattle.ckc_types.specs.declared.types.Kind.{Kind}
 
 module _ (m : Mode) (globals : Globals) (s : Setting) (agrees : Agrees globals s) (declares : DeclareLocals s) (store : Store) (entry : List ℕ) (next : ℕ) (ready : IsSoundStore s store next) where
   abbrev NodeHolds : NotedNode → Type 0
-  NodeHolds = carried.NodeHolds m globals s agrees declares store entry next ready
+  NodeHolds = hypotheses.NodeHolds m globals s agrees declares store entry next ready
 
   abbrev ExprHolds : NotedExpr → Type 0
-  ExprHolds = carried.ExprHolds m globals s agrees declares store entry next ready
+  ExprHolds = hypotheses.ExprHolds m globals s agrees declares store entry next ready
 
   abbrev PartsHold : LimitsLayer → Type 0
-  PartsHold = carried.PartsHold m globals s agrees declares store entry next ready
+  PartsHold = hypotheses.PartsHold m globals s agrees declares store entry next ready
 
   abbrev LimitsHold : NotedLimits → Type 0
-  LimitsHold = carried.LimitsHold m globals s agrees declares store entry next ready
+  LimitsHold = hypotheses.LimitsHold m globals s agrees declares store entry next ready
 
   abbrev KeptLimits : Type 0
-  KeptLimits = carried.KeptLimits m globals s agrees declares store entry next ready
+  KeptLimits = hypotheses.KeptLimits m globals s agrees declares store entry next ready
 
   abbrev KeptNode : Type 0
-  KeptNode = carried.KeptNode m globals s agrees declares store entry next ready
+  KeptNode = hypotheses.KeptNode m globals s agrees declares store entry next ready
 
   abbrev KeptExpr : Type 0
-  KeptExpr = carried.KeptExpr m globals s agrees declares store entry next ready
+  KeptExpr = hypotheses.KeptExpr m globals s agrees declares store entry next ready
 
   abbrev IsNode : List ℕ → CType → NotedLayer → Type 0
-  IsNode = carried.IsNode m globals s agrees declares store entry next ready
+  IsNode = hypotheses.IsNode m globals s agrees declares store entry next ready
 
   abbrev HasAddress : CType → NotedLayer → Type 0
-  HasAddress = carried.HasAddress m globals s agrees declares store entry next ready
+  HasAddress = hypotheses.HasAddress m globals s agrees declares store entry next ready
 
-  abbrev HoldsPlace : CType → NodeView → Place → Type 0
-  HoldsPlace = carried.HoldsPlace m globals s agrees declares store entry next ready
+  abbrev HoldsPlace : CType → Option Kind → Place → Type 0
+  HoldsPlace = hypotheses.HoldsPlace m globals s agrees declares store entry next ready
 
   abbrev inner_node : Node-F Name Note KeptLimits KeptNode KeptExpr → NotedLayer
-  inner_node = carried.inner_node m globals s agrees declares store entry next ready
+  inner_node = hypotheses.inner_node m globals s agrees declares store entry next ready
 
   abbrev inner_limits : Limits-F Name Note KeptLimits KeptNode KeptExpr → LimitsLayer
-  inner_limits = carried.inner_limits m globals s agrees declares store entry next ready
+  inner_limits = hypotheses.inner_limits m globals s agrees declares store entry next ready
 
   abbrev inner_expr : Expr-F Name Note KeptLimits KeptNode KeptExpr → Expr-F Name Note NotedLimits NotedNode NotedExpr
-  inner_expr = carried.inner_expr m globals s agrees declares store entry next ready
+  inner_expr = hypotheses.inner_expr m globals s agrees declares store entry next ready
 
   abbrev viewed_node : NotedLayer → NodeOfViews
-  viewed_node = carried.viewed_node m globals s agrees declares store entry next ready
+  viewed_node = hypotheses.viewed_node m globals s agrees declares store entry next ready
 
   abbrev viewed_expr : Expr-F Name Note NotedLimits NotedNode NotedExpr → Expr-F Name Note LimitsView NodeView View
-  viewed_expr = carried.viewed_expr m globals s agrees declares store entry next ready
+  viewed_expr = hypotheses.viewed_expr m globals s agrees declares store entry next ready
 
   abbrev part_node : NotedLayer → Node-F Name Note LimitsPart NodePart Part
-  part_node = carried.part_node m globals s agrees declares store entry next ready
+  part_node = hypotheses.part_node m globals s agrees declares store entry next ready
 
   abbrev part_expr : Expr-F Name Note NotedLimits NotedNode NotedExpr → Expr-F Name Note LimitsPart NodePart Part
-  part_expr = carried.part_expr m globals s agrees declares store entry next ready
+  part_expr = hypotheses.part_expr m globals s agrees declares store entry next ready
 
   -- ---- the induction
 
@@ -138,7 +136,7 @@ module _ (m : Mode) (globals : Globals) (s : Setting) (agrees : Agrees globals s
         fold-roll-Node Name Note LimitsView NodeView View limits_view (node_view s.frame) expr_view (inner_node y) in
         let q_is : part_of_node (roll-Node Name Note (inner_node y)) ≡ node_parts (part_node (inner_node y)) =
         fold-roll-Node Name Note LimitsPart NodePart Part limits_parts node_parts expr_parts (inner_node y) in
-        let P : NodeView → NodePart → Type 0 = λ n q. HoldsPlace note.ctype n (q.place note place s.text s.variables k) in
+        let P : NodeView → NodePart → Type 0 = λ n q. HoldsPlace note.ctype n.behind (q.place note place s.text s.variables k) in
         subst (λ n. P n (part_of_node (roll-Node Name Note (inner_node y)))) (sym n_is)
         (subst (λ q. P (node_view s.frame (viewed_node (inner_node y))) q) (sym q_is)
         (locations.place_step m globals s agrees declares store entry next ready here h y note place (subst (λ z. IsRow globals s z note) out row)
@@ -190,8 +188,7 @@ module _ (m : Mode) (globals : Globals) (s : Setting) (agrees : Agrees globals s
         judged_is (view_of_node s.frame y.node.0) y.pos y.note y.node.0 fresh here.at (subst (λ (v : View). v.judged fresh here.at ≡ Ok e) v_is judged) in
         let row : IsRow globals s (out-Node Name Note y.node.0) y.note = every_here-Expr Name Note AnyLimits AnyNode (HasRow globals s) e typed in
         let cover : IsCoveredExpr m s store here.seen (record { node = y.node.0; pos = y.pos; note = y.note }) = every_here-Expr Name Note AnyLimits AnyNode (IsCoveredExpr m s store here.seen) e covered in
-        let P : View → Part → Type 0 = λ v q. (is_raw_kind v.behind ≡ true → m ≡ Unchecked)
-        × (is_raw_kind v.behind ≡ false → Runs m (element_at store (q.place s.text s.variables k)) → IsStructurePlace store y.note.ctype (q.place s.text s.variables k)) in
+        let P : View → Part → Type 0 = λ v q. HoldsPlace y.note.ctype v.behind (q.place s.text s.variables k) in
         subst (λ v. P v (part_of e)) (sym v_is) (subst (λ q. P (expr_view (viewed_expr (inner_expr y))) q) (sym q_is)
         (y.node.1.place y.note y.pos row (node_every (HasRow globals s) e typed) here (node_every (IsCoveredExpr m s store here.seen) e covered) cover.node structure tag struct h fresh (parts_room fresh ((view_of_node s.frame y.node.0).fresh here.at) (own_fresh y.note.ctype (view_of_node s.frame y.node.0) here.at.facts) (subst (λ (v : View). fresh + length (v.fresh here.at) < 2 ^ 32) v_is little)) are seen.node seen.fault k (subst (λ xs. AreStrings s k xs) (expr_strings_are (inner_expr y)) strings)));
   })

@@ -5,7 +5,7 @@ use Rattle.ckc_base.specs.declared.places.Pos.{Pos}
 use Rattle.ckc_base.specs.declared.places.Refusal.{Refusal}
 use Rattle.ckc_base.specs.Outcomes.{Outcome, bind, unless, refused}
 use Rattle.ckc_syntax.specs.declared.tree.Name.{Name}
-use Rattle.ckc_typed.specs.Trees.{NotedExpr}
+use Rattle.ckc_typed.specs.Trees.{NotedExpr, TypeTree}
 use Rattle.ckc_syntax.specs.declared.tree.Limits.{Limits-F, map-Limits, out-Limits, roll-Limits, every-Limits, every_held-Limits}
 use Rattle.ckc_syntax.specs.declared.tree.Node.{Node-F, map-Node, out-Node, roll-Node, fold_out-Node, every-Node, every_held-Node, the_lemmas}
 use Rattle.ckc_syntax.specs.declared.tree.Node.TheVariants as node
@@ -180,13 +180,21 @@ limits_part made same o b code pos e is =
     by a false is = (same_limits (made a) (made e) is, refl)
 
 -- the operand and the limits of a bounds cast
-pub cast_parts : (made : NotedExpr → Option NotedLimits → NotedLayer) → ((a b : NotedExpr) (c d : Option NotedLimits) → made a c ≡ made b d → (a ≡ b) × (c ≡ d)) → (o : Outcome NotedExpr) (q : Outcome (Option NotedLimits)) (e : NotedExpr) (l : Option NotedLimits)
+cast_parts : (made : NotedExpr → Option NotedLimits → NotedLayer) → ((a b : NotedExpr) (c d : Option NotedLimits) → made a c ≡ made b d → (a ≡ b) × (c ≡ d)) → (o : Outcome NotedExpr) (q : Outcome (Option NotedLimits)) (e : NotedExpr) (l : Option NotedLimits)
     → bind o (λ a. bind q (λ k. Ok (node_of (made a k)))) ≡ Ok (node_of (made e l)) → (o ≡ Ok e) × (q ≡ Ok l)
 cast_parts made same o q e l is =
     let b = bind_is o (λ a. bind q (λ k. Ok (node_of (made a k)))) (node_of (made e l)) is in
     let c = bind_is q (λ k. Ok (node_of (made b.0 k))) (node_of (made e l)) b.2 in
     let both = same b.0 e c.0 l (same_layer (made b.0 c.0) (made e l) c.2) in
     (b.1 ∙ ap Ok both.0, c.1 ∙ ap Ok both.1)
+
+pub tested_parts : (w : TypeTree) (o : Outcome NotedExpr) (q : Outcome (Option NotedLimits)) (e : NotedExpr) (l : Option NotedLimits)
+    → bind o (λ a. bind q (λ k. Ok (node.Tested w a k))) ≡ Ok (node.Tested w e l) → (o ≡ Ok e) × (q ≡ Ok l)
+tested_parts w o q e l is = cast_parts (λ a k. Node-F.Tested w a k) (λ a b c d e. (cc, cc)) o q e l is
+
+pub trusted_parts : (w : TypeTree) (o : Outcome NotedExpr) (q : Outcome (Option NotedLimits)) (e : NotedExpr) (l : Option NotedLimits)
+    → bind o (λ a. bind q (λ k. Ok (node.Trusted w a k))) ≡ Ok (node.Trusted w e l) → (o ≡ Ok e) × (q ≡ Ok l)
+trusted_parts w o q e l is = cast_parts (λ a k. Node-F.Trusted w a k) (λ a b c d e. (cc, cc)) o q e l is
 
 -- of limits between two ends there are none
 pub no_ends : {A B C : Type 0} (o : Outcome A) (q : Outcome B) (code : ℕ) (pos : Pos) (c : C) → bind o (λ a. bind q (λ b. refused code pos)) ≡ Ok c → ⊥

@@ -52,6 +52,6 @@ pub mod Trusted
 pub mod RawNames
 pub mod RawCasts
 pub mod Runs
-pub mod Carried
+pub mod Hypotheses
 pub mod Locations
 pub mod BoundsCasts

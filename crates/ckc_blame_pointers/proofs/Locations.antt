@@ -1,6 +1,6 @@
 -- The place and the address of each node that has one, from the claims of its parts.
 use Rattle.std.proofs.Common.{⊎_elim, ◌≡◌, inl, inr, refl, sym, ap, subst, ◌∙◌, ℕ, ◌+◌, Bool, true, false, List}
-use Rattle.std.specs.Prelude.{◌<◌, ◌^◌, ◌&&◌, not, length, if◌then◌else◌, None, Some, Ok}
+use Rattle.std.specs.Prelude.{◌<◌, ◌^◌, ◌&&◌, not, length, if◌then◌else◌, None, Some, Ok, Option}
 use Rattle.ckc_base.specs.declared.arithmetic.Mode.{Mode}
 use Rattle.ckc_base.specs.declared.arithmetic.Mode.TheVariants.{Checked, Unchecked}
 use Rattle.ckc_base.specs.declared.places.Pos.{Pos}
@@ -53,60 +53,61 @@ use Rattle.ckc_blame_pointers.proofs.Dots.{object_structure}
 use Rattle.ckc_blame_pointers.proofs.Scalars.{integer_scalar, moved_pointer, pointer_scalar, through_scalar, no_structure, true_if, target_scalar, index_scalar}
 use Rattle.std.proofs.lemmas.Bool.{and_parts}
 use Rattle.ckc_blame_pointers.proofs.Strings.{strings_in_node}
-use Rattle.ckc_blame_pointers.proofs.Carried as carried
-use Rattle.ckc_blame_pointers.proofs.Carried.{only, none_of, some_if, not_raw}
+use Rattle.ckc_blame_pointers.proofs.Hypotheses as hypotheses
+use Rattle.ckc_blame_pointers.proofs.Hypotheses.{only, none_of, some_if, not_raw}
 use Rattle.ckc_blame_pointers.proofs.RawNames.{raw_address_claims}
 use Rattle.ckc_blame_pointers.proofs.Runs.{gives_meant, operands_run, address_runs, pointer_runs, reached_run}
 use Rattle.ckc_blame_pointers.proofs.Structures.{IsStructureAt}
+use Rattle.ckc_types.specs.declared.types.Kind.{Kind}
 
 module _ (m : Mode) (globals : Globals) (s : Setting) (agrees : Agrees globals s) (declares : DeclareLocals s) (store : Store) (entry : List ℕ) (next : ℕ) (ready : IsSoundStore s store next) where
   abbrev NodeHolds : NotedNode → Type 0
-  NodeHolds = carried.NodeHolds m globals s agrees declares store entry next ready
+  NodeHolds = hypotheses.NodeHolds m globals s agrees declares store entry next ready
 
   abbrev ExprHolds : NotedExpr → Type 0
-  ExprHolds = carried.ExprHolds m globals s agrees declares store entry next ready
+  ExprHolds = hypotheses.ExprHolds m globals s agrees declares store entry next ready
 
   abbrev PartsHold : LimitsLayer → Type 0
-  PartsHold = carried.PartsHold m globals s agrees declares store entry next ready
+  PartsHold = hypotheses.PartsHold m globals s agrees declares store entry next ready
 
   abbrev KeptLimits : Type 0
-  KeptLimits = carried.KeptLimits m globals s agrees declares store entry next ready
+  KeptLimits = hypotheses.KeptLimits m globals s agrees declares store entry next ready
 
   abbrev KeptNode : Type 0
-  KeptNode = carried.KeptNode m globals s agrees declares store entry next ready
+  KeptNode = hypotheses.KeptNode m globals s agrees declares store entry next ready
 
   abbrev KeptExpr : Type 0
-  KeptExpr = carried.KeptExpr m globals s agrees declares store entry next ready
+  KeptExpr = hypotheses.KeptExpr m globals s agrees declares store entry next ready
 
   abbrev IsNode : List ℕ → CType → NotedLayer → Type 0
-  IsNode = carried.IsNode m globals s agrees declares store entry next ready
+  IsNode = hypotheses.IsNode m globals s agrees declares store entry next ready
 
-  abbrev HoldsPlace : CType → NodeView → Place → Type 0
-  HoldsPlace = carried.HoldsPlace m globals s agrees declares store entry next ready
+  abbrev HoldsPlace : CType → Option Kind → Place → Type 0
+  HoldsPlace = hypotheses.HoldsPlace m globals s agrees declares store entry next ready
 
   abbrev HasAddress : CType → NotedLayer → Type 0
-  HasAddress = carried.HasAddress m globals s agrees declares store entry next ready
+  HasAddress = hypotheses.HasAddress m globals s agrees declares store entry next ready
 
   abbrev inner_node : Node-F Name Note KeptLimits KeptNode KeptExpr → NotedLayer
-  inner_node = carried.inner_node m globals s agrees declares store entry next ready
+  inner_node = hypotheses.inner_node m globals s agrees declares store entry next ready
 
   abbrev viewed_node : NotedLayer → NodeOfViews
-  viewed_node = carried.viewed_node m globals s agrees declares store entry next ready
+  viewed_node = hypotheses.viewed_node m globals s agrees declares store entry next ready
 
   abbrev viewed_limits : LimitsLayer → Limits-F Name Note LimitsView NodeView View
-  viewed_limits = carried.viewed_limits m globals s agrees declares store entry next ready
+  viewed_limits = hypotheses.viewed_limits m globals s agrees declares store entry next ready
 
   abbrev part_node : NotedLayer → Node-F Name Note LimitsPart NodePart Part
-  part_node = carried.part_node m globals s agrees declares store entry next ready
+  part_node = hypotheses.part_node m globals s agrees declares store entry next ready
 
   abbrev part_limits : LimitsLayer → Limits-F Name Note LimitsPart NodePart Part
-  part_limits = carried.part_limits m globals s agrees declares store entry next ready
+  part_limits = hypotheses.part_limits m globals s agrees declares store entry next ready
 
   viewed_type : (e : NotedExpr) → (view s.frame e).ctype ≡ e.note.ctype
-  viewed_type = carried.viewed_type m globals s agrees declares store entry next ready
+  viewed_type = hypotheses.viewed_type m globals s agrees declares store entry next ready
 
   parted_type : (e : NotedExpr) → (part_of e).ctype ≡ e.note.ctype
-  parted_type = carried.parted_type m globals s agrees declares store entry next ready
+  parted_type = hypotheses.parted_type m globals s agrees declares store entry next ready
 
   module _ (here : Here) (h : HoldsAt s store entry here) where
     -- ---- the place of a structure
@@ -114,7 +115,7 @@ module _ (m : Mode) (globals : Globals) (s : Setting) (agrees : Agrees globals s
     pub place_step : (y : Node-F Name Note KeptLimits KeptNode KeptExpr) (note : Note) (place : Pos) → IsRow globals s (inner_node y) note → PartsEvery (HasRow globals s) (inner_node y)
         → PartsEvery (IsCoveredExpr m s store here.seen) (inner_node y) → IsNode here.seen note.ctype (inner_node y) → IsStructureNode (inner_node y) → (tag : ℕ) → out-CType note.ctype ≡ CType-F.Struct tag
         → (fresh : ℕ) → fresh + length ((node_view s.frame (viewed_node (inner_node y))).fresh here.at) < 2 ^ 32 → AreFresh s.frame fresh → node_judged s.frame (viewed_node (inner_node y)) note.ctype fresh here.at ≡ Ok (node_of (inner_node y))
-        → fault_of_node s.frame (viewed_node (inner_node y)) place fresh here.at ≡ None → (k : ℕ) → AreStrings s k (strings_in_node (inner_node y)) → HoldsPlace note.ctype (node_view s.frame (viewed_node (inner_node y))) (node_place (part_node (inner_node y)) note place s.text s.variables k)
+        → fault_of_node s.frame (viewed_node (inner_node y)) place fresh here.at ≡ None → (k : ℕ) → AreStrings s k (strings_in_node (inner_node y)) → HoldsPlace note.ctype (node_view s.frame (viewed_node (inner_node y))).behind (node_place (part_node (inner_node y)) note place s.text s.variables k)
     place_step (Node-F.Name (name.Static j)) note place row typed covered node structure tag struct fresh little are judged fault k strings = (
       λ raw. absurd (cc),
       λ bare runs.
@@ -125,7 +126,7 @@ module _ (m : Mode) (globals : Globals) (s : Setting) (agrees : Agrees globals s
           (λ c. object_structure s store next ready note.ctype j c place) c) c) c) (only node),
     )
     place_step (Node-F.Un op.Deref e) note place row typed covered node structure tag struct fresh little are judged fault k strings = (
-      λ raw. carried.raw_mode m globals s agrees declares store entry next ready here h e.0 covered raw,
+      λ raw. hypotheses.raw_mode m globals s agrees declares store entry next ready here h e.0 covered raw,
       λ bare runs.
           subst (λ u. IsStructurePlace store u (target_place s.text.layout (part_of e.0).ctype place v)) is
           (subst (λ t. IsStructurePlace store (element_of e.0.note.ctype) (target_place s.text.layout t place v)) (sym (parted_type e.0))
@@ -148,11 +149,11 @@ module _ (m : Mode) (globals : Globals) (s : Setting) (agrees : Agrees globals s
 
         there : Runs m (evaluated store v) → IsStructureTarget s e.0 → IsStructurePlace store (element_of e.0.note.ctype) (target_place s.text.layout e.0.note.ctype place v)
         there runs n =
-            target_structure s store entry next ready here h e.0 fresh (carried.covered_few m globals s agrees declares store entry next ready here h e.0 covered) little are v
+            target_structure s store entry next ready here h e.0 fresh (hypotheses.covered_few m globals s agrees declares store entry next ready here h e.0 covered) little are v
             (e.1.claims typed here covered (target_scalar e.0 note.ctype row.row) h fresh little are (one_part (λ a. Node-F.Un op.Deref a) (λ a b e. cc) _ e.0 judged) k strings runs)
-            (λ counted. ranged_pointer s store entry next ready here h e.0 fresh (carried.covered_few m globals s agrees declares store entry next ready here h e.0 covered) little are place (ap is_counted_kind (ap kind_of (viewed_type e.0)) ∙ counted) fault) n.tag n.struct n.through place
+            (λ counted. ranged_pointer s store entry next ready here h e.0 fresh (hypotheses.covered_few m globals s agrees declares store entry next ready here h e.0 covered) little are place (ap is_counted_kind (ap kind_of (viewed_type e.0)) ∙ counted) fault) n.tag n.struct n.through place
     place_step (Node-F.Index e f) note place row typed covered node structure tag struct fresh little are judged fault k strings = (
-      λ raw. carried.raw_mode m globals s agrees declares store entry next ready here h e.0 covered.0 raw,
+      λ raw. hypotheses.raw_mode m globals s agrees declares store entry next ready here h e.0 covered.0 raw,
       λ bare runs.
           subst (λ u. IsStructurePlace store u (element_place s.text.layout (part_of e.0).ctype place (integer_of (part_of f.0).ctype) v w)) is
           (subst (λ t. Runs m (element_at store (element_place s.text.layout t place (integer_of (part_of f.0).ctype) v w)) → IsStructurePlace store (element_of e.0.note.ctype) (element_place s.text.layout t place (integer_of (part_of f.0).ctype) v w))
@@ -183,11 +184,11 @@ module _ (m : Mode) (globals : Globals) (s : Setting) (agrees : Agrees globals s
 
         there : Runs m (evaluated store v) → Runs m (evaluated store w) → IsStructureElement e.0 → IsStructurePlace store (element_of e.0.note.ctype) (element_place s.text.layout e.0.note.ctype place (integer_of (part_of f.0).ctype) v w)
         there a b n =
-            element_structure s store entry next ready here h e.0 fresh (carried.covered_few m globals s agrees declares store entry next ready here h e.0 covered.0) first are v
-            (carried.left_claims m globals s agrees declares store entry next ready here h e f typed covered scalars fresh first are k strings parts.0 a)
-            (λ counted. ranged_pointer s store entry next ready here h e.0 fresh (carried.covered_few m globals s agrees declares store entry next ready here h e.0 covered.0) first are place (ap is_counted_kind (ap kind_of (viewed_type e.0)) ∙ counted) fault) n.tag n.struct n.array place
+            element_structure s store entry next ready here h e.0 fresh (hypotheses.covered_few m globals s agrees declares store entry next ready here h e.0 covered.0) first are v
+            (hypotheses.left_claims m globals s agrees declares store entry next ready here h e f typed covered scalars fresh first are k strings parts.0 a)
+            (λ counted. ranged_pointer s store entry next ready here h e.0 fresh (hypotheses.covered_few m globals s agrees declares store entry next ready here h e.0 covered.0) first are place (ap is_counted_kind (ap kind_of (viewed_type e.0)) ∙ counted) fault) n.tag n.struct n.array place
             (integer_of (part_of f.0).ctype) w (ExprClaims s store entry here f.0)
-            (carried.right_claims m globals s agrees declares store entry next ready here h e f typed covered scalars fresh first are k strings here.at (right_room fresh ((view s.frame e.0).fresh here.at) ((view s.frame f.0).fresh here.at) little) parts.1 h b)
+            (hypotheses.right_claims m globals s agrees declares store entry next ready here h e f typed covered scalars fresh first are k strings here.at (right_room fresh ((view s.frame e.0).fresh here.at) ((view s.frame f.0).fresh here.at) little) parts.1 h b)
     place_step y note place row typed covered node structure tag struct fresh little are judged fault k strings = absurd structure
 
     -- ---- the address of a place
@@ -217,7 +218,7 @@ module _ (m : Mode) (globals : Globals) (s : Setting) (agrees : Agrees globals s
     address_step (Node-F.Un op.Deref e) note place row typed covered node addressed fresh little are judged fault free r type kept k strings runs =
         weaker (evaluated store ((part_of e.0).value s.text s.variables k)) (e.1.claims typed here covered (target_scalar e.0 note.ctype row.row) h fresh little are (one_part (λ a. Node-F.Un op.Deref a) (λ a b e. cc) _ e.0 judged) k strings runs)
         (λ x there c. target_claims s store entry here h e.0 note place r (address_of_target r note.ctype (element_of e.0.note.ctype) (sym is) type)
-        (λ checked. not_raw m (is_raw_kind (kind_of e.0.note.ctype)) (kept checked) (carried.covered_here m globals s agrees declares store entry next ready here h e.0 covered).checked) x c)
+        (λ checked. not_raw m (is_raw_kind (kind_of e.0.note.ctype)) (kept checked) (hypotheses.covered_here m globals s agrees declares store entry next ready here h e.0 covered).checked) x c)
       where
         is : element_of e.0.note.ctype ≡ note.ctype
         is = some_if (is_pointer e.0.note.ctype && not (is_void (element_of e.0.note.ctype))) (element_of e.0.note.ctype) note.ctype row.row
@@ -258,9 +259,9 @@ module _ (m : Mode) (globals : Globals) (s : Setting) (agrees : Agrees globals s
         there runs =
             operands_run m store s.text.layout (NodeClaims s store entry here h r made) e.0.note.ctype f.0.note.ctype place v w op.Add false false e.0.note.ctype refl sum_row runs
             (λ a b. weaker (evaluated store (of_operands s.text.layout op.Add e.0.note.ctype f.0.note.ctype place v w))
-            (sum_claims s store entry here h e.0 f.0 e.0.note.ctype place v w (carried.left_claims m globals s agrees declares store entry next ready here h e f typed covered scalars fresh first are k strings parts.0 a)
-            (carried.right_claims m globals s agrees declares store entry next ready here h e f typed covered scalars fresh first are k strings here.at (right_room fresh ((view s.frame e.0).fresh here.at) ((view s.frame f.0).fresh here.at) little) parts.1 h b) (viewed_type e.0)
-            (λ x is. carried.index_of m globals s agrees declares store entry next ready here h e.0 typed.0 k x is) (λ x is. carried.index_of m globals s agrees declares store entry next ready here h f.0 typed.1 (k + (part_of e.0).literals) x is) sum_row)
+            (sum_claims s store entry here h e.0 f.0 e.0.note.ctype place v w (hypotheses.left_claims m globals s agrees declares store entry next ready here h e f typed covered scalars fresh first are k strings parts.0 a)
+            (hypotheses.right_claims m globals s agrees declares store entry next ready here h e f typed covered scalars fresh first are k strings here.at (right_room fresh ((view s.frame e.0).fresh here.at) ((view s.frame f.0).fresh here.at) little) parts.1 h b) (viewed_type e.0)
+            (λ x is. hypotheses.index_of m globals s agrees declares store entry next ready here h e.0 typed.0 k x is) (λ x is. hypotheses.index_of m globals s agrees declares store entry next ready here h f.0 typed.1 (k + (part_of e.0).literals) x is) sum_row)
             (λ x there c. index_claims s store entry here h e.0 note place r (address_of_target r note.ctype (element_of e.0.note.ctype) (sym is) type) f.0
             (moved_pointer e.0.note.ctype (and_parts (is_moved e.0.note.ctype) (is_integer f.0.note.ctype) moved).0) (viewed_type e.0) x c))
     address_step (Node-F.Name (name.Static j)) note place row typed covered node addressed fresh little are judged fault free r type kept k strings runs =
@@ -292,9 +293,9 @@ module _ (m : Mode) (globals : Globals) (s : Setting) (agrees : Agrees globals s
             (address_node s here note place r (node_view s.frame (Node-F.Arrow (view s.frame e.0) n spot)) (fresh_same s.frame e.0 here.at)
             (λ own first fresh at. ap (λ b. if b then range.Missing else range_of_one own.value) (ap is_raw_kind (ap kind_of (viewed_type e.0)) ∙ through_checked e.0.note.ctype addressed.1)) (λ first facts. refl))
             (element_of e.0.note.ctype) n addressed.0 (free_there s agrees.structs (element_of e.0.note.ctype) note.ctype n addressed.0 (element_of (view s.frame e.0).ctype) (ap element_of (viewed_type e.0)) free) (target_place s.text.layout e.0.note.ctype place v)
-            (target_structure s store entry next ready here h e.0 fresh (carried.covered_few m globals s agrees declares store entry next ready here h e.0 covered) little are v
+            (target_structure s store entry next ready here h e.0 fresh (hypotheses.covered_few m globals s agrees declares store entry next ready here h e.0 covered) little are v
             (e.1.claims typed here covered (through_scalar s e.0.note.ctype addressed.1) h fresh little are (one_part (λ a. Node-F.Arrow a n spot) (λ a b e. cc) _ e.0 judged) k strings (inner runs))
-            (λ counted. ranged_pointer s store entry next ready here h e.0 fresh (carried.covered_few m globals s agrees declares store entry next ready here h e.0 covered) little are place (ap is_counted_kind (ap kind_of (viewed_type e.0)) ∙ counted) fault) addressed.0.tag addressed.0.struct addressed.1 place)
+            (λ counted. ranged_pointer s store entry next ready here h e.0 fresh (hypotheses.covered_few m globals s agrees declares store entry next ready here h e.0 covered) little are place (ap is_counted_kind (ap kind_of (viewed_type e.0)) ∙ counted) fault) addressed.0.tag addressed.0.struct addressed.1 place)
 
         unchecked : (m ≡ Unchecked) × (IsRaw e.0 × IsScalarMember s (element_of e.0.note.ctype) note.ctype n) → Of e.0.note.ctype
         unchecked addressed runs =
@@ -317,8 +318,7 @@ module _ (m : Mode) (globals : Globals) (s : Setting) (agrees : Agrees globals s
         operand : IsStructureNode (out-Node Name Note e.0.node)
         operand = ⊎_elim (λ (n : IsDot s store e.0 n note.ctype). n.operand) (λ u. raw_structure (out-Node Name Note e.0.node) u.1.0) node
 
-        place_there : IsScalarMember s e.0.note.ctype note.ctype n → (is_raw_kind (view s.frame e.0).behind ≡ true → m ≡ Unchecked)
-            × (is_raw_kind (view s.frame e.0).behind ≡ false → Runs m (element_at store ((part_of e.0).place s.text s.variables k)) → IsStructurePlace store e.0.note.ctype ((part_of e.0).place s.text s.variables k))
+        place_there : IsScalarMember s e.0.note.ctype note.ctype n → HoldsPlace e.0.note.ctype (view s.frame e.0).behind ((part_of e.0).place s.text s.variables k)
         place_there member = e.1.place typed here covered operand member.tag member.struct h fresh little are (one_part (λ a. Node-F.Dot a n spot) (λ a b e. cc) _ e.0 judged) k strings
 
         by_kind : (b : Bool) → is_raw_kind (view s.frame e.0).behind ≡ b → IsScalarMember s e.0.note.ctype note.ctype n → Of e.0.note.ctype

@@ -153,7 +153,7 @@ string_no_one Checked e = absurd (cc)
 string_no_one Unchecked e = absurd (cc)
 
 address_no_one : (mode : Mode) (t r : CType) → ctype.Pointer (address_kind mode) t ≡ r → kind_of r ≡ Some kind.One → ⊥
-address_no_one mode t r e one = (address_row mode t r e).0.several one
+address_no_one mode t r e one = (address_row mode t r e).several one
 
 -- ---- ranges
 

@@ -36,42 +36,14 @@ use Rattle.ckc_blame_pointers.proofs.Reach.{ComesTo, element_at, element_same}
 
 -- ---- evaluations
 
-module _ {A : Type 0} (m : Mode) (P : A → Type 0) where
-  -- What holds of an evaluation that runs is what it comes to.
-  pub comes_run : (r : Result A Halt) → (Runs m r → Comes Checked P r) → Comes m P r
-  comes_run r next = by m r next
-    where
-      by : (m : Mode) (r : Result A Halt) → (Runs m r → Comes Checked P r) → Comes m P r
-      by Checked r next = next tt
-      by Unchecked (Ok a) next = next (λ e. absurd (cc))
-      by Unchecked (Err (halt.Stopped why at)) next = tt
-      by Unchecked (Err halt.Stuck) next = tt
-
-  pub run_comes : (r : Result A Halt) → Comes m P r → Runs m r → Comes Checked P r
-  run_comes r c runs = by m r c runs
-    where
-      by : (m : Mode) (r : Result A Halt) → Comes m P r → Runs m r → Comes Checked P r
-      by Checked r c runs = c
-      by Unchecked (Ok a) c runs = c
-      by Unchecked (Err (halt.Stopped why at)) c runs = tt
-      by Unchecked (Err halt.Stuck) c runs = runs refl
-
--- the same of values
+-- What holds of an evaluation that runs is what it comes to.
 pub comes_meant : (m : Mode) (P : Value → Type 0) (r : Result Value Halt) → (Runs m r → IsNotStuck P r) → Comes m P r
-comes_meant m P r next = comes_run m P r (λ runs. by r (next runs))
-  where
-    by : (r : Result Value Halt) → IsNotStuck P r → Comes Checked P r
-    by (Ok v) h = h
-    by (Err (halt.Stopped why at)) h = tt
-    by (Err halt.Stuck) h = h
-
-pub meant_comes : (m : Mode) (P : Value → Type 0) (r : Result Value Halt) → Comes m P r → Runs m r → IsNotStuck P r
-meant_comes m P r c runs = by r (run_comes m P r c runs)
-  where
-    by : (r : Result Value Halt) → Comes Checked P r → IsNotStuck P r
-    by (Ok v) h = h
-    by (Err (halt.Stopped why at)) h = tt
-    by (Err halt.Stuck) h = h
+comes_meant Checked P (Ok v) next = next tt
+comes_meant Checked P (Err (halt.Stopped why at)) next = tt
+comes_meant Checked P (Err halt.Stuck) next = next tt
+comes_meant Unchecked P (Ok v) next = next (λ e. absurd (cc))
+comes_meant Unchecked P (Err (halt.Stopped why at)) next = tt
+comes_meant Unchecked P (Err halt.Stuck) next = tt
 
 -- In unchecked code, what holds of the value of an evaluation that runs is enough.
 pub gives_meant : (m : Mode) (P : Value → Type 0) (r : Result Value Halt) → m ≡ Unchecked → IfGives P r → Runs m r → IsNotStuck P r

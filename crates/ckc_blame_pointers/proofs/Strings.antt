@@ -1,7 +1,6 @@
 -- The string literals in the parts of an expression, and what becomes of a string literal.
 use Rattle.std.proofs.Common.{◌≡◌, refl, sym, ap, subst, ◌∙◌, ℕ, ◌+◌, List, ◌++◌, rules}
-use Rattle.std.specs.Prelude.{Bool, true, false, ◌&&◌, Option, Some}
-use Rattle.std.proofs.lemmas.Bool.{and_parts}
+use Rattle.std.specs.Prelude.{true, Option, Some}
 use Rattle.ckc_base.specs.declared.arithmetic.Mode.{Mode}
 use Rattle.ckc_base.specs.declared.arithmetic.Mode.TheVariants.{Checked, Unchecked}
 use Rattle.ckc_types.specs.declared.types.Kind.{Kind}
@@ -17,12 +16,11 @@ use Rattle.ckc_typed.specs.declared.environment.Globals.{Globals}
 use Rattle.ckc_typed.specs.declared.environment.Variable.{Variable}
 use Rattle.ckc_typed.specs.declared.typed.Note.{Note}
 use Rattle.ckc_typed.specs.declared.typed.StaticObject.{StaticObject}
-use Rattle.ckc_typed.specs.Conversions.{is_string, is_string_form, is_terminated_kind, kind_is_tested, kinds_allow, takes_pointer, takes_string}
+use Rattle.ckc_typed.specs.Conversions.{is_string_form, is_terminated_kind}
 use Rattle.ckc_typed.specs.Expressions.{string_type}
-use Rattle.ckc_typed.specs.Operands.{is_raw_kind}
 use Rattle.ckc_typed.specs.Statics.{Strings, node_strings, expr_strings, strings_of_limits, strings_of_expr}
 use Rattle.ckc_typed.specs.Trees.{NotedLimits, NotedNode, NotedExpr, NotedLayer}
-use Rattle.ckc_typed.specs.Types.{is_char, is_char_form, is_pointer, is_pointer_form, element_of, element_in, kind_of, kind_in, same_type}
+use Rattle.ckc_typed.specs.Types.{is_char, is_char_form, is_pointer, is_pointer_form, element_of, element_in, kind_of, kind_in}
 use Rattle.ckc_typed_welltyped.specs.Expressions.{HasType}
 use Rattle.ckc_typed_welltyped.specs.Parts.{LimitsLayer}
 use Rattle.ckc_build_values.specs.Expressions.{part_of, literals_of}
@@ -30,7 +28,6 @@ use Rattle.ckc_build_values.proofs.Counted.{expr_counted}
 use Rattle.ckc_blame_sound.specs.Settings.{Setting, IsString, AreStrings}
 use Rattle.ckc_blame_sound.proofs.Strings.{strings_in_front, strings_after}
 use Rattle.ckc_blame_pointers.specs.Covered.{IsLiteral}
-use Rattle.ckc_blame_pointers.proofs.Arrays.{type_same}
 
 -- ---- the literals in the parts
 
@@ -67,23 +64,11 @@ checked_out = search (rules, ctype_lemmas)
 unchecked_out : out-CType (string_type Unchecked) ≡ CType-F.Pointer kind.Raw ctype.Char
 unchecked_out = search (rules, ctype_lemmas)
 
--- that is no unchecked pointer
-pub string_out : (mode : Mode) → is_raw_kind (kind_of (string_type mode)) ≡ false → out-CType (string_type mode) ≡ CType-F.Pointer kind.Nt ctype.Char
-string_out Checked e = checked_out
-string_out Unchecked e = let raw : is_raw_kind (kind_of (string_type Unchecked)) ≡ true = ap (λ f. is_raw_kind (kind_in f)) unchecked_out in absurd cc
-
 -- a pointer to characters that end with a zero
 pub record IsStringType (t : CType) : Type 0 where
   pub pointer : is_pointer t ≡ true
   pub kind_is : kind_of t ≡ Some kind.Nt
   pub element : element_of t ≡ ctype.Char
-
-pub string_typed : (t : CType) (mode : Mode) → t ≡ string_type mode → is_raw_kind (kind_of t) ≡ false → IsStringType t
-string_typed t mode is checked =
-    subst IsStringType (sym is) (record { pointer = ap is_pointer_form out; kind_is = ap kind_in out; element = ap element_in out })
-  where
-    out : out-CType (string_type mode) ≡ CType-F.Pointer kind.Nt ctype.Char
-    out = string_out mode (sym (ap is_raw_kind (ap kind_of is)) ∙ checked)
 
 -- the type of a literal in checked code
 pub checked_string : IsStringType (string_type Checked)
@@ -143,18 +128,7 @@ pub ends_in : (k : Option Kind) → is_terminated_kind k ≡ true → k ≡ Some
 ends_in (Some kind.Nt) e = refl
 ends_in k e = absurd cc
 
-all_true : (a b c d : Bool) → a ≡ true → b ≡ true → c ≡ true → d ≡ true → ((a && (b && c)) && d) ≡ true
-all_true a b c d p q r z = rw (p, q, r, z) refl
-
 -- The row of a literal is the type of literals in the mode.
 pub string_row : (globals : Globals) (variables : List Variable) (mode : Mode) (x : NotedLayer) (t : CType) → is_string_form x ≡ true → HasType globals variables mode x t → t ≡ string_type mode
 string_row globals variables mode (Node-F.Text bytes) t s r = r
 string_row globals variables mode x t s r = absurd cc
-
--- A literal is taken as a pointer that it may become.
-pub string_taken : (t : CType) (e : NotedExpr) → is_pointer t ≡ true → IsStringType e.note.ctype → takes_string t e ≡ true → takes_pointer kind_is_tested t e ≡ true
-string_taken t e pointer typed h =
-    let p : (is_terminated_kind (kind_of t) ≡ true) × (is_char (element_of t) ≡ true) = and_parts (is_terminated_kind (kind_of t)) (is_char (element_of t)) (and_parts (is_string e) (is_terminated_kind (kind_of t) && is_char (element_of t)) h).1 in
-    let same : same_type (element_of t) (element_of e.note.ctype) ≡ true = subst (λ u. same_type (element_of t) u ≡ true) (char_type (element_of t) p.1 ∙ sym typed.element) (type_same (element_of t)) in
-    let kinds : kinds_allow kind_is_tested (kind_of e.note.ctype) (kind_of t) ≡ true = ap (λ j. kinds_allow kind_is_tested j (kind_of t)) typed.kind_is ∙ ap (λ j. kinds_allow kind_is_tested (Some kind.Nt) j) (ends_in (kind_of t) p.0) in
-    all_true (is_pointer t) (is_pointer e.note.ctype) (same_type (element_of t) (element_of e.note.ctype)) (kinds_allow kind_is_tested (kind_of e.note.ctype) (kind_of t)) pointer typed.pointer same kinds

@@ -24,7 +24,7 @@ use Rattle.ckc_blame_pointers.specs.Meant.{HasPlace, IsMeant}
 use Rattle.ckc_blame_pointers.specs.Owed.{Comes}
 use Rattle.ckc_blame_pointers.proofs.Binary.{ExprClaims}
 use Rattle.ckc_blame_pointers.proofs.Claims.{weaker}
-use Rattle.ckc_blame_pointers.proofs.Carried.{point_of}
+use Rattle.ckc_blame_pointers.proofs.Hypotheses.{point_of}
 use Rattle.ckc_blame_pointers.proofs.Induction.{expr_claims}
 use Rattle.ckc_blame_pointers.proofs.Later.{extends_self}
 use Rattle.ckc_blame_pointers.proofs.Runs.{comes_meant}

@@ -50,6 +50,7 @@ use Rattle.ckc_blame_pointers.proofs.Later.{next_more}
 use Rattle.ckc_blame_pointers.proofs.Addresses.{IsAddressType}
 use Rattle.ckc_blame_pointers.proofs.Reach.{IsStructurePlace, element_at}
 use Rattle.ckc_blame_pointers.proofs.Strings.{strings_of_node, first_strings, later_strings}
+use Rattle.ckc_types.specs.declared.types.Kind.{Kind}
 
 -- ---- rows
 
@@ -89,8 +90,8 @@ module _ (m : Mode) (globals : Globals) (s : Setting) (agrees : Agrees globals s
   HasAddress t x = IsAddressed s t x ⊎ ((m ≡ Unchecked) × IsAddressedRaw s t x)
 
   -- where a structure is, if it is reached through no unchecked pointer
-  abbrev pub HoldsPlace : CType → NodeView → Place → Type 0
-  HoldsPlace t n q = (is_raw_kind n.behind ≡ true → m ≡ Unchecked) × (is_raw_kind n.behind ≡ false → Runs m (element_at store q) → IsStructurePlace store t q)
+  abbrev pub HoldsPlace : CType → Option Kind → Place → Type 0
+  HoldsPlace t behind q = (is_raw_kind behind ≡ true → m ≡ Unchecked) × (is_raw_kind behind ≡ false → Runs m (element_at store q) → IsStructurePlace store t q)
 
   pub record NodeHolds (n : NotedNode) : Type 0 where
     pub claims : (note : Note) (place : Pos) → IsRow globals s (out-Node Name Note n) note → EveryNode (HasRow globals s) n
@@ -112,7 +113,7 @@ module _ (m : Mode) (globals : Globals) (s : Setting) (agrees : Agrees globals s
     pub place : (note : Note) (place : Pos) → IsRow globals s (out-Node Name Note n) note → EveryNode (HasRow globals s) n
         → (here : Here) → EveryNode (IsCoveredExpr m s store here.seen) n → IsNode here.seen note.ctype (out-Node Name Note n) → IsStructureNode (out-Node Name Note n) → (tag : ℕ) → out-CType note.ctype ≡ CType-F.Struct tag
         → (h : HoldsAt s store entry here) (fresh : ℕ) → fresh + length ((view_of_node s.frame n).fresh here.at) < 2 ^ 32 → AreFresh s.frame fresh → (view_of_node s.frame n).judged note.ctype fresh here.at ≡ Ok n
-        → (view_of_node s.frame n).fault place fresh here.at ≡ None → (k : ℕ) → AreStrings s k (strings_of_node n) → HoldsPlace note.ctype (view_of_node s.frame n) ((part_of_node n).place note place s.text s.variables k)
+        → (view_of_node s.frame n).fault place fresh here.at ≡ None → (k : ℕ) → AreStrings s k (strings_of_node n) → HoldsPlace note.ctype (view_of_node s.frame n).behind ((part_of_node n).place note place s.text s.variables k)
 
   pub record ExprHolds (e : NotedExpr) : Type 0 where
     pub claims : IsTyped globals s e → (here : Here) → AreCovered m s store here.seen e → is_scalar e.note.ctype ≡ true → HoldsAt s store entry here → (fresh : ℕ) → fresh + length ((view s.frame e).fresh here.at) < 2 ^ 32 → AreFresh s.frame fresh → (view s.frame e).judged fresh here.at ≡ Ok e
@@ -122,9 +123,7 @@ module _ (m : Mode) (globals : Globals) (s : Setting) (agrees : Agrees globals s
         → (k : ℕ) → AreStrings s k (strings_of_expr e) → Runs m (evaluated store ((part_of e).address s.text s.variables k))
         → IsNotStuck (NodeClaims s store entry here h r (node_view s.frame (Node-F.Un op.Address (view s.frame e)))) (evaluated store ((part_of e).address s.text s.variables k))
     pub place : IsTyped globals s e → (here : Here) → AreCovered m s store here.seen e → IsStructureNode (out-Node Name Note e.node) → (tag : ℕ) → out-CType e.note.ctype ≡ CType-F.Struct tag → (h : HoldsAt s store entry here) (fresh : ℕ)
-        → fresh + length ((view s.frame e).fresh here.at) < 2 ^ 32 → AreFresh s.frame fresh → (view s.frame e).judged fresh here.at ≡ Ok e → (k : ℕ) → AreStrings s k (strings_of_expr e)
-        → (is_raw_kind (view s.frame e).behind ≡ true → m ≡ Unchecked)
-        × (is_raw_kind (view s.frame e).behind ≡ false → Runs m (element_at store ((part_of e).place s.text s.variables k)) → IsStructurePlace store e.note.ctype ((part_of e).place s.text s.variables k))
+        → fresh + length ((view s.frame e).fresh here.at) < 2 ^ 32 → AreFresh s.frame fresh → (view s.frame e).judged fresh here.at ≡ Ok e → (k : ℕ) → AreStrings s k (strings_of_expr e) → HoldsPlace e.note.ctype (view s.frame e).behind ((part_of e).place s.text s.variables k)
 
   -- the expressions of limits
   abbrev pub PartsHold : LimitsLayer → Type 0
