@@ -53,7 +53,7 @@ use Rattle.ckc_blame_pointers.proofs.Whole.{judged_meant}
 use Rattle.ckc_blame_given.specs.Gives.{Continues, Gives, GivesOn}
 use Rattle.ckc_blame_given.specs.At.{GivesAt}
 use Rattle.ckc_blame_given.proofs.Comes.{comes_as}
-use Rattle.ckc_blame_given.proofs.Ended.{IsEndedAt, judged_ended}
+use Rattle.ckc_blame_given.proofs.Literals.{EndsAt, judged_ends}
 use Rattle.ckc_blame_given.proofs.Looser.{true_read}
 
 -- ---- null
@@ -124,7 +124,7 @@ module _ (s : Setting) (store : Store) (first limit : ℕ) (w : contained.Valuat
 module _ (globals : Globals) (s : Setting) (agrees : Agrees globals s) (declares : DeclareLocals s) (store : Store) (entry : List ℕ) (next : ℕ) (ready : IsSoundStore s store next) (here : Here) (h : HoldsAt s store entry here)
     (e : NotedExpr) (p : Value) (m : IsMeant s store entry here (view s.frame e) p) (type_is : (view s.frame e).ctype ≡ e.note.ctype)
     (form_is : (w : contained.Valuation) → IsValuationOf s store.locals w → (facts : Known) (f : Form) → AreFacts w facts → (view s.frame e).form facts ≡ Some f → number_of w.number f ≡ exact (integer_of e.note.ctype) p.number)
-    (ended_is : is_string e ≡ true → IsEndedAt s store here.at (view s.frame e) e.note.ctype p.number) where
+    (ends_is : is_string e ≡ true → EndsAt s store here.at (view s.frame e) e.note.ctype p.number) where
   module _ (from : Numbered) (before : contained.Valuation) (low : from.value + (view s.frame e).values + 1 < 2 ^ 32) (little : from.fresh + length ((view s.frame e).fresh here.at) < 2 ^ 32) (are : AreFresh s.frame from.fresh)
       (values : IsValuationOf s store.locals before) where
     abbrev limit : ℕ
@@ -181,7 +181,7 @@ module _ (globals : Globals) (s : Setting) (agrees : Agrees globals s) (declares
       form = λ facts f told there. form_is later ok facts f told there;
       null = λ null. subst (λ q. IsInRange s store place.after (view s.frame e).ctype q p) (null_range s.frame e null from.value from.fresh here.at) place.range;
       wide = read here.at.widened h.widened;
-      ended = λ string. ended_is string later ok.zero from.value from.fresh placed;
+      ended = λ string. ends_is string later ok.zero from.value from.fresh placed;
       narrow = read [] h.bounded;
       fresh = numbers_of later (capped from.fresh 1) ((view s.frame e).fresh here.at) (place.numbers back goes_back);
     }
@@ -227,7 +227,7 @@ judged_gives m globals s agrees declares store entry next ready here before afte
     (λ w values facts f told formed.
     sym (subst (λ t. exact (integer_of t) p.number ≡ number_of w.number f) types_are
     (form_exact_in globals s agrees after literals store p good h.words there w.number (fits_of s store.locals w (λ n. 0) values) facts told f (subst (λ (v : View). v.form facts ≡ Some f) (sym same) formed))))
-    (judged_ended globals s store entry next ready here h before after fresh literals is good same types_are strings p there))
+    (judged_ends globals s store entry next ready here h before after fresh literals is good same types_are strings p there))
   where
     same : view s.frame after ≡ view s.frame before
     same = same_view s.frame before after fresh here.at is s.frame

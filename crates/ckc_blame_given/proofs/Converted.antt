@@ -129,6 +129,6 @@ pub element_looser : (structs : Structs) (t u : CType) → element_of t ≡ elem
     → IsLooser (pointee_of structs u) (pointee_of structs t)
 element_looser structs t u same ends = record { element = same; size = element_size structs t u same; terminated = ends }
 
--- a pointer to the same elements, where a terminator ends them
+-- a pointer to the same elements, if a terminator ends them
 pub ending_looser : (structs : Structs) (t u : CType) → element_of t ≡ element_of u → IsLooser (record (pointee_of structs u) { terminated = true }) (pointee_of structs t)
 ending_looser structs t u same = record { element = same; size = element_size structs t u same; terminated = λ ends. refl }

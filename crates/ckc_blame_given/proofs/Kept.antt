@@ -16,7 +16,7 @@ use Rattle.ckc_source.specs.Blocks.{Block}
 use Rattle.ckc_source.specs.Runs.{is_true}
 use Rattle.ckc_blame_sound.proofs.Filled.{same_reads}
 use Rattle.ckc_blame_sound.specs.Valuations.{Valuation, form_address}
-use Rattle.ckc_blame_sound.specs.Containment.{Memory, IsReadBetween, IsReadWithin}
+use Rattle.ckc_blame_sound.specs.Containment.{Memory, IsReadWithin}
 use Rattle.ckc_blame_sound.specs.GivenValues.{IsFrom}
 
 module _ (shapes : List Shape) (bs cs : List Block) (truths : (to : Pointee) (i low high : ℕ) → is_true shapes cs to i low high ≡ is_true shapes bs to i low high)

@@ -5,7 +5,7 @@ pub mod Views
 pub mod Converted
 pub mod From
 pub mod Layers
-pub mod Ended
+pub mod Literals
 pub mod Bridge
 pub mod Hits
 pub mod Places

@@ -61,7 +61,7 @@ module _ (s : Setting) (store : Store) (entry : List ℕ) (next : ℕ) (ready : 
   one_byte : size_of s.text.layout c.array.object.element ≡ 1
   one_byte = char_size s.text.layout c.array.object.element c.char
 
-  size_there : size_behind s.text.layout t ≡ 1
+  pub size_there : size_behind s.text.layout t ≡ 1
   size_there = size_is s store entry next ready here h t k c.array ∙ one_byte
 
   bytes_are : bytes_of s.text k ≡ length bytes
