@@ -1,18 +1,16 @@
 -- In an expression that has been judged `&` stands before what has an address.
-use Rattle.std.proofs.Common.{◌≡◌, ◌∙◌, ⊎_elim, sym, ap, subst, refl, inl, inr, ℕ, Bool, true, false, rules}
+use Rattle.std.proofs.Common.{◌≡◌, ◌∙◌, ⊎_elim, ap, subst, refl, inl, inr, ℕ, Bool, true, false}
 use Rattle.std.specs.Prelude.{◌⊎◌, Option, Some, None, Ok}
 use Rattle.ckc_base.specs.declared.places.Pos.{Pos}
 use Rattle.ckc_base.specs.declared.places.Refusal.{Refusal}
-use Rattle.ckc_base.specs.Outcomes.{Outcome, bind}
 use Rattle.ckc_syntax.specs.declared.tree.Name.{Name}
 use Rattle.ckc_syntax.specs.declared.tree.TreeOp.{TreeOp}
 use Rattle.ckc_syntax.specs.declared.tree.TreeOp.TheVariants as op
 use Rattle.ckc_syntax.specs.declared.tree.Limits.{Limits-F, map-Limits, out-Limits, fold_out-Limits}
-use Rattle.ckc_syntax.specs.declared.tree.Node.{Node-F, out-Node, the_lemmas}
-use Rattle.ckc_syntax.specs.declared.tree.Node.TheVariants as node
+use Rattle.ckc_syntax.specs.declared.tree.Node.{Node-F, out-Node}
 use Rattle.ckc_syntax.specs.declared.tree.Expr.{every_here-Expr}
 use Rattle.ckc_typed.specs.declared.typed.Note.{Note}
-use Rattle.ckc_typed.specs.Trees.{NotedLimits, NotedNode, NotedExpr, NotedLayer, TypeTree}
+use Rattle.ckc_typed.specs.Trees.{NotedLimits, NotedNode, NotedExpr, NotedLayer}
 use Rattle.ckc_typed_welltyped.specs.Expressions.{AnyLimits, AnyNode}
 use Rattle.ckc_typed_welltyped.proofs.Nodes.{node_of, limits_of}
 use Rattle.ckc_bounds_points.specs.declared.frame.Frame.{Frame}
@@ -22,28 +20,11 @@ use Rattle.ckc_bounds_views.specs.Judged.{fault_if, fault_of_node, limits_judged
 use Rattle.ckc_bounds_views.specs.Parts.{LimitsOfViews, LimitsView, NodeView, View, fresh_behind}
 use Rattle.ckc_bounds_views.specs.Views.{limits_view, node_view, expr_view, view_of_limits, view_of_node, view}
 use Rattle.ckc_blame_sound.proofs.Every.{LimitsLayer, ExprLayer, EachLimits, EachExpr}
-use Rattle.ckc_blame_sound.proofs.Statements.{made_of}
-use Rattle.ckc_blame_pointers.proofs.Inside.{judged_is, limits_layer, limits_part, no_ends, one_part, operand_is, some_there, tested_parts, three_parts, two_parts}
+use Rattle.ckc_blame_pointers.proofs.Inside.{cast_parts, judged_is, limits_layer, limits_part, no_ends, one_part, operand_is, some_there, three_parts, two_parts}
 use Rattle.ckc_blame_given.proofs.Layers.{view_is, viewed}
 use Rattle.ckc_blame_given.proofs.Pointers.{node_is}
 use Rattle.ckc_blame_steps.proofs.Callless.{IsCallless, HasNoCall}
 use Rattle.ckc_blame_steps.proofs.Down.{layer, DownLimits, Down, each_down, each_parts, each_limits_parts}
-
--- the operand and the limits of an `_Assume_bounds_cast`
-trusted_out : (w : TypeTree) (e : NotedExpr) (l : Option NotedLimits) → out-Node Name Note (node.Trusted w e l) ≡ Node-F.Trusted w e l
-trusted_out w e l = search (rules, the_lemmas)
-
-trusted_parts : (w : TypeTree) (o : Outcome NotedExpr) (q : Outcome (Option NotedLimits)) (e : NotedExpr) (l : Option NotedLimits)
-    → bind o (λ a. bind q (λ k. Ok (node.Trusted w a k))) ≡ Ok (node.Trusted w e l) → (o ≡ Ok e) × (q ≡ Ok l)
-trusted_parts w o q e l is =
-    let b = made_of o (λ a. bind q (λ k. Ok (node.Trusted w a k))) (node.Trusted w e l) is in
-    let c = made_of q (λ k. Ok (node.Trusted w b.0 k)) (node.Trusted w e l) b.2 in
-    let nodes : node.Trusted w b.0 c.0 ≡ node.Trusted w e l = cc in
-    let same : ◌≡◌ {A = NotedLayer} (Node-F.Trusted w b.0 c.0) (Node-F.Trusted w e l) =
-    sym (trusted_out w b.0 c.0) ∙ ap (out-Node Name Note) nodes ∙ trusted_out w e l in
-    let x : b.0 ≡ e = cc in
-    let y : c.0 ≡ l = cc in
-    (b.1 ∙ ap Ok x, c.1 ∙ ap Ok y)
 
 unary_is : (o : TreeOp) (v : View) (e : NotedExpr) (fresh : ℕ) (at : State) → unary_judged o v fresh at ≡ Ok e → (v.judged fresh at ≡ Ok e) ⊎ (v.operand fresh at ≡ Ok e)
 unary_is op.Address v e fresh at h = inr h
@@ -131,13 +112,13 @@ module _ (frame : Frame) where
   parts_kept e (Node-F.Arrow f m spot) is n c p = kept f _ _ (one_part (λ b. Node-F.Arrow b m spot) (λ b d e. cc) _ f (n.judged ∙ ap Ok is)) p
   parts_kept e (Node-F.Cast w f) is n c p = kept f _ _ (one_part (λ b. Node-F.Cast w b) (λ b d e. cc) _ f (n.judged ∙ ap Ok is)) p
   parts_kept e (Node-F.Size w) is n c p = tt
-  parts_kept e (Node-F.Trusted w f None) is n c p = (kept f _ _ (trusted_parts w _ (Ok None) f None (n.judged ∙ ap Ok is)).0 p.0, tt)
+  parts_kept e (Node-F.Trusted w f None) is n c p = (kept f _ _ (cast_parts (λ b d. Node-F.Trusted w b d) (λ b d i g e. (cc, cc)) _ (Ok None) f None (n.judged ∙ ap Ok is)).0 p.0, tt)
   parts_kept e (Node-F.Trusted w f (Some l)) is n c p =
-      let h = trusted_parts w _ _ f (Some l) (n.judged ∙ ap Ok is) in
+      let h = cast_parts (λ b d. Node-F.Trusted w b d) (λ b d i g e. (cc, cc)) _ _ f (Some l) (n.judged ∙ ap Ok is) in
       (kept f _ _ h.0 p.0, record { size = _; fresh = _; at = _; judged = some_there _ l h.1; callless = p.1 })
-  parts_kept e (Node-F.Tested w f None) is n c p = (kept f _ _ (tested_parts w _ (Ok None) f None (n.judged ∙ ap Ok is)).0 p.0, tt)
+  parts_kept e (Node-F.Tested w f None) is n c p = (kept f _ _ (cast_parts (λ b d. Node-F.Tested w b d) (λ b d i g e. (cc, cc)) _ (Ok None) f None (n.judged ∙ ap Ok is)).0 p.0, tt)
   parts_kept e (Node-F.Tested w f (Some l)) is n c p =
-      let h = tested_parts w _ _ f (Some l) (n.judged ∙ ap Ok is) in
+      let h = cast_parts (λ b d. Node-F.Tested w b d) (λ b d i g e. (cc, cc)) _ _ f (Some l) (n.judged ∙ ap Ok is) in
       (kept f _ _ h.0 p.0, record { size = _; fresh = _; at = _; judged = some_there _ l h.1; callless = p.1 })
   parts_kept e (Node-F.Call m es) is n c p = absurd c
   parts_kept e (Node-F.Calloc w f u) is n c p = absurd c

@@ -10,8 +10,7 @@ use Rattle.ckc_syntax.specs.declared.tree.Name.{Name}
 use Rattle.ckc_syntax.specs.declared.tree.Name.TheVariants as name
 use Rattle.ckc_syntax.specs.declared.tree.Init.TheVariants as init
 use Rattle.ckc_syntax.specs.declared.tree.Node.{Node-F, out-Node}
-use Rattle.ckc_syntax.specs.declared.tree.Act.{Act-F, out-Act, fold-roll-Act}
-use Rattle.ckc_syntax.specs.declared.tree.Stmt.{fold-roll-Stmt}
+use Rattle.ckc_syntax.specs.declared.tree.Act.{Act-F, out-Act}
 use Rattle.ckc_typed.specs.declared.typed.Note.{Note}
 use Rattle.ckc_typed.specs.declared.typed.Typed.{Typed}
 use Rattle.ckc_typed.specs.Statics.{strings_of_expr, strings_of_stmt}
@@ -31,7 +30,7 @@ use Rattle.ckc_build_values.specs.Expressions.{literals_of}
 use Rattle.ckc_build_elaborate.specs.Elaborated.{elaborated}
 use Rattle.ckc_build_elaborate.specs.Literals.{literals_of_bounds}
 use Rattle.ckc_build_elaborate.specs.Shapes.{shapes_elaborated}
-use Rattle.ckc_build_elaborate.specs.Statements.{Part, ActPart, all_assigns, assign, act_assigns, act_code, act_parts, stmt_parts, part_of_act, part_of}
+use Rattle.ckc_build_elaborate.specs.Statements.{all_assigns, assign, act_assigns, act_code, part_of}
 use Rattle.ckc_build_elaborate.specs.Steps.{Destination, spot, nowhere, destination_of, destination_for, called, assigned, assigned_form, started, declared}
 use Rattle.ckc_build_elaborate.proofs.Counted.{stmt}
 use Rattle.ckc_blame_sound.specs.Bodies.{globals_of_text}
@@ -42,7 +41,7 @@ use Rattle.ckc_blame_sound.specs.Steps.{IsStep}
 use Rattle.ckc_blame_sound.proofs.Strings.{strings_in_front, strings_after}
 use Rattle.ckc_blame_sound.specs.Moves.{IsSoundMove}
 use Rattle.ckc_blame_sound.specs.Typed.{IsTyped, AreTypedSides, IsTypedAct}
-use Rattle.ckc_blame_sound.proofs.Stepping.{ActLayer, act_back, parted, code_is, first_step}
+use Rattle.ckc_blame_sound.proofs.Stepping.{ActLayer, parted, code_is, first_step}
 use Rattle.ckc_blame_sound.proofs.Judging.{judged_typed}
 use Rattle.ckc_blame_sound.proofs.Frames.{frames_agree}
 use Rattle.ckc_blame_sound.specs.JudgedTexts.{globals_in}
@@ -60,6 +59,7 @@ use Rattle.ckc_blame_steps.specs.Plans.{BecomesPart, BecomeParts, AllocateSoundl
 use Rattle.ckc_blame_steps.proofs.Declarations.{local_made}
 use Rattle.ckc_blame_steps.proofs.Origins.{Kind, kind}
 use Rattle.ckc_blame_steps.proofs.Strings.{strings_there, sides_strings}
+use Rattle.ckc_blame_steps.proofs.SafeTargets.{assigns_as}
 use Rattle.ckc_blame_steps.proofs.Plans.{AllFit, StayCovered, all_unstuck}
 use Rattle.ckc_blame_steps.proofs.Stores.{planning}
 use Rattle.ckc_blame_steps.proofs.StoresLie.{AreUnstuck}
@@ -122,12 +122,6 @@ module _ (s : Setting) (here there : Here) (sp : Spot) (assigns : List (Target �
       by (Kind.Others other) = absurd (cc)
 
 -- ---- what the assignments of a bundle become
-
-assigns_as : (s : Setting) (k : ℕ) (st : NotedStmt) → (part_of st).assigns s.text s.variables k ≡ act_assigns (parted (out-Act Name Note st.body)) s.text s.variables k
-assigns_as s k st =
-    ap (λ (p : Part). p.assigns s.text s.variables k) (fold-roll-Stmt Name Note ActPart Part act_parts stmt_parts (record { body = st.body; pos = st.pos; note = st.note }))
-    ∙ ap (λ (a : ActPart). a.assigns s.text s.variables k)
-    (ap part_of_act (sym (act_back st.body)) ∙ fold-roll-Act Name Note ActPart Part act_parts stmt_parts (out-Act Name Note st.body))
 
 parts_become : (s : Setting) (at : flow.State) (fresh : ℕ) (befores afters : List NotedStmt) → AreAssignsJudged s at fresh befores afters → (k : ℕ)
     → AreStrings s k (inside_each listed (λ z. z) (map strings_of_stmt afters)) → BecomeParts s afters (all_assigns (map part_of afters) s.text s.variables k)
