@@ -1,7 +1,7 @@
 -- A `calloc` that is a statement keeps states sound: what it makes is a block that nothing points to.
 use Rattle.std.proofs.Common.{◌≡◌, refl, sym, ap, subst, ◌∙◌, Bool, true, false, List, [], ◌∷◌, rules}
 use Rattle.std.specs.Prelude.{◌&&◌, ◌||◌, Result, Ok, Err}
-use Rattle.ckc_base.specs.declared.arithmetic.Mode.TheVariants.{Checked}
+use Rattle.ckc_base.specs.declared.arithmetic.Mode.{Mode}
 use Rattle.ckc_base.specs.Lists.{AreBytes}
 use Rattle.ckc_types.specs.declared.types.Kind.{Kind}
 use Rattle.ckc_types.specs.declared.types.Kind.TheVariants as kind
@@ -39,28 +39,29 @@ use Rattle.ckc_blame_sound.specs.Settings.{Setting, AreStrings, IsFunction}
 use Rattle.ckc_blame_sound.specs.Slots.{AreFilled}
 use Rattle.ckc_blame_sound.specs.Sound.{Sound}
 use Rattle.ckc_blame_sound.proofs.Kept.{point_kept}
-use Rattle.ckc_blame_sound.specs.Moves.{IsSoundMove}
 use Rattle.ckc_blame_sound.specs.Cells.{AreSound}
 use Rattle.ckc_blame_sound.specs.Typed.{IsTyped, IsTypedAct}
 use Rattle.ckc_blame_sound.specs.JudgedTexts.{globals_in}
 use Rattle.ckc_blame_control.specs.Kept.{KeepRanges, IsSameCall}
 use Rattle.ckc_blame_control.specs.Ready.{Faces}
 use Rattle.ckc_blame_control.proofs.Kept.{faced_sound, blocks_keep_ranges}
-use Rattle.ckc_blame_control.proofs.Moved.{stopped, move_by}
 use Rattle.ckc_blame_pointers.specs.Covered.{IsCovered}
+use Rattle.ckc_blame_pointers.specs.Owed.{Comes}
 use Rattle.ckc_blame_pointers.proofs.Arrays.{type_same}
 use Rattle.ckc_blame_pointers.proofs.Strings.{strings_in_node}
-use Rattle.ckc_blame_given.specs.Targets.{ComesTo}
 use Rattle.ckc_blame_given.proofs.Layers.{strings_are}
 use Rattle.ckc_blame_given.proofs.Points.{same_point}
 use Rattle.ckc_blame_steps.specs.Granted.{IsGranted, HasPlaces, IsCoveredAlone, IsCoveredAct, HasRoom, HasRoomAct}
 use Rattle.ckc_blame_steps.specs.Plans.{IsDrawn, AllocateSoundly, counted_in}
+use Rattle.ckc_blame_steps.specs.Unchecked.{StoresSafely, MovesSoundly}
 use Rattle.ckc_blame_steps.proofs.Calls.{value_is_judged}
 use Rattle.ckc_blame_steps.proofs.Callocs.{IsJudgedCalloc, judged_calloc}
+use Rattle.ckc_blame_steps.proofs.Comes.{stops_soundly, safe_as}
 use Rattle.ckc_blame_steps.proofs.Origins.{IsCallAlone}
 use Rattle.ckc_blame_steps.proofs.Steps.{at_b, covered_there, typed_act, known}
 use Rattle.ckc_blame_steps.proofs.Stores.{text_is, planning}
 use Rattle.ckc_blame_steps.proofs.Strings.{strings_there}
+use Rattle.ckc_blame_steps.proofs.SoundMoves.{moves_by}
 
 pointer_out : (k : Kind) (t : CType) → out-CType (ctype.Pointer k t) ≡ CType-F.Pointer k t
 pointer_out k t = search (rules, the_lemmas)
@@ -81,8 +82,8 @@ takes false true false false true false z d e f = absurd cc
 takes false true false false false same z d e f = absurd cc
 takes false false x y al same z d e f = absurd cc
 
-module _ (p : Typed) (g : IsGranted p) (allocations : AllocateSoundly p) (st : State) (h : Sound p st) (sp : Spot) (target : Target) (right : Right) (next : List Work) (mode : sp.mode ≡ Checked)
-    (f : Faces h.setting (store_in p st.blocks st.frame) st.frame.entry (Assign sp target right) next) (c : IsCallAlone h.setting f.here f.exits.ends (Assign sp target right) f.judged)
+module _ (p : Typed) (g : IsGranted p) (allocations : AllocateSoundly p) (m : Mode) (st : State) (h : Sound p st) (sp : Spot) (target : Target) (right : Right) (next : List Work) (mode : sp.mode ≡ m)
+    (safe : StoresSafely m (Assign sp target right End)) (f : Faces h.setting (store_in p st.blocks st.frame) st.frame.entry (Assign sp target right) next) (c : IsCallAlone h.setting f.here f.exits.ends (Assign sp target right) f.judged)
     (w u : TypeTree) (n : NotedExpr) (out : out-Node Name Note c.made.node ≡ Node-F.Calloc w n u) where
   abbrev s : Setting
   s = h.setting
@@ -144,10 +145,10 @@ module _ (p : Typed) (g : IsGranted p) (allocations : AllocateSoundly p) (st : S
       (ap is_allocation_form calloc.before)
       (subst (λ (x : CType). same_element t x ≡ true) (sym type_is) (both (is_pointer t) (is_pointer t) (same_type (element_of t) (element_of t)) pointer pointer (type_same (element_of t))))
 
-  covered : HasPlaces s t × IsCovered s (store_of shapes start) f.here.seen n
+  covered : HasPlaces s t × IsCovered m s (store_of shapes start) f.here.seen n
   covered =
-      subst (IsCoveredAlone s (store_of shapes start) f.here.seen) out
-      (subst (IsCoveredAct s (store_of shapes start) f.here.seen) c.becomes (covered_there p g st h step next f sp mode start (at_b p g st h step next f)))
+      subst (IsCoveredAlone m s (store_of shapes start) f.here.seen) out
+      (subst (IsCoveredAct m s (store_of shapes start) f.here.seen) c.becomes (covered_there p g st h step next f m sp mode safe start (at_b p g st h step next f)))
 
   room : HasRoom s.frame f.here.at 0 f.here.next c.made
   room = subst (HasRoomAct s.frame f.here.at f.here.next) c.becomes (g.room s st.frame.function f.here f.exits.ends step function f.judged)
@@ -162,10 +163,10 @@ module _ (p : Typed) (g : IsGranted p) (allocations : AllocateSoundly p) (st : S
   abbrev Draws : Drawn → Type 0
   Draws = IsDrawn s shapes st.frame.entry f.here start t c.made
 
-  drawn_there : ComesTo Draws (drawn shapes start right)
+  drawn_there : Comes m Draws (drawn shapes start right)
   drawn_there =
-      subst (λ r. ComesTo Draws (drawn shapes start r)) (sym right_is)
-      (allocations s st.frame.function f.here f.exits.ends step st.frame.entry function f.judged start (at_b p g st h step next f) t c.call c.made n f.here.next f.judged.literals (ap counted_in out) typed goes covered.0
+      subst (λ r. Comes m Draws (drawn shapes start r)) (sym right_is)
+      (allocations m s st.frame.function f.here f.exits.ends step st.frame.entry function f.judged start (at_b p g st h step next f) t c.call c.made n f.here.next f.judged.literals (ap counted_in out) typed goes covered.0
       leads.0 room.variables (known p g st h step next f).fresh covered.1 counted_strings)
 
   -- ---- the state after
@@ -194,20 +195,21 @@ module _ (p : Typed) (g : IsGranted p) (allocations : AllocateSoundly p) (st : S
         (subst AreBytes (sym (ap (λ (x : State). x.input) dr.grown.same)) h.input) step next f (ap (λ (x : State). x.frame.work) dr.grown.same)
         (subst (λ x. HoldsAt s (store_of shapes d.state) x f.exits.ends) (sym same_call.entry) (point_kept s (store_of shapes d.state) st.frame.entry f.judged.behind f.exits.ends f.judged.goes point))
 
-  pub dropped_sound : IsSoundMove p (comes_to [] (bundled shapes start ((target, right) ∷ [])))
-  dropped_sound = subst (λ x. IsSoundMove p (comes_to [] (bundled shapes start ((x, right) ∷ [])))) (sym becomes.0) (by (drawn shapes start right) drawn_there)
+  pub dropped_sound : MovesSoundly m p (comes_to [] (bundled shapes start ((target, right) ∷ [])))
+  dropped_sound = subst (λ x. MovesSoundly m p (comes_to [] (bundled shapes start ((x, right) ∷ [])))) (sym becomes.0) (by (drawn shapes start right) drawn_there)
     where
-      by : (r : Result Drawn Halt) → ComesTo Draws r
-          → IsSoundMove p (comes_to [] (given (given r (λ (d : Drawn). Ok (record { writes = (place.Nowhere, d.number) ∷ []; state = d.state }))) (λ (plan : Planned). all_written plan.writes plan.state)))
+      by : (r : Result Drawn Halt) → Comes m Draws r
+          → MovesSoundly m p (comes_to [] (given (given r (λ (d : Drawn). Ok (record { writes = (place.Nowhere, d.number) ∷ []; state = d.state }))) (λ (plan : Planned). all_written plan.writes plan.state)))
       by (Ok d) dr = left_sound d dr
-      by (Err (halt.Stopped why at)) dr = stopped why at
-      by (Err halt.Stuck) dr = absurd dr
+      by (Err (halt.Stopped why at)) dr = stops_soundly m why at
+      by (Err halt.Stuck) dr = λ e. dr
 
 -- a `calloc` of the text that is a statement
-pub allocation_sound : (p : Typed) (st : State) (h : Sound p st) (sp : Spot) (target : Target) (right : Right) (rest : Code) (next : List Work) → IsGranted p → AllocateSoundly p
-    → settled st.frame.work ≡ Rest (Assign sp target right rest) ∷ next → (spot_of st).mode ≡ Checked
+pub allocation_sound : (p : Typed) (m : Mode) (st : State) (h : Sound p st) (sp : Spot) (target : Target) (right : Right) (rest : Code) (next : List Work) → IsGranted p → AllocateSoundly p
+    → settled st.frame.work ≡ Rest (Assign sp target right rest) ∷ next → (spot_of st).mode ≡ m → StoresSafely m (Assign sp target right rest)
     → (f : Faces h.setting (store_in p st.blocks st.frame) st.frame.entry (Assign sp target right) (Rest rest ∷ next)) (c : IsCallAlone h.setting f.here f.exits.ends (Assign sp target right) f.judged)
-    (w u : TypeTree) (n : NotedExpr) → out-Node Name Note c.made.node ≡ Node-F.Calloc w n u → IsSoundMove p (source_step (elaborated p) st)
-allocation_sound p st h sp target right rest next g allocations is mode f c w u n out =
-    move_by p st (Rest (Assign sp target right rest) ∷ next) is
-    (dropped_sound p g allocations st h sp target right (Rest rest ∷ next) (subst (λ x. (spot_at st.frame.function.end x).mode ≡ Checked) is mode) f c w u n out)
+    (w u : TypeTree) (n : NotedExpr) → out-Node Name Note c.made.node ≡ Node-F.Calloc w n u → MovesSoundly m p (source_step (elaborated p) st)
+allocation_sound p m st h sp target right rest next g allocations is mode safe f c w u n out =
+    moves_by m p st (Rest (Assign sp target right rest) ∷ next) is
+    (dropped_sound p g allocations m st h sp target right (Rest rest ∷ next) (subst (λ x. (spot_at st.frame.function.end x).mode ≡ m) is mode)
+    (safe_as m (Assign sp target right rest) (Assign sp target right End) refl safe) f c w u n out)

@@ -1,8 +1,9 @@
 -- A `calloc` that is drawn keeps what is judged of it.
 use Rattle.std.proofs.Common.{◌≡◌, ◌≢◌, ⊎_elim, refl, sym, ap, subst, ◌∙◌, ℕ, Bool, true, false, List, [], ◌∷◌, ◌++◌, rules, arith}
-use Rattle.std.specs.Prelude.{◌+◌, ◌*◌, ◌<◌, ◌≤◌, ◌^◌, ◌&&◌, ◌||◌, if◌then◌else◌, is_some, length, pos, Option, None, Some, Result, Ok, Err}
+use Rattle.std.specs.Prelude.{◌+◌, ◌*◌, ◌<◌, ◌≤◌, ◌^◌, ◌&&◌, ◌||◌, if◌then◌else◌, is_some, length, pos, Option, None, Some, Ok}
 use Rattle.std.specs.List.{All}
 use Rattle.std.proofs.lemmas.Bool.{and_parts}
+use Rattle.ckc_base.specs.declared.arithmetic.Mode.{Mode}
 use Rattle.ckc_base.specs.declared.arithmetic.Width.TheVariants.{Byte, Word}
 use Rattle.ckc_base.specs.Memory.{heap_has_room, kept_part, next_place}
 use Rattle.ckc_types.specs.declared.types.Kind.{Kind}
@@ -33,13 +34,10 @@ use Rattle.ckc_bounds_stores.specs.declared.values.Numbered.{Numbered}
 use Rattle.ckc_bounds_stores.specs.Values.{narrow, has_element, received_range}
 use Rattle.ckc_source.specs.declared.expr.Integer.TheVariants.{Int}
 use Rattle.ckc_source.specs.declared.expr.Pointee.{Pointee}
-use Rattle.ckc_source.specs.declared.outcome.Halt.{Halt}
-use Rattle.ckc_source.specs.declared.outcome.Halt.TheVariants as halt
-use Rattle.ckc_source.specs.declared.outcome.Value.{Value as Given}
 use Rattle.ckc_source.specs.declared.program.Shape.{Shape}
 use Rattle.ckc_source.specs.Blocks.{fresh as fresh_block}
 use Rattle.ckc_source.specs.Code.{Right, Fresh, Function}
-use Rattle.ckc_source.specs.Eval.{given, evaluated}
+use Rattle.ckc_source.specs.Eval.{evaluated}
 use Rattle.ckc_source.specs.States.{State}
 use Rattle.ckc_source.specs.Steps.{Drawn, allocated, drawn, store_of}
 use Rattle.ckc_source.specs.Words.{exact}
@@ -69,16 +67,16 @@ use Rattle.ckc_blame_sound.specs.GivenValues.{memory_of}
 use Rattle.ckc_blame_sound.proofs.Agree.{facts_agree}
 use Rattle.ckc_blame_control.proofs.Kept.{holds_kept, blocks_keep_ranges}
 use Rattle.ckc_blame_pointers.specs.Covered.{DeclareLocals, IsCovered}
-use Rattle.ckc_blame_pointers.specs.Meant.{IsNotStuck}
+use Rattle.ckc_blame_pointers.specs.Owed.{Comes}
 use Rattle.ckc_blame_pointers.proofs.Later.{parts_room}
 use Rattle.ckc_blame_pointers.proofs.Unwidened.{fresh_same}
+use Rattle.ckc_blame_given.proofs.Comes.{comes_on}
 use Rattle.ckc_blame_given.specs.At.{GivesAt}
 use Rattle.ckc_blame_given.specs.Gives.{Continues, Gives, GivesOn}
 use Rattle.ckc_blame_given.proofs.Bridge.{judged_gives}
 use Rattle.ckc_blame_given.proofs.Converted.{Becomes}
 use Rattle.ckc_blame_given.proofs.From.{kept_number}
 use Rattle.ckc_blame_given.specs.Written.{IsReceived}
-use Rattle.ckc_blame_given.specs.Targets.{ComesTo}
 use Rattle.ckc_blame_steps.specs.Granted.{HasRoom}
 use Rattle.ckc_blame_steps.specs.Plans.{IsAt, HasMore, IsDrawn, IsDrawnOn, counted_in}
 use Rattle.ckc_blame_steps.specs.Granted.{HasPlaces}
@@ -136,10 +134,10 @@ same_narrowed (range.Known low high) = (refl, refl)
 same_narrowed range.Any = tt
 same_narrowed range.Missing = tt
 
-module _ (globals : Globals) (s : Setting) (agrees : Agrees globals s) (declares : DeclareLocals s) (parts : AreSlotParts s.text) (shapes : List Shape) (entry : List ℕ) (here : Here)
+module _ (m : Mode) (globals : Globals) (s : Setting) (agrees : Agrees globals s) (declares : DeclareLocals s) (parts : AreSlotParts s.text) (shapes : List Shape) (entry : List ℕ) (here : Here)
     (named : All (NamesIntegers s.frame) here.at.facts.list) (b : State) (is_at : IsAt s shapes entry here b) (t : CType) (f g n : NotedExpr) (fresh literals : ℕ)
     (counted : counted_in (out-Node Name Note g.node) ≡ Some n) (typed : IsTyped globals s f) (goes : converts t f ≡ true) (has : HasPlaces s t) (judged : (view s.frame f).judged fresh here.at ≡ Ok g)
-    (little : fresh + length ((view s.frame g).fresh here.at) < 2 ^ 32) (are : AreFresh s.frame fresh) (covered : IsCovered s (store_of shapes b) here.seen n)
+    (little : fresh + length ((view s.frame g).fresh here.at) < 2 ^ 32) (are : AreFresh s.frame fresh) (covered : IsCovered m s (store_of shapes b) here.seen n)
     (strings : AreStrings s literals (strings_of_expr n)) where
   j : IsJudgedCalloc s globals f g n fresh here.at
   j = judged_calloc s globals f g n fresh here.at typed judged counted
@@ -317,23 +315,19 @@ module _ (globals : Globals) (s : Setting) (agrees : Agrees globals s) (declares
         by true e = made_drawn e
         by false e = null_drawn
 
-  pub calloc_drawn : ComesTo (IsDrawn s shapes entry here b t g) (drawn shapes b (right_of s.text s.variables literals (is_terminated t) g))
+  pub calloc_drawn : Comes m (IsDrawn s shapes entry here b t g) (drawn shapes b (right_of s.text s.variables literals (is_terminated t) g))
   calloc_drawn =
-      subst (λ (r : Right). ComesTo (IsDrawn s shapes entry here b t g) (drawn shapes b r)) (sym right_is)
-      (by (evaluated (store_of shapes b) (expr_elaborated s.text s.variables literals n))
-      (judged_gives globals s agrees declares (store_of shapes b) entry b.next is_at.ready here j.count n fresh literals
-      (parts_room fresh (c.fresh here.at) (count_type c here.at.facts) (subst (λ (ts : List CType). fresh + length ts < 2 ^ 32) (calloc.fresh here.at) little)) are j.typed j.judged covered strings is_at.holds))
-    where
-      by : (r : Result Given Halt) → IsNotStuck (λ p. GivesAt s (store_of shapes b) here.at j.count p.number) r
-          → ComesTo (IsDrawn s shapes entry here b t g) (given r (λ v. Ok (allocated b to v.number)))
-      by (Ok x) h = allocated_drawn x.number h
-      by (Err (halt.Stopped why at)) h = tt
-      by (Err halt.Stuck) h = absurd h
+      subst (λ (r : Right). Comes m (IsDrawn s shapes entry here b t g) (drawn shapes b r)) (sym right_is)
+      (comes_on m (λ p. GivesAt s (store_of shapes b) here.at j.count p.number) (IsDrawn s shapes entry here b t g) (evaluated (store_of shapes b) (expr_elaborated s.text s.variables literals n))
+      (λ v. Ok (allocated b to v.number))
+      (judged_gives m globals s agrees declares (store_of shapes b) entry b.next is_at.ready here j.count n fresh literals
+      (parts_room fresh (c.fresh here.at) (count_type c here.at.facts) (subst (λ (ts : List CType). fresh + length ts < 2 ^ 32) (calloc.fresh here.at) little)) are j.typed j.judged covered strings is_at.holds)
+      (λ v is h. allocated_drawn v.number h))
 
 -- ---- a text
 
 pub allocate_soundly : (p : Typed) → IsJudged p → AreSlotParts p → ((s : Setting) (f : Function) → IsFunction p s f → DeclareLocals s) → AllocateSoundly p
 unfolding setting_of
-allocate_soundly p judged parts declares s fn here there step entry i is b is_at t f g n fresh literals counted typed goes has made little are covered strings =
-    calloc_drawn (globals_in p) s (frames_agree p s fn judged i) (declares s fn i) (subst AreSlotParts (sym (ap (λ (x : Setting). x.text) i.judged)) parts) (shapes_elaborated p.layout) entry here is.named b is_at t f g n
+allocate_soundly p judged parts declares m s fn here there step entry i is b is_at t f g n fresh literals counted typed goes has made little are covered strings =
+    calloc_drawn m (globals_in p) s (frames_agree p s fn judged i) (declares s fn i) (subst AreSlotParts (sym (ap (λ (x : Setting). x.text) i.judged)) parts) (shapes_elaborated p.layout) entry here is.named b is_at t f g n
     fresh literals counted typed goes has made little are covered strings

@@ -1,6 +1,7 @@
 -- The argument of `putchar` is evaluated, or the run stops at a named check.
 use Rattle.std.proofs.Common.{◌≡◌, refl, sym, ap, subst, ◌∙◌, ℕ, ◌+◌, List, [], ◌∷◌, map, rules}
-use Rattle.std.specs.Prelude.{◌<◌, ◌^◌, length, Result, Ok, Err}
+use Rattle.std.specs.Prelude.{◌<◌, ◌^◌, length, Ok}
+use Rattle.ckc_base.specs.declared.arithmetic.Mode.{Mode}
 use Rattle.ckc_base.specs.Outcomes.{Outcome, bind}
 use Rattle.ckc_syntax.specs.Inside.{listed, inside_each}
 use Rattle.ckc_syntax.specs.declared.tree.Name.{Name}
@@ -19,9 +20,6 @@ use Rattle.ckc_bounds_views.specs.Fresh.{all_fresh}
 use Rattle.ckc_bounds_views.specs.Parts.{View, fresh_behind}
 use Rattle.ckc_bounds_views.specs.Views.{view}
 use Rattle.ckc_bounds_statements.specs.Paths.{Here}
-use Rattle.ckc_source.specs.declared.outcome.Halt.{Halt}
-use Rattle.ckc_source.specs.declared.outcome.Halt.TheVariants as halt
-use Rattle.ckc_source.specs.declared.outcome.Value.{Value as Given}
 use Rattle.ckc_source.specs.declared.stmt.Spot.{Spot}
 use Rattle.ckc_source.specs.Code.{Code, End, Expr, Put}
 use Rattle.ckc_source.specs.Eval.{Store, evaluated}
@@ -36,11 +34,12 @@ use Rattle.ckc_blame_sound.proofs.Judging.{judged_typed}
 use Rattle.ckc_blame_sound.proofs.Statements.{made_of}
 use Rattle.ckc_blame_sound.proofs.SameViews.{same_view}
 use Rattle.ckc_blame_pointers.specs.Covered.{DeclareLocals, IsSoundStore, IsCovered}
-use Rattle.ckc_blame_pointers.specs.Meant.{IsNotStuck, IsMeant}
 use Rattle.ckc_blame_pointers.proofs.Inside.{Every, EveryNode, node_every}
 use Rattle.ckc_blame_pointers.proofs.Later.{left_room}
-use Rattle.ckc_blame_pointers.proofs.Whole.{judged_meant}
-use Rattle.ckc_blame_given.specs.Targets.{ComesTo}
+use Rattle.ckc_blame_pointers.specs.Owed.{Comes}
+use Rattle.ckc_blame_given.proofs.Comes.{comes_as}
+use Rattle.ckc_blame_given.specs.At.{GivesAt}
+use Rattle.ckc_blame_given.proofs.Bridge.{judged_gives}
 use Rattle.ckc_blame_pointers.proofs.Strings.{strings_in_node}
 use Rattle.ckc_blame_given.proofs.Layers.{strings_are}
 use Rattle.ckc_blame_given.proofs.Pointers.{node_judged_at, node_room}
@@ -89,7 +88,7 @@ first_same a b xs ys e = cc
 args_same : (n : Name) (xs ys : List NotedExpr) → ◌≡◌ {A = NotedLayer} (Node-F.Call n xs) (Node-F.Call n ys) → xs ≡ ys
 args_same n xs ys e = cc
 
-module _ (globals : Globals) (s : Setting) (agrees : Agrees globals s) (declares : DeclareLocals s) (store : Store) (entry : List ℕ) (next : ℕ) (ready : IsSoundStore s store next) (here : Here)
+module _ (m : Mode) (globals : Globals) (s : Setting) (agrees : Agrees globals s) (declares : DeclareLocals s) (store : Store) (entry : List ℕ) (next : ℕ) (ready : IsSoundStore s store next) (here : Here)
     (h : HoldsAt s store entry here) (fresh : ℕ) (are : AreFresh s.frame fresh) where
   abbrev HasPlace : NotedExpr → Type 0
   HasPlace e = fresh + length ((view s.frame e).fresh here.at) < 2 ^ 32
@@ -114,39 +113,34 @@ module _ (globals : Globals) (s : Setting) (agrees : Agrees globals s) (declares
         let r = made_of (all_judged (map (view s.frame) ys) (fresh_behind (view s.frame y) fresh here.at) here.at) (λ rest. Ok (q.0 ∷ rest)) (y ∷ ys) q.2 in
         q.1 ∙ ap Ok (first_same q.0 y r.0 ys (ok_same (q.0 ∷ r.0) (y ∷ ys) r.2))
 
-    pub argument_evaluates : (literals : ℕ) → IsCovered s store here.seen y → AreStrings s literals (strings_of_expr y) → ComesTo (λ v. Unit {0}) (evaluated store (expr_elaborated s.text s.variables literals y))
+    pub argument_evaluates : (literals : ℕ) → IsCovered m s store here.seen y → AreStrings s literals (strings_of_expr y) → Comes m (λ v. Unit {0}) (evaluated store (expr_elaborated s.text s.variables literals y))
     argument_evaluates literals covered strings =
-        by (evaluated store (expr_elaborated s.text s.variables literals y))
-        (judged_meant globals s agrees declares store entry next ready here y y fresh literals room_there are typed_there judged_there covered strings h)
-      where
-        by : (r : Result Given Halt) → IsNotStuck (IsMeant s store entry here (view s.frame y)) r → ComesTo (λ v. Unit {0}) r
-        by (Ok v) c = tt
-        by (Err (halt.Stopped why at)) c = tt
-        by (Err halt.Stuck) c = absurd c
+        comes_as m (λ p. GivesAt s store here.at y p.number) (λ v. Unit {0}) (evaluated store (expr_elaborated s.text s.variables literals y))
+        (judged_gives m globals s agrees declares store entry next ready here y y fresh literals room_there are typed_there judged_there covered strings h) (λ v is c. tt)
 
   -- ---- what a step puts
 
   module _ (sp : Spot) (to : Destination) (k : ℕ) (e : Expr) (before x : NotedExpr) (typed : IsTyped globals s before) (judged : (view s.frame before).judged fresh here.at ≡ Ok x) (room : HasPlace x)
-      (covered : (es : List NotedExpr) → out-Node Name Note x.node ≡ Node-F.Call name.Putchar es → IsCoveredFirst s store here.seen es)
+      (covered : (es : List NotedExpr) → out-Node Name Note x.node ≡ Node-F.Call name.Putchar es → IsCoveredFirst m s store here.seen es)
       (strings : AreStrings s k (strings_of_expr x)) where
-    by_args : (es : List NotedExpr) → out-Node Name Note x.node ≡ Node-F.Call name.Putchar es → e ≡ first_of s.text s.variables k es → ComesTo (λ v. Unit {0}) (evaluated store e)
+    by_args : (es : List NotedExpr) → out-Node Name Note x.node ≡ Node-F.Call name.Putchar es → e ≡ first_of s.text s.variables k es → Comes m (λ v. Unit {0}) (evaluated store e)
     by_args [] out is = absurd (covered [] out)
     by_args (y ∷ ys) out is =
-        subst (λ z. ComesTo (λ v. Unit {0}) (evaluated store z)) (sym is)
+        subst (λ z. Comes m (λ v. Unit {0}) (evaluated store z)) (sym is)
         (argument_evaluates x name.Putchar y ys out (judged_typed globals s before x fresh here.at typed judged).0 room
         (subst (λ (v : View). v.judged fresh here.at ≡ Ok x) (sym (same_view s.frame before x fresh here.at judged s.frame)) judged) k (covered (y ∷ ys) out)
         (strings_in_front s (strings_of_expr y) (inside_each listed (λ z. z) (map strings_of_expr ys)) k
         (subst (λ z. AreStrings s k (strings_in_node z)) out (subst (AreStrings s k) (strings_are x) strings))))
 
-    by_name : (n : Name) (es : List NotedExpr) → out-Node Name Note x.node ≡ Node-F.Call n es → IsPut (called s.text s.variables sp to k n es x.pos End) e → ComesTo (λ v. Unit {0}) (evaluated store e)
+    by_name : (n : Name) (es : List NotedExpr) → out-Node Name Note x.node ≡ Node-F.Call n es → IsPut (called s.text s.variables sp to k n es x.pos End) e → Comes m (λ v. Unit {0}) (evaluated store e)
     by_name (name.Function j) es out put = absurd put
     by_name name.Getchar es out put = absurd put
     by_name name.Putchar es out put = by_args es out put
     by_name n es out put = absurd put
 
-    pub put_evaluates : IsPut (assigned s.text s.variables sp to k x End) e → ComesTo (λ v. Unit {0}) (evaluated store e)
+    pub put_evaluates : IsPut (assigned s.text s.variables sp to k x End) e → Comes m (λ v. Unit {0}) (evaluated store e)
     put_evaluates put = by (out-Node Name Note x.node) refl put
       where
-        by : (y : NotedLayer) → out-Node Name Note x.node ≡ y → IsPut (assigned_form s.text s.variables sp to k x y End) e → ComesTo (λ v. Unit {0}) (evaluated store e)
+        by : (y : NotedLayer) → out-Node Name Note x.node ≡ y → IsPut (assigned_form s.text s.variables sp to k x y End) e → Comes m (λ v. Unit {0}) (evaluated store e)
         by (Node-F.Call n es) out put = by_name n es out put
         by y out put = absurd put

@@ -3,6 +3,7 @@ use Rattle.std.proofs.Common.{◌≡◌, inl, inr, refl, sym, ap, subst, ◌∙�
 use Rattle.std.specs.Prelude.{length}
 use Rattle.std.specs.List.{All, AllByRecursion}
 use Rattle.std.proofs.lemmas.List.Elements.{All-nil, All-cons, All-contains}
+use Rattle.ckc_base.specs.declared.arithmetic.Mode.{Mode}
 use Rattle.ckc_base.specs.declared.arithmetic.Mode.TheVariants.{Checked}
 use Rattle.ckc_base.specs.declared.places.Pos.{Pos}
 use Rattle.ckc_syntax.specs.Inside.{listed, inside_each}
@@ -39,7 +40,6 @@ use Rattle.ckc_blame_sound.specs.Settings.{Setting, AreStrings}
 use Rattle.ckc_blame_sound.specs.Sound.{Sound}
 use Rattle.ckc_blame_sound.specs.Steps.{IsStep}
 use Rattle.ckc_blame_sound.proofs.Strings.{strings_in_front, strings_after}
-use Rattle.ckc_blame_sound.specs.Moves.{IsSoundMove}
 use Rattle.ckc_blame_sound.specs.Typed.{IsTyped, AreTypedSides, IsTypedAct}
 use Rattle.ckc_blame_sound.proofs.Stepping.{ActLayer, parted, code_is, first_step}
 use Rattle.ckc_blame_sound.proofs.Judging.{judged_typed}
@@ -49,13 +49,15 @@ use Rattle.ckc_blame_given.specs.Together.{AreTogether}
 use Rattle.ckc_blame_given.proofs.Bundles.{bundle_together}
 use Rattle.ckc_blame_control.specs.Ready.{Faces}
 use Rattle.ckc_blame_control.proofs.Faced.{faces_bundle}
-use Rattle.ckc_blame_control.proofs.Moved.{stands_ready, move_by}
+use Rattle.ckc_blame_control.proofs.Moved.{stands_ready}
 use Rattle.ckc_blame_given.specs.Written.{AreOne, IsFitting}
 use Rattle.ckc_blame_given.specs.Stored.{IsAssignJudged, next_fresh, AreAssignsJudged, AreStored}
 use Rattle.ckc_blame_given.proofs.Fitting.{step_fits}
 use Rattle.ckc_blame_given.proofs.Stored.{assignment_stored, bundle_stored}
 use Rattle.ckc_blame_steps.specs.Granted.{IsGranted, IsCoveredAct, HaveRoom, HasRoomAct}
 use Rattle.ckc_blame_steps.specs.Plans.{BecomesPart, BecomeParts, AllocateSoundly}
+use Rattle.ckc_blame_steps.specs.Unchecked.{StoresSafely, MovesSoundly}
+use Rattle.ckc_blame_steps.proofs.Comes.{safe_as}
 use Rattle.ckc_blame_steps.proofs.Declarations.{local_made}
 use Rattle.ckc_blame_steps.proofs.Origins.{Kind, kind}
 use Rattle.ckc_blame_steps.proofs.Strings.{strings_there, sides_strings}
@@ -64,6 +66,7 @@ use Rattle.ckc_blame_steps.proofs.Plans.{AllFit, StayCovered, all_unstuck}
 use Rattle.ckc_blame_steps.proofs.Stores.{planning}
 use Rattle.ckc_blame_steps.proofs.StoresLie.{AreUnstuck}
 use Rattle.ckc_blame_steps.proofs.Steps.{at_b, known, free, covered_there, parts_sound, row_of, side_fits, typed_act}
+use Rattle.ckc_blame_steps.proofs.SoundMoves.{moves_by}
 
 -- ---- a bundle comes from a bundle
 
@@ -151,8 +154,8 @@ parts_become s at fresh (x ∷ xs) (y ∷ ys) h k strings =
 
 -- ---- a bundle
 
-module _ (p : Typed) (g : IsGranted p) (allocations : AllocateSoundly p) (st : State) (h : Sound p st) (next : List Work) (sp : Spot) (assigns : List (Target × Right)) (mode : sp.mode ≡ Checked)
-    (f : Faces h.setting (store_in p st.blocks st.frame) st.frame.entry (Bundle sp assigns) next) (ss : List NotedStmt) (is : out-Act Name Note f.judged.before.body ≡ Act-F.Bundle ss) where
+module _ (p : Typed) (g : IsGranted p) (allocations : AllocateSoundly p) (m : Mode) (st : State) (h : Sound p st) (next : List Work) (sp : Spot) (assigns : List (Target × Right)) (mode : sp.mode ≡ m)
+    (safe : StoresSafely m (Bundle sp assigns End)) (f : Faces h.setting (store_in p st.blocks st.frame) st.frame.entry (Bundle sp assigns) next) (ss : List NotedStmt) (is : out-Act Name Note f.judged.before.body ≡ Act-F.Bundle ss) where
   abbrev pub t : Setting
   t = h.setting
 
@@ -190,8 +193,8 @@ module _ (p : Typed) (g : IsGranted p) (allocations : AllocateSoundly p) (st : S
   become = subst (BecomeParts t ts) (sym assigns_are) (parts_become t f.here.at f.here.next ss ts judged f.judged.literals
       (strings_there t f.judged.literals f.judged.after f.judged.strings (Act-F.Bundle ts) layer))
 
-  covered : StayCovered t list st.frame.entry f.here ts
-  covered c at_c = subst (IsCoveredAct t (store_of list c) f.here.seen) layer (covered_there p g st h step next f sp mode c at_c)
+  covered : StayCovered m t list st.frame.entry f.here ts
+  covered c at_c = subst (IsCoveredAct m t (store_of list c) f.here.seen) layer (covered_there p g st h step next f m sp mode safe c at_c)
 
   room : HaveRoom t.frame f.here.at 0 f.here.next (stores_of ts)
   room = subst (HasRoomAct t.frame f.here.at f.here.next) layer (g.room t st.frame.function f.here f.exits.ends step h.stands.function f.judged)
@@ -244,31 +247,32 @@ module _ (p : Typed) (g : IsGranted p) (allocations : AllocateSoundly p) (st : S
       bundle_together (globals_in p) t locals (y ∷ z ∷ ys) f.here.at 0 f.here.next one
       (λ q c. All-contains (λ (q : stores.Store). IsTyped (globals_in p) t q.target) (stores_of (y ∷ z ∷ ys)) q typed c)
 
-  pub bundle_comes : IsSoundMove p (comes_to [] (bundled list (planning p g st h step next f) assigns))
+  pub bundle_comes : MovesSoundly m p (comes_to [] (bundled list (planning p g st h step next f) assigns))
   bundle_comes =
-      parts_sound p g st h step next f allocations ss ts assigns judged leads fit covered become room fitting
+      parts_sound p g st h step next f m allocations ss ts assigns judged leads fit covered become room fitting
       (all_together ss ts judged leads.one (all_typed ss ts f.here.next judged (subst (IsTypedAct (globals_in p) t) is (typed_act p g st h step next f))))
 
-  -- no target is stuck in the state before the step
-  pub bundle_unstuck : AreUnstuck list st assigns
-  bundle_unstuck =
+  -- in checked code no target is stuck in the state before the step
+  pub bundle_unstuck : m ≡ Checked → AreUnstuck list st assigns
+  bundle_unstuck checked =
       let at = at_b p g st h step next f in
       let known = known p g st h step next f in
-      all_unstuck (globals_in p) t (frames_agree p t st.frame.function g.judged h.stands.function) (g.declares t st.frame.function h.stands.function) (free p g st h step next f) list st.frame.entry f.here
-      (allocations t st.frame.function f.here f.exits.ends step st.frame.entry h.stands.function f.judged)
-      (planning p g st h step next f) at ss ts assigns 0 f.here.next known.word known.fresh judged fit (covered (planning p g st h step next f) at) become room
+      all_unstuck m (globals_in p) t (frames_agree p t st.frame.function g.judged h.stands.function) (g.declares t st.frame.function h.stands.function) (free p g st h step next f) list st.frame.entry f.here
+      (allocations m t st.frame.function f.here f.exits.ends step st.frame.entry h.stands.function f.judged)
+      checked (planning p g st h step next f) at ss ts assigns 0 f.here.next known.word known.fresh judged fit (covered (planning p g st h step next f) at) become room
 
 pub every_bundle : (p : Typed) (st : State) (h : Sound p st) (sp : Spot) (assigns : List (Target × Right)) (rest : Code) (next : List Work) → IsGranted p → AllocateSoundly p
-    → settled st.frame.work ≡ Rest (Bundle sp assigns rest) ∷ next → (spot_of st).mode ≡ Checked → IsSoundMove p (source_step (elaborated p) st)
-every_bundle p st h sp assigns rest next g allocations is mode =
+    → settled st.frame.work ≡ Rest (Bundle sp assigns rest) ∷ next → (m : Mode) → (spot_of st).mode ≡ m → StoresSafely m (Bundle sp assigns rest) → MovesSoundly m p (source_step (elaborated p) st)
+every_bundle p st h sp assigns rest next g allocations is m mode safe =
     let f = faces_bundle h.setting (store_in p st.blocks st.frame) st.frame.entry st.frame.work next (stands_ready p st h) sp assigns rest is in
     let b = bundle_layer h.setting f.here f.exits.ends sp assigns f.judged in
-    move_by p st (Rest (Bundle sp assigns rest) ∷ next) is
-    (bundle_comes p g allocations st h (Rest rest ∷ next) sp assigns (subst (λ w. (spot_at st.frame.function.end w).mode ≡ Checked) is mode) f b.0 b.1)
+    moves_by m p st (Rest (Bundle sp assigns rest) ∷ next) is
+    (bundle_comes p g allocations m st h (Rest rest ∷ next) sp assigns (subst (λ w. (spot_at st.frame.function.end w).mode ≡ m) is mode)
+    (safe_as m (Bundle sp assigns rest) (Bundle sp assigns End) refl safe) f b.0 b.1)
 
 pub every_bundle_unstuck : (p : Typed) (st : State) (h : Sound p st) (sp : Spot) (assigns : List (Target × Right)) (rest : Code) (next : List Work) → IsGranted p → AllocateSoundly p
     → settled st.frame.work ≡ Rest (Bundle sp assigns rest) ∷ next → (spot_of st).mode ≡ Checked → AreUnstuck (shapes_elaborated p.layout) st assigns
 every_bundle_unstuck p st h sp assigns rest next g allocations is mode =
     let f = faces_bundle h.setting (store_in p st.blocks st.frame) st.frame.entry st.frame.work next (stands_ready p st h) sp assigns rest is in
     let b = bundle_layer h.setting f.here f.exits.ends sp assigns f.judged in
-    bundle_unstuck p g allocations st h (Rest rest ∷ next) sp assigns (subst (λ w. (spot_at st.frame.function.end w).mode ≡ Checked) is mode) f b.0 b.1
+    bundle_unstuck p g allocations Checked st h (Rest rest ∷ next) sp assigns (subst (λ w. (spot_at st.frame.function.end w).mode ≡ Checked) is mode) tt f b.0 b.1 refl

@@ -2,7 +2,7 @@
 use Rattle.std.proofs.Common.{◌≡◌, inl, refl, sym, ap, subst, ◌∙◌, ℕ, ◌+◌, List, [], ◌∷◌, arith}
 use Rattle.std.specs.Prelude.{◌<◌, ◌≤◌, ◌^◌, length, Result, Ok, Err}
 use Rattle.std.specs.List.{All}
-use Rattle.ckc_base.specs.declared.arithmetic.Mode.TheVariants.{Checked}
+use Rattle.ckc_base.specs.declared.arithmetic.Mode.{Mode}
 use Rattle.ckc_syntax.specs.declared.tree.Name.{Name}
 use Rattle.ckc_syntax.specs.declared.tree.Node.{out-Node}
 use Rattle.ckc_syntax.specs.declared.tree.Act.{Act-F, out-Act}
@@ -31,27 +31,28 @@ use Rattle.ckc_blame_sound.specs.Calls.{store_in}
 use Rattle.ckc_blame_sound.specs.Settings.{Setting, IsFunction}
 use Rattle.ckc_blame_sound.specs.Sound.{Sound}
 use Rattle.ckc_blame_sound.specs.Valuations.{Valuation}
-use Rattle.ckc_blame_sound.specs.Moves.{IsSoundMove}
 use Rattle.ckc_blame_sound.proofs.Judging.{judged_typed}
 use Rattle.ckc_blame_sound.proofs.Stepping.{parted, code_is, first_step}
 use Rattle.ckc_blame_sound.specs.JudgedTexts.{globals_in}
 use Rattle.ckc_blame_sound.proofs.Frames.{frames_agree}
 use Rattle.ckc_blame_sound.proofs.SameViews.{same_view}
 use Rattle.ckc_blame_control.specs.Ready.{Faces}
-use Rattle.ckc_blame_control.proofs.Moved.{stopped}
+use Rattle.ckc_blame_pointers.specs.Owed.{Comes}
+use Rattle.ckc_blame_given.proofs.Comes.{comes_as}
 use Rattle.ckc_blame_given.specs.Planned.{IsPlanned, ArePlanned}
 use Rattle.ckc_blame_given.specs.Written.{IsFitting, IsReceived}
 use Rattle.ckc_blame_given.specs.Stored.{IsAssignJudged, AreAssignsJudged, AreStored}
 use Rattle.ckc_blame_given.proofs.Calls.{call_received}
 use Rattle.ckc_blame_given.proofs.Fitting.{step_fits, same_type}
 use Rattle.ckc_blame_given.proofs.Stored.{assignment_stored}
-use Rattle.ckc_blame_given.specs.Targets.{GoesThere, ComesTo, IsCoveredTarget}
+use Rattle.ckc_blame_given.specs.Targets.{GoesThere, IsCoveredTarget}
 use Rattle.ckc_blame_given.specs.Together.{AreTogether, AreIn}
 use Rattle.ckc_blame_given.proofs.Aims.{judged_aims}
 use Rattle.ckc_blame_steps.specs.Granted.{IsGranted, IsCoveredRight, IsCoveredAct, HaveRoomSides, HasRoomAct}
 use Rattle.ckc_blame_steps.specs.Plans.{IsAt, IsSoundPlan}
+use Rattle.ckc_blame_steps.specs.Unchecked.{StoresSafely, MovesSoundly}
 use Rattle.ckc_blame_steps.proofs.Bytes.{IsByteStep, IsByteCall, byte_call, own_bare, zeros, zeros_are, zeros_numbers}
-use Rattle.ckc_blame_steps.proofs.Comes.{allowed_comes, same_state}
+use Rattle.ckc_blame_steps.proofs.Comes.{allowed_comes, stops_soundly, same_state}
 use Rattle.ckc_blame_steps.proofs.Strings.{sides_strings}
 use Rattle.ckc_blame_steps.proofs.Plans.{AreFit}
 use Rattle.ckc_blame_steps.proofs.Landings.{Lands}
@@ -59,10 +60,10 @@ use Rattle.ckc_blame_steps.proofs.Steps.{covered_there, known, free, row_of, sid
 use Rattle.ckc_blame_steps.proofs.Stores.{planning, is_at, written_sound}
 
 -- one write is all of them
-one_written : (p : Typed) (w : Write) (b : State) → IsSoundMove p (comes_to [] (all_written (w ∷ []) b)) → IsSoundMove p (comes_to [] (writes w.0 w.1 b))
-one_written p w b = by (writes w.0 w.1 b)
+one_written : (m : Mode) (p : Typed) (w : Write) (b : State) → MovesSoundly m p (comes_to [] (all_written (w ∷ []) b)) → MovesSoundly m p (comes_to [] (writes w.0 w.1 b))
+one_written m p w b = by (writes w.0 w.1 b)
   where
-    by : (r : Result State Halt) → IsSoundMove p (comes_to [] (given r (all_written []))) → IsSoundMove p (comes_to [] r)
+    by : (r : Result State Halt) → MovesSoundly m p (comes_to [] (given r (all_written []))) → MovesSoundly m p (comes_to [] r)
     by (Ok s) h = h
     by (Err (halt.Stopped why at)) h = h
     by (Err halt.Stuck) h = h
@@ -71,7 +72,7 @@ further : (n m : ℕ) → n < 2 ^ 32 → n ≤ capped n m
 further n m h = omega arith
 
 module _ (p : Typed) (g : IsGranted p) (st : State) (h : Sound p st) (step : Code → Code) (next : List Work) (f : Faces h.setting (store_in p st.blocks st.frame) st.frame.entry step next)
-    (end : Spot) (mode : (spot_in end (step End)).mode ≡ Checked) (e x : NotedExpr) (is : out-Act Name Note f.judged.before.body ≡ Act-F.Assign e x) where
+    (m : Mode) (end : Spot) (mode : (spot_in end (step End)).mode ≡ m) (safe : StoresSafely m (step End)) (e x : NotedExpr) (is : out-Act Name Note f.judged.before.body ≡ Act-F.Assign e x) where
   abbrev s : Setting
   s = h.setting
 
@@ -103,8 +104,8 @@ module _ (p : Typed) (g : IsGranted p) (st : State) (h : Sound p st) (step : Cod
   abbrev value : NotedExpr
   value = one.value
 
-  pub covered : IsCoveredTarget s (store_of shapes b) f.here.seen place (out-Node Name Note place.node) × IsCoveredRight s (store_of shapes b) f.here.seen place.note.ctype value (out-Node Name Note value.node)
-  covered = subst (IsCoveredAct s (store_of shapes b) f.here.seen) one.becomes (covered_there p g st h step next f end mode b at_b)
+  pub covered : IsCoveredTarget m s (store_of shapes b) f.here.seen place (out-Node Name Note place.node) × IsCoveredRight m s (store_of shapes b) f.here.seen place.note.ctype value (out-Node Name Note value.node)
+  covered = subst (IsCoveredAct m s (store_of shapes b) f.here.seen) one.becomes (covered_there p g st h step next f m end mode safe b at_b)
 
   pub fit : AreFit (globals_in p) s (Act-F.Assign one.target one.right)
   fit =
@@ -186,36 +187,34 @@ module _ (p : Typed) (g : IsGranted p) (st : State) (h : Sound p st) (step : Cod
           subst (λ y. IsSoundPlan s shapes st.frame.entry f.here b (numbered s.frame f.here.at 0 f.here.next (with_store y f.judged.after.pos [])) 0 f.here.next zero plan) (sym one.becomes)
           planned_one
 
-      write_sound : IsSoundMove p (comes_to [] (writes w n b))
+      write_sound : MovesSoundly m p (comes_to [] (writes w n b))
       write_sound =
-          one_written p (w, n) b (written_sound p g st h step next f afters 0 f.here.next made.1 plan zero is_plan fitting (together b.frame.locals))
+          one_written m p (w, n) b (written_sound p g st h step next f afters 0 f.here.next made.1 plan zero is_plan fitting (together b.frame.locals) m)
 
     -- what may be written is written
     allowed_sound : (to : Place) → ((n : ℕ) (w : Place) → n < 2 ^ 32 → allowed to n ≡ Ok w → GoesThere s (store_of shapes b) placed n w) → (n : ℕ) → n < 2 ^ 32
-        → IsSoundMove p (comes_to [] (writes_allowed to n b))
-    allowed_sound to goes n small = by (allowed to n) (allowed_comes to n) (λ w is. goes n w small is)
+        → MovesSoundly m p (comes_to [] (writes_allowed to n b))
+    allowed_sound to goes n small = by (allowed to n) (allowed_comes m to n) (λ w is. goes n w small is)
       where
-        by : (r : Result Place Halt) → ComesTo (λ w. allowed to n ≡ Ok w) r → ((w : Place) → allowed to n ≡ Ok w → GoesThere s (store_of shapes b) placed n w)
-            → IsSoundMove p (comes_to [] (given r (λ w. writes w n b)))
+        by : (r : Result Place Halt) → Comes m (λ w. allowed to n ≡ Ok w) r → ((w : Place) → allowed to n ≡ Ok w → GoesThere s (store_of shapes b) placed n w)
+            → MovesSoundly m p (comes_to [] (given r (λ w. writes w n b)))
         by (Ok w) c goes = write_sound n small w (goes w c)
-        by (Err (halt.Stopped why at)) c goes = stopped why at
-        by (Err halt.Stuck) c goes = absurd c
+        by (Err (halt.Stopped why at)) c goes = stops_soundly m why at
+        by (Err halt.Stuck) c goes = λ e. c
 
-    aims : ComesTo (λ to. (n : ℕ) (w : Place) → n < 2 ^ 32 → allowed to n ≡ Ok w → GoesThere s (store_of shapes b) placed n w)
-        (aimed (store_of shapes b) (target_of s.text s.variables f.judged.literals place))
+    abbrev AllGo : Place → Type 0
+    AllGo to = (n : ℕ) (w : Place) → n < 2 ^ 32 → allowed to n ≡ Ok w → GoesThere s (store_of shapes b) placed n w
+
+    aims : Comes m AllGo (aimed (store_of shapes b) (target_of s.text s.variables f.judged.literals place))
     aims =
-        judged_aims (globals_in p) s (frames_agree p s st.frame.function g.judged function) (g.declares s st.frame.function function) (store_of shapes b) st.frame.entry b.next at_b.ready f.here
+        judged_aims m (globals_in p) s (frames_agree p s st.frame.function g.judged function) (g.declares s st.frame.function function) (store_of shapes b) st.frame.entry b.next at_b.ready f.here
         (free p g st h step next f) one.target placed f.here.next f.judged.literals
         (subst (λ (v : View). f.here.next + length (v.fresh f.here.at) < 2 ^ 32) (same_view s.frame one.target place f.here.next f.here.at one.target_judged s.frame) room.left.variables)
         (known p g st h step next f).fresh fit.0 one.target_judged (ap is_scalar (same_type s.frame one.target place f.here.next f.here.at one.target_judged) ∙ fit.3) covered.0
         (sides_strings s f.judged.literals f.judged.after f.judged.strings place value one.becomes).0 at_b.holds
 
-    pub assign_lands : Lands p b (aimed (store_of shapes b) target)
+    pub assign_lands : Lands m p b (aimed (store_of shapes b) target)
     assign_lands =
-        subst (λ (t : Target). Lands p b (aimed (store_of shapes b) t)) (sym call.target_is)
-        (by (aimed (store_of shapes b) (target_of s.text s.variables f.judged.literals place)) aims)
-      where
-        by : (r : Result Place Halt) → ComesTo (λ to. (n : ℕ) (w : Place) → n < 2 ^ 32 → allowed to n ≡ Ok w → GoesThere s (store_of shapes b) placed n w) r → Lands p b r
-        by (Ok to) goes = allowed_sound to goes
-        by (Err (halt.Stopped why at)) c = tt
-        by (Err halt.Stuck) c = c
+        subst (λ (t : Target). Lands m p b (aimed (store_of shapes b) t)) (sym call.target_is)
+        (comes_as m AllGo (λ to. (n : ℕ) → n < 2 ^ 32 → MovesSoundly m p (comes_to [] (writes_allowed to n b)))
+        (aimed (store_of shapes b) (target_of s.text s.variables f.judged.literals place)) aims (λ to there. allowed_sound to))

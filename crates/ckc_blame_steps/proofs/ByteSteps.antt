@@ -2,7 +2,7 @@
 use Rattle.std.proofs.Common.{◌≡◌, refl, sym, subst, ◌∙◌, ℕ, List, [], ◌∷◌, arith}
 use Rattle.std.specs.Prelude.{◌-◌, ◌<◌, ◌^◌, Ok}
 use Rattle.ckc_base.specs.Lists.{AreBytes}
-use Rattle.ckc_base.specs.declared.arithmetic.Mode.TheVariants.{Checked}
+use Rattle.ckc_base.specs.declared.arithmetic.Mode.{Mode}
 use Rattle.ckc_syntax.specs.declared.tree.Init.TheVariants as init
 use Rattle.ckc_syntax.specs.declared.tree.Act.{Act-F}
 use Rattle.ckc_syntax.specs.declared.tree.Act.{out-Act}
@@ -24,24 +24,25 @@ use Rattle.ckc_blame_sound.specs.Calls.{store_in}
 use Rattle.ckc_blame_sound.specs.Settings.{Setting}
 use Rattle.ckc_blame_sound.specs.Sound.{Sound}
 use Rattle.ckc_blame_sound.specs.Valuations.{Valuation}
-use Rattle.ckc_blame_sound.specs.Moves.{IsSoundMove}
 use Rattle.ckc_blame_sound.specs.Typed.{IsTyped, IsTypedInit, IsTypedAct}
 use Rattle.ckc_blame_sound.proofs.Judging.{judged_typed}
 use Rattle.ckc_blame_sound.specs.JudgedTexts.{globals_in}
 use Rattle.ckc_blame_control.specs.Ready.{Faces}
 use Rattle.ckc_blame_control.proofs.Faced.{faces_get}
-use Rattle.ckc_blame_control.proofs.Moved.{move_by, stands_ready}
+use Rattle.ckc_blame_control.proofs.Moved.{stands_ready}
 use Rattle.ckc_blame_given.specs.Written.{IsStart}
 use Rattle.ckc_blame_given.proofs.Calls.{call_received}
 use Rattle.ckc_blame_steps.specs.Granted.{IsGranted, HasRoomInit}
+use Rattle.ckc_blame_steps.specs.Unchecked.{StoresSafely, MovesSoundly}
 use Rattle.ckc_blame_steps.proofs.Bytes.{IsByteStep, IsByteCall, no_bundle, no_ending, byte_call, own_bare, zeros, zeros_are, zeros_numbers}
-use Rattle.ckc_blame_steps.proofs.Comes.{same_state}
+use Rattle.ckc_blame_steps.proofs.Comes.{safe_as, same_state}
 use Rattle.ckc_blame_steps.proofs.Declarations as declaration
 use Rattle.ckc_blame_steps.proofs.ByteAssignments.{assign_lands}
 use Rattle.ckc_blame_steps.proofs.Origins.{Kind, kind}
 use Rattle.ckc_blame_steps.proofs.Landings.{Lands, landed, call_lands}
 use Rattle.ckc_blame_steps.proofs.Steps.{known, typed_act}
 use Rattle.ckc_blame_steps.proofs.Stores.{is_at}
+use Rattle.ckc_blame_steps.proofs.SoundMoves.{moves_by}
 
 module _ (p : Typed) (g : IsGranted p) (st : State) (h : Sound p st) (step : Code → Code) (next : List Work) (f : Faces h.setting (store_in p st.blocks st.frame) st.frame.entry step next) where
   abbrev s : Setting
@@ -97,20 +98,20 @@ module _ (p : Typed) (g : IsGranted p) (st : State) (h : Sound p st) (step : Cod
     starts : (n : ℕ) → n < 2 ^ 32 → declaration.Starts p g st h step next f d is (record { number = n; state = b })
     starts n small = record { grown = same_state b; at = is_at p g st h step next f; valuation = zero; values = zeros_are s b.frame.locals f.here.next (known p g st h step next f).fresh; start = begins.1 n small }
 
-    declared_lands : Lands p b (aimed (store_of (shapes_elaborated p.layout) b) target)
-    declared_lands =
-        subst (λ (t : Target). Lands p b (aimed (store_of (shapes_elaborated p.layout) b) t)) (sym begins.0)
+    declared_lands : (m : Mode) → Lands m p b (aimed (store_of (shapes_elaborated p.layout) b) target)
+    declared_lands m =
+        subst (λ (t : Target). Lands m p b (aimed (store_of (shapes_elaborated p.layout) b) t)) (sym begins.0)
         (λ n small. declaration.put_sound p g st h step next f d is (record { number = n; state = b }) (starts n small))
 
   -- wherever it goes
-  pub byte_lands : (end : Spot) → (spot_in end (step End)).mode ≡ Checked → (target : Target) → IsByteStep (step End) target
-      → Lands p (at_work st next) (aimed (store_of (shapes_elaborated p.layout) (at_work st next)) target)
-  byte_lands end mode target byte = by (kind s f.here f.exits.ends step f.judged)
+  pub byte_lands : (m : Mode) (end : Spot) → (spot_in end (step End)).mode ≡ m → StoresSafely m (step End) → (target : Target) → IsByteStep (step End) target
+      → Lands m p (at_work st next) (aimed (store_of (shapes_elaborated p.layout) (at_work st next)) target)
+  byte_lands m end mode safe target byte = by (kind s f.here f.exits.ends step f.judged)
     where
-      by : Kind s f.here f.exits.ends step f.judged → Lands p (at_work st next) (aimed (store_of (shapes_elaborated p.layout) (at_work st next)) target)
-      by (Kind.Assigns e x layer) = assign_lands p g st h step next f end mode e x layer target byte
-      by (Kind.Declares d layer) = declared_lands d layer target byte
-      by (Kind.Calls c) = call_lands p st h step next f c target byte
+      by : Kind s f.here f.exits.ends step f.judged → Lands m p (at_work st next) (aimed (store_of (shapes_elaborated p.layout) (at_work st next)) target)
+      by (Kind.Assigns e x layer) = assign_lands p g st h step next f m end mode safe e x layer target byte
+      by (Kind.Declares d layer) = declared_lands d layer target byte m
+      by (Kind.Calls c) = call_lands p st h step next f c m target byte
       by (Kind.Bundles ss layer other) = absurd (no_bundle (step End) target byte other)
       by (Kind.Others other) = absurd (no_ending (step End) target byte other)
 
@@ -129,21 +130,24 @@ reads_on p st input h bytes = record {
 }
 
 pub every_get : (p : Typed) (st : State) (h : Sound p st) (sp : Spot) (target : Target) (rest : Code) (next : List Work) → IsGranted p
-    → settled st.frame.work ≡ Rest (Get sp target rest) ∷ next → (spot_of st).mode ≡ Checked → IsSoundMove p (source_step (elaborated p) st)
-every_get p st h sp target rest next g is mode = move_by p st (Rest (Get sp target rest) ∷ next) is (by st.input h.input)
+    → settled st.frame.work ≡ Rest (Get sp target rest) ∷ next → (m : Mode) → (spot_of st).mode ≡ m → StoresSafely m (Get sp target rest) → MovesSoundly m p (source_step (elaborated p) st)
+every_get p st h sp target rest next g is m mode safe = moves_by m p st (Rest (Get sp target rest) ∷ next) is (by st.input h.input)
   where
     f : Faces h.setting (store_in p st.blocks st.frame) st.frame.entry (Get sp target) (Rest rest ∷ next)
     f = faces_get h.setting (store_in p st.blocks st.frame) st.frame.entry st.frame.work next (stands_ready p st h) sp target rest is
 
-    at_mode : sp.mode ≡ Checked
-    at_mode = subst (λ w. (spot_at st.frame.function.end w).mode ≡ Checked) is mode
+    at_mode : sp.mode ≡ m
+    at_mode = subst (λ w. (spot_at st.frame.function.end w).mode ≡ m) is mode
+
+    safe_there : StoresSafely m (Get sp target End)
+    safe_there = safe_as m (Get sp target rest) (Get sp target End) refl safe
 
     by : (input : List ℕ) → AreBytes input
-        → IsSoundMove p (and_moves (aimed (store_of (shapes_elaborated p.layout) st) target) (λ to. gets (at_work st (Rest rest ∷ next)) to input))
-    by [] bytes = landed p (at_work st (Rest rest ∷ next)) _ (2 ^ 32 - 1) (omega arith) _ (byte_lands p g st h (Get sp target) (Rest rest ∷ next) f sp at_mode target refl)
+        → MovesSoundly m p (and_moves (aimed (store_of (shapes_elaborated p.layout) st) target) (λ to. gets (at_work st (Rest rest ∷ next)) to input))
+    by [] bytes = landed m p (at_work st (Rest rest ∷ next)) _ (2 ^ 32 - 1) (omega arith) _ (byte_lands p g st h (Get sp target) (Rest rest ∷ next) f m sp at_mode safe_there target refl)
     by (x ∷ others) bytes =
-        landed p (at_work (record st { input = others }) (Rest rest ∷ next)) _ x (small x bytes.0) _
-        (byte_lands p g (record st { input = others }) (reads_on p st others h bytes.1) (Get sp target) (Rest rest ∷ next) f sp at_mode target refl)
+        landed m p (at_work (record st { input = others }) (Rest rest ∷ next)) _ x (small x bytes.0) _
+        (byte_lands p g (record st { input = others }) (reads_on p st others h bytes.1) (Get sp target) (Rest rest ∷ next) f m sp at_mode safe_there target refl)
       where
         small : (n : ℕ) → n < 256 → n < 2 ^ 32
         small n h = omega arith

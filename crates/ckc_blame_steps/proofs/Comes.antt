@@ -1,38 +1,49 @@
--- Evaluations that are not stuck, one after another.
+-- What may be written in a step, what a step that stops owes, and states with more blocks.
 use Rattle.std.proofs.Common.{◌≡◌, refl, ap, sym, ◌∙◌, ℕ, Bool, true, false, [], ◌++◌, append_assoc}
 use Rattle.std.specs.Prelude.{◌==◌, if◌then◌else◌, Option, None, Some, Result, Ok, Err}
 use Rattle.std.proofs.lemmas.List.{append-nil}
+use Rattle.ckc_base.specs.declared.arithmetic.Mode.{Mode}
+use Rattle.ckc_base.specs.declared.arithmetic.Mode.TheVariants.{Checked, Unchecked}
 use Rattle.ckc_base.specs.declared.places.Pos.{Pos}
 use Rattle.ckc_base.specs.declared.runtime_checks.Check.TheVariants as check
 use Rattle.ckc_base.specs.Memory.{kept_part}
+use Rattle.ckc_base.specs.Traces.{Stopped, Stuck}
 use Rattle.ckc_source.specs.declared.outcome.Halt.{Halt}
 use Rattle.ckc_source.specs.declared.outcome.Halt.TheVariants as halt
 use Rattle.ckc_source.specs.declared.outcome.Place.{Place}
 use Rattle.ckc_source.specs.declared.outcome.Place.TheVariants as place
-use Rattle.ckc_source.specs.Eval.{given}
+use Rattle.ckc_source.specs.Code.{Code}
 use Rattle.ckc_source.specs.States.{State}
 use Rattle.ckc_source.specs.Steps.{refuses, allowed}
-use Rattle.ckc_blame_given.specs.Targets.{ComesTo}
+use Rattle.ckc_blame_control.proofs.Moved.{stopped}
+use Rattle.ckc_blame_pointers.specs.Owed.{Owed, Comes}
 use Rattle.ckc_blame_steps.specs.Plans.{HasMore}
-
-pub comes_on : {A B : Type 0} (P : A → Type 0) (Q : B → Type 0) (r : Result A Halt) (f : A → Result B Halt) → ComesTo P r → ((x : A) → P x → ComesTo Q (f x)) → ComesTo Q (given r f)
-comes_on P Q (Ok x) f h k = k x h
-comes_on P Q (Err (halt.Stopped why at)) f h k = tt
-comes_on P Q (Err halt.Stuck) f h k = absurd h
+use Rattle.ckc_blame_steps.specs.Unchecked.{stores_raw, StoresSafely}
 
 -- a place to write to is refused at a check alone
-refused_comes : (o : Option Pos) (n : ℕ) (to : Place) → ComesTo (λ w. refuses o n (Ok to) ≡ Ok w) (refuses o n (Ok to))
-refused_comes None n to = refl
-refused_comes (Some at) n to = by (n == 0)
+refused_comes : (m : Mode) (o : Option Pos) (n : ℕ) (to : Place) → Comes m (λ w. refuses o n (Ok to) ≡ Ok w) (refuses o n (Ok to))
+refused_comes m None n to = refl
+refused_comes m (Some at) n to = by (n == 0)
   where
-    by : (b : Bool) → ComesTo (λ w. ◌≡◌ {A = Result Place Halt} (if b then Ok to else Err (halt.Stopped check.Terminator at)) (Ok w)) (if b then Ok to else Err (halt.Stopped check.Terminator at))
+    by : (b : Bool) → Comes m (λ w. ◌≡◌ {A = Result Place Halt} (if b then Ok to else Err (halt.Stopped check.Terminator at)) (Ok w)) (if b then Ok to else Err (halt.Stopped check.Terminator at))
     by true = refl
     by false = tt
 
-pub allowed_comes : (to : Place) (n : ℕ) → ComesTo (λ w. allowed to n ≡ Ok w) (allowed to n)
-allowed_comes place.Nowhere n = refl
-allowed_comes (place.Local x width) n = refl
-allowed_comes (place.Memory a width zero_alone) n = refused_comes zero_alone (kept_part width n) (place.Memory a width zero_alone)
+pub allowed_comes : (m : Mode) (to : Place) (n : ℕ) → Comes m (λ w. allowed to n ≡ Ok w) (allowed to n)
+allowed_comes m place.Nowhere n = refl
+allowed_comes m (place.Local x width) n = refl
+allowed_comes m (place.Memory a width zero_alone) n = refused_comes m zero_alone (kept_part width n) (place.Memory a width zero_alone)
+
+-- ---- moves
+
+-- a run that stops is not stuck
+pub stops_soundly : (m : Mode) (why : _) (at : _) → Stopped why at ≡ Stuck → Owed m
+stops_soundly m why at e = absurd (stopped why at e)
+
+-- whether a step stores through unchecked pointers is seen from its first statement alone
+pub safe_as : (m : Mode) (c d : Code) → stores_raw c ≡ stores_raw d → StoresSafely m c → StoresSafely m d
+safe_as Checked c d e h = tt
+safe_as Unchecked c d e h = sym e ∙ h
 
 -- ---- states with more blocks
 

@@ -4,7 +4,7 @@ use Rattle.std.specs.Prelude.{◌*◌, not, if◌then◌else◌, slice_set, Resu
 use Rattle.ckc_base.specs.Outcomes.{bind, unless}
 use Rattle.ckc_base.specs.Memory.{kept_part}
 use Rattle.ckc_base.specs.Lists.{AreBytes}
-use Rattle.ckc_base.specs.declared.arithmetic.Mode.TheVariants.{Checked}
+use Rattle.ckc_base.specs.declared.arithmetic.Mode.{Mode}
 use Rattle.ckc_syntax.specs.declared.tree.Name.{Name}
 use Rattle.ckc_syntax.specs.declared.tree.Init.TheVariants as init
 use Rattle.ckc_syntax.specs.declared.tree.Act.{Act-F, out-Act}
@@ -49,7 +49,6 @@ use Rattle.ckc_blame_sound.specs.Slots.{Slot, AreFilled}
 use Rattle.ckc_blame_sound.specs.Sound.{Sound}
 use Rattle.ckc_blame_sound.specs.Valuations.{Valuation, IsValuationOf, AreFacts}
 use Rattle.ckc_blame_sound.proofs.Kept.{point_kept}
-use Rattle.ckc_blame_sound.specs.Moves.{IsSoundMove}
 use Rattle.ckc_blame_sound.specs.Cells.{AreSound}
 use Rattle.ckc_blame_sound.specs.Limited.{AreSlotParts, store_with, IsCountSpared, IsSpared}
 use Rattle.ckc_blame_sound.specs.Writes.{AreCellWrites, AreElsewhere}
@@ -65,19 +64,21 @@ use Rattle.ckc_blame_declared.proofs.HaveEnds.{locals_have_ends}
 use Rattle.ckc_blame_control.specs.Kept.{KeepRanges, IsSameCall}
 use Rattle.ckc_blame_control.specs.Ready.{Faces}
 use Rattle.ckc_blame_control.proofs.Kept.{faced_sound, blocks_keep_ranges}
-use Rattle.ckc_blame_control.proofs.Moved.{stopped, move_by}
+use Rattle.ckc_blame_pointers.specs.Owed.{Comes}
+use Rattle.ckc_blame_given.proofs.Comes.{comes_as}
 use Rattle.ckc_blame_given.specs.Written.{IsStart, IsDeclared}
 use Rattle.ckc_blame_given.proofs.Declared.{declared_after}
-use Rattle.ckc_blame_given.specs.Targets.{ComesTo}
 use Rattle.ckc_blame_steps.specs.Granted.{IsGranted, IsCoveredInit, IsCoveredAct, HasRoom, HasRoomInit, HasRoomAct}
 use Rattle.ckc_blame_steps.specs.Plans.{IsAt, HasMore, IsDrawnOn, IsDrawn, AllocateSoundly}
+use Rattle.ckc_blame_steps.specs.Unchecked.{StoresSafely, MovesSoundly}
 use Rattle.ckc_blame_steps.proofs.Becomes.{IsPlain, plain}
-use Rattle.ckc_blame_steps.proofs.Comes.{same_state}
+use Rattle.ckc_blame_steps.proofs.Comes.{stops_soundly, safe_as, same_state}
 use Rattle.ckc_blame_steps.proofs.Own.{own_valuation, own_values}
 use Rattle.ckc_blame_steps.proofs.Plans.{right_drawn}
 use Rattle.ckc_blame_steps.proofs.Strings.{init_strings}
 use Rattle.ckc_blame_steps.proofs.Stores.{text_is, planning, is_at}
 use Rattle.ckc_blame_steps.proofs.Steps.{covered_there, typed_act, row_of, known, free}
+use Rattle.ckc_blame_steps.proofs.SoundMoves.{moves_by}
 
 -- ---- memory
 
@@ -273,27 +274,28 @@ module _ (p : Typed) (g : IsGranted p) (st : State) (h : Sound p st) (step : Cod
         (subst AreBytes (sym (ap (λ (x : State). x.input) so.grown.same)) h.input) step next f (ap (λ (x : State). x.frame.work) so.grown.same)
         (subst (λ x. HoldsAt s (store_of shapes put) x f.exits.ends) (sym same_call.entry) (point_kept s (store_of shapes put) st.frame.entry f.judged.behind f.exits.ends f.judged.goes point))
 
-  module _ (allocations : AllocateSoundly p) (sp : Spot) (target : Target) (right : Right) (same : step End ≡ Assign sp target right End) (mode : sp.mode ≡ Checked) where
+  module _ (allocations : AllocateSoundly p) (m : Mode) (sp : Spot) (target : Target) (right : Right) (same : step End ≡ Assign sp target right End) (mode : sp.mode ≡ m)
+      (safe : StoresSafely m (step End)) where
     code_is_so : started s.text s.variables spot_there to literals e.init End ≡ Assign sp target right End
     code_is_so = code_there ∙ same
 
-    is_covered : (c : State) → IsAt s shapes st.frame.entry f.here c → IsCoveredInit s (store_of shapes c) f.here.seen l.ctype e.init
+    is_covered : (c : State) → IsAt s shapes st.frame.entry f.here c → IsCoveredInit m s (store_of shapes c) f.here.seen l.ctype e.init
     is_covered c at_c =
-        subst (λ t. IsCoveredInit s (store_of shapes c) f.here.seen t e.init) type_is
-        (subst (IsCoveredAct s (store_of shapes c) f.here.seen) is_made.becomes
-        (covered_there p g st h step next f sp (ap (λ (x : Code). (spot_in sp x).mode) same ∙ mode) c at_c))
+        subst (λ t. IsCoveredInit m s (store_of shapes c) f.here.seen t e.init) type_is
+        (subst (IsCoveredAct m s (store_of shapes c) f.here.seen) is_made.becomes
+        (covered_there p g st h step next f m sp (ap (λ (x : Code). (spot_in sp x).mode) same ∙ mode) safe c at_c))
 
     abbrev Claim : Target → Right → Type 0
-    Claim x r = (x ≡ to.target) × ComesTo Starts (drawn shapes b r)
+    Claim x r = (x ≡ to.target) × Comes m Starts (drawn shapes b r)
 
     none_starts : e.init ≡ init.Nothing → Claim target right
     none_starts none =
         let code : Assign spot_there to.target (Value (Number 0)) End ≡ Assign sp target right End =
         ap (λ (i : NotedInit). started s.text s.variables spot_there to literals i End) (sym none) ∙ code_is_so in
         let r : Value (Number 0) ≡ right = cc in
-        (cc, subst (λ x. ComesTo Starts (drawn shapes b x)) r zero)
+        (cc, subst (λ x. Comes m Starts (drawn shapes b x)) r zero)
       where
-        zero : ComesTo Starts (drawn shapes b (Value (Number 0)))
+        zero : Comes m Starts (drawn shapes b (Value (Number 0)))
         zero = record {
           grown = same_state b;
           at = is_at p g st h step next f;
@@ -305,9 +307,9 @@ module _ (p : Typed) (g : IsGranted p) (st : State) (h : Sound p st) (step : Cod
     module _ (x y : NotedExpr) (one : e.init ≡ init.One y) (judged : (view s.frame x).judged f.here.next f.here.at ≡ Ok y) (typed : IsTyped (globals_in p) s x) (goes : converts l.ctype x ≡ true) where
       plain_there : IsPlain s sp spot_there to literals y target right
       plain_there =
-          plain s sp spot_there to literals y target right (store_of shapes b) f.here.seen l.ctype
+          plain s sp spot_there to literals y target right m (store_of shapes b) f.here.seen l.ctype
           (ap (λ (i : NotedInit). started s.text s.variables spot_there to literals i End) (sym one) ∙ code_is_so)
-          (subst (IsCoveredInit s (store_of shapes b) f.here.seen l.ctype) one (is_covered b (is_at p g st h step next f)))
+          (subst (IsCoveredInit m s (store_of shapes b) f.here.seen l.ctype) one (is_covered b (is_at p g st h step next f)))
 
       room_there : HasRoom s.frame f.here.at 0 f.here.next y
       room_there = subst (HasRoomInit s.frame f.here.at f.here.next) one room
@@ -331,19 +333,14 @@ module _ (p : Typed) (g : IsGranted p) (st : State) (h : Sound p st) (step : Cod
       one_starts : Claim target right
       one_starts = (
         plain_there.target_is,
-        subst (λ r. ComesTo Starts (drawn shapes b r)) (sym right_there)
-            (weaker (drawn shapes b (right_of s.text s.variables literals (is_terminated l.ctype) y))
-            (right_drawn (globals_in p) s (frames_agree p s st.frame.function g.judged function) (g.declares s st.frame.function function) (free p g st h step next f) shapes st.frame.entry f.here
-            (allocations s st.frame.function f.here f.exits.ends step st.frame.entry function f.judged) b (is_at p g st h step next f) l.ctype x y f.here.next literals typed goes judged room_there.variables
+        subst (λ r. Comes m Starts (drawn shapes b r)) (sym right_there)
+            (comes_as m (IsDrawn s shapes st.frame.entry f.here b l.ctype y) Starts (drawn shapes b (right_of s.text s.variables literals (is_terminated l.ctype) y))
+            (right_drawn m (globals_in p) s (frames_agree p s st.frame.function g.judged function) (g.declares s st.frame.function function) (free p g st h step next f) shapes st.frame.entry f.here
+            (allocations m s st.frame.function f.here f.exits.ends step st.frame.entry function f.judged) b (is_at p g st h step next f) l.ctype x y f.here.next literals typed goes judged room_there.variables
             (known p g st h step next f).fresh
-            (plain_there.covered (store_of shapes b) f.here.seen l.ctype (subst (IsCoveredInit s (store_of shapes b) f.here.seen l.ctype) one (is_covered b (is_at p g st h step next f))))
-            (strings_from y one))),
+            (plain_there.covered m (store_of shapes b) f.here.seen l.ctype (subst (IsCoveredInit m s (store_of shapes b) f.here.seen l.ctype) one (is_covered b (is_at p g st h step next f))))
+            (strings_from y one)) (λ w there. of_drawn w)),
       )
-        where
-          weaker : (r : Result Drawn Halt) → ComesTo (IsDrawn s shapes st.frame.entry f.here b l.ctype y) r → ComesTo Starts r
-          weaker (Ok w) c = of_drawn w c
-          weaker (Err (halt.Stopped why at)) c = tt
-          weaker (Err halt.Stuck) c = absurd c
 
     starts : Claim target right
     starts =
@@ -357,21 +354,22 @@ module _ (p : Typed) (g : IsGranted p) (st : State) (h : Sound p st) (step : Cod
         by (init.One x) same j typed goes = one_starts x j.0 j.1 j.2 typed (subst (λ t. converts t x ≡ true) (sym declared_there.same) goes)
         by (init.Many xs) same j typed goes = absurd goes
 
-    pub declared_sound : IsSoundMove p (comes_to [] (bundled shapes b ((target, right) ∷ [])))
+    pub declared_sound : MovesSoundly m p (comes_to [] (bundled shapes b ((target, right) ∷ [])))
     declared_sound =
-        subst (λ x. IsSoundMove p (comes_to [] (bundled shapes b ((x, right) ∷ [])))) (sym (starts.0 ∙ target_named)) (by (drawn shapes b right) starts.1)
+        subst (λ x. MovesSoundly m p (comes_to [] (bundled shapes b ((x, right) ∷ [])))) (sym (starts.0 ∙ target_named)) (by (drawn shapes b right) starts.1)
       where
-        by : (r : Result Drawn Halt) → ComesTo Starts r
-            → IsSoundMove p (comes_to [] (given (given r (λ (w : Drawn). Ok (record { writes = (place.Local k (width_of l.ctype), w.number) ∷ []; state = w.state }))) (λ (plan : Planned). all_written plan.writes plan.state)))
+        by : (r : Result Drawn Halt) → Comes m Starts r
+            → MovesSoundly m p (comes_to [] (given (given r (λ (w : Drawn). Ok (record { writes = (place.Local k (width_of l.ctype), w.number) ∷ []; state = w.state }))) (λ (plan : Planned). all_written plan.writes plan.state)))
         by (Ok w) c = put_sound w c
-        by (Err (halt.Stopped why at)) c = stopped why at
-        by (Err halt.Stuck) c = absurd c
+        by (Err (halt.Stopped why at)) c = stops_soundly m why at
+        by (Err halt.Stuck) c = λ e. c
 
 -- a declaration of the text
-pub declaration_sound : (p : Typed) (st : State) (h : Sound p st) (sp : Spot) (target : Target) (right : Right) (rest : Code) (next : List Work) → IsGranted p → AllocateSoundly p
-    → settled st.frame.work ≡ Rest (Assign sp target right rest) ∷ next → (spot_of st).mode ≡ Checked
+pub declaration_sound : (p : Typed) (m : Mode) (st : State) (h : Sound p st) (sp : Spot) (target : Target) (right : Right) (rest : Code) (next : List Work) → IsGranted p → AllocateSoundly p
+    → settled st.frame.work ≡ Rest (Assign sp target right rest) ∷ next → (spot_of st).mode ≡ m → StoresSafely m (Assign sp target right rest)
     → (f : Faces h.setting (store_in p st.blocks st.frame) st.frame.entry (Assign sp target right) (Rest rest ∷ next)) → (d : NotedDecl) → out-Act Name Note f.judged.before.body ≡ Act-F.Local d
-    → IsSoundMove p (source_step (elaborated p) st)
-declaration_sound p st h sp target right rest next g allocations is mode f d layer =
-    move_by p st (Rest (Assign sp target right rest) ∷ next) is
-    (declared_sound p g st h (Assign sp target right) (Rest rest ∷ next) f d layer allocations sp target right refl (subst (λ w. (spot_at st.frame.function.end w).mode ≡ Checked) is mode))
+    → MovesSoundly m p (source_step (elaborated p) st)
+declaration_sound p m st h sp target right rest next g allocations is mode safe f d layer =
+    moves_by m p st (Rest (Assign sp target right rest) ∷ next) is
+    (declared_sound p g st h (Assign sp target right) (Rest rest ∷ next) f d layer allocations m sp target right refl (subst (λ w. (spot_at st.frame.function.end w).mode ≡ m) is mode)
+    (safe_as m (Assign sp target right rest) (Assign sp target right End) refl safe))

@@ -1,6 +1,7 @@
 -- Steps that read or put a byte keep states sound.
 use Rattle.std.proofs.Common.{◌≡◌, sym, ap, subst, ℕ, List, []}
 use Rattle.std.specs.Prelude.{◌<◌, ◌^◌, if◌then◌else◌, Result, Ok, Err}
+use Rattle.ckc_base.specs.declared.arithmetic.Mode.{Mode}
 use Rattle.ckc_base.specs.Traces.{Event}
 use Rattle.ckc_typed.specs.declared.typed.Typed.{Typed}
 use Rattle.ckc_typed.specs.Trees.{NotedExpr}
@@ -20,30 +21,31 @@ use Rattle.ckc_blame_sound.specs.Settings.{Setting}
 use Rattle.ckc_blame_sound.specs.Sound.{Sound}
 use Rattle.ckc_blame_sound.proofs.Kept.{point_kept}
 use Rattle.ckc_blame_sound.proofs.Statements.{made_of, pair_same}
-use Rattle.ckc_blame_sound.specs.Moves.{IsSoundMove}
 use Rattle.ckc_blame_control.specs.Ready.{Faces}
-use Rattle.ckc_blame_control.proofs.Moved.{stopped, sound_at}
+use Rattle.ckc_blame_control.proofs.Moved.{sound_at}
+use Rattle.ckc_blame_pointers.specs.Owed.{Comes}
 use Rattle.ckc_blame_given.proofs.Points.{same_point}
-use Rattle.ckc_blame_given.specs.Targets.{ComesTo}
 use Rattle.ckc_blame_steps.proofs.Bytes.{IsByteStep, byte_call}
+use Rattle.ckc_blame_steps.proofs.Comes.{stops_soundly}
 use Rattle.ckc_blame_steps.proofs.Origins.{IsCallAlone}
+use Rattle.ckc_blame_steps.specs.Unchecked.{MovesSoundly}
 
 -- ---- moves
 
 -- whatever word a place is to get, the state then is sound, or the run stops
-abbrev pub Lands : Typed → State → Result Place Halt → Type 0
-Lands p b r = ComesTo (λ to. (n : ℕ) → n < 2 ^ 32 → IsSoundMove p (comes_to [] (writes_allowed to n b))) r
+abbrev pub Lands : Mode → Typed → State → Result Place Halt → Type 0
+Lands m p b r = Comes m (λ to. (n : ℕ) → n < 2 ^ 32 → MovesSoundly m p (comes_to [] (writes_allowed to n b))) r
 
-any_events : (p : Typed) (events : List Event) (r : Result State Halt) → IsSoundMove p (comes_to [] r) → IsSoundMove p (comes_to events r)
-any_events p events (Ok s) h = h
-any_events p events (Err (halt.Stopped why at)) h = h
-any_events p events (Err halt.Stuck) h = h
+any_events : (m : Mode) (p : Typed) (events : List Event) (r : Result State Halt) → MovesSoundly m p (comes_to [] r) → MovesSoundly m p (comes_to events r)
+any_events m p events (Ok s) h = h
+any_events m p events (Err (halt.Stopped why at)) h = h
+any_events m p events (Err halt.Stuck) h = h
 
-pub landed : (p : Typed) (b : State) (events : List Event) (n : ℕ) → n < 2 ^ 32 → (r : Result Place Halt) → Lands p b r
-    → IsSoundMove p (and_moves r (λ to. comes_to events (writes_allowed to n b)))
-landed p b events n small (Ok to) h = any_events p events (writes_allowed to n b) (h n small)
-landed p b events n small (Err (halt.Stopped why at)) h = stopped why at
-landed p b events n small (Err halt.Stuck) h = absurd h
+pub landed : (m : Mode) (p : Typed) (b : State) (events : List Event) (n : ℕ) → n < 2 ^ 32 → (r : Result Place Halt) → Lands m p b r
+    → MovesSoundly m p (and_moves r (λ to. comes_to events (writes_allowed to n b)))
+landed m p b events n small (Ok to) h = any_events m p events (writes_allowed to n b) (h n small)
+landed m p b events n small (Err (halt.Stopped why at)) h = stops_soundly m why at
+landed m p b events n small (Err halt.Stuck) h = λ e. h
 
 -- ---- a call alone
 
@@ -72,7 +74,7 @@ module _ (p : Typed) (st : State) (h : Sound p st) (step : Code → Code) (next 
             (same_point s (store_in p st.blocks st.frame) st.frame.entry f.here f.judged.behind f.holds leads.0 leads.1);
       })
 
-  pub call_lands : (target : Target) → IsByteStep (step End) target → Lands p (at_work st next) (aimed (store_of (shapes_elaborated p.layout) (at_work st next)) target)
-  call_lands target byte =
+  pub call_lands : (m : Mode) (target : Target) → IsByteStep (step End) target → Lands m p (at_work st next) (aimed (store_of (shapes_elaborated p.layout) (at_work st next)) target)
+  call_lands m target byte =
       let call = byte_call s (spot c.made.pos f.judged.after.note.mode) nowhere f.judged.literals target c.made (subst (λ (x : Code). IsByteStep x target) (sym c.goes) byte) in
-      subst (λ (t : Target). Lands p (at_work st next) (aimed (store_of (shapes_elaborated p.layout) (at_work st next)) t)) (sym call.target_is) (λ n small. alone_sound)
+      subst (λ (t : Target). Lands m p (at_work st next) (aimed (store_of (shapes_elaborated p.layout) (at_work st next)) t)) (sym call.target_is) (λ n small. alone_sound)

@@ -2,6 +2,8 @@
 use Rattle.std.proofs.Common.{◌≡◌, refl, sym, ap, subst, ◌∙◌, ℕ, true, false, List, [], ◌∷◌, arith}
 use Rattle.std.specs.Prelude.{◌≢◌, ◌+◌, ◌<◌, ◌≤◌, ◌^◌, length, slice_get, is_some, Option, None, Some, Result, Ok, Err}
 use Rattle.std.specs.List.{AllByRecursion}
+use Rattle.ckc_base.specs.declared.arithmetic.Mode.{Mode}
+use Rattle.ckc_base.specs.declared.arithmetic.Mode.TheVariants.{Checked}
 use Rattle.ckc_base.specs.declared.places.Pos.{Pos}
 use Rattle.ckc_types.specs.declared.types.CType.{CType}
 use Rattle.ckc_syntax.specs.declared.tree.Name.{Name}
@@ -41,6 +43,8 @@ use Rattle.ckc_blame_sound.proofs.SameViews.{same_view}
 use Rattle.ckc_blame_sound.specs.Valuations.{Valuation, IsValuationOf}
 use Rattle.ckc_blame_sound.specs.GivenValues.{StayTrue}
 use Rattle.ckc_blame_pointers.specs.Covered.{DeclareLocals}
+use Rattle.ckc_blame_pointers.specs.Owed.{Owed, Comes}
+use Rattle.ckc_blame_given.proofs.Comes.{comes_on}
 use Rattle.ckc_blame_given.specs.Gives.{Continues}
 use Rattle.ckc_blame_given.specs.Planned.{IsTarget, IsPlanned, ArePlanned}
 use Rattle.ckc_blame_pointers.proofs.Strings.{strings_in_node}
@@ -50,12 +54,12 @@ use Rattle.ckc_blame_given.specs.Written.{IsReceived}
 use Rattle.ckc_blame_given.specs.Stored.{IsAssignJudged, next_fresh, AreAssignsJudged}
 use Rattle.ckc_blame_given.proofs.Fitting.{same_type}
 use Rattle.ckc_blame_given.proofs.Given.{from_stays}
-use Rattle.ckc_blame_given.specs.Targets.{KeepRunsFree, LiesIn, begin_of, GoesThere, ComesTo}
+use Rattle.ckc_blame_given.specs.Targets.{KeepRunsFree, LiesIn, begin_of, GoesThere}
 use Rattle.ckc_blame_given.specs.Together.{AreIn}
 use Rattle.ckc_blame_given.proofs.Aims.{judged_aims}
 use Rattle.ckc_blame_steps.specs.Granted.{IsCoveredValue, AreCoveredSides, AreCoveredParts, HaveRoom}
 use Rattle.ckc_blame_steps.specs.Plans.{BecomesPart, BecomeParts, IsAt, HasMore, IsDrawnOn, IsDrawn, IsSoundPlan, counted_in, AllocationsDraw}
-use Rattle.ckc_blame_steps.proofs.Comes.{comes_on, allowed_comes, same_state, more_on, same_locals}
+use Rattle.ckc_blame_steps.proofs.Comes.{allowed_comes, same_state, more_on, same_locals}
 use Rattle.ckc_blame_steps.proofs.Drawn.{value_drawn}
 use Rattle.ckc_blame_steps.proofs.StoresLie.{AreUnstuck}
 
@@ -109,19 +113,19 @@ abbrev pub AllFit : Globals → Setting → List NotedStmt → Type 0
 AllFit globals s ss = AllByRecursion (λ (st : NotedStmt). AreFit globals s (out-Act Name Note st.body)) ss
 
 -- what is covered in each state where the point holds
-abbrev pub StayCovered : Setting → List Shape → List ℕ → Here → List NotedStmt → Type 0
-StayCovered s shapes entry here ss = (b : State) → IsAt s shapes entry here b → AreCoveredParts s (store_of shapes b) here.seen ss
+abbrev pub StayCovered : Mode → Setting → List Shape → List ℕ → Here → List NotedStmt → Type 0
+StayCovered m s shapes entry here ss = (b : State) → IsAt s shapes entry here b → AreCoveredParts m s (store_of shapes b) here.seen ss
 
--- what comes to something is not stuck
-come_unstuck : {A : Type 0} (P : A → Type 0) (r : Result A Halt) → ComesTo P r → r ≢ Err halt.Stuck
-come_unstuck P (Ok a) h e = cc
-come_unstuck P (Err (halt.Stopped why at)) h e = cc
-come_unstuck P (Err halt.Stuck) h e = h
+-- what comes to something in checked code is not stuck
+come_unstuck : {A : Type 0} (m : Mode) → m ≡ Checked → (P : A → Type 0) (r : Result A Halt) → Comes m P r → r ≢ Err halt.Stuck
+come_unstuck m checked P (Ok a) h e = cc
+come_unstuck m checked P (Err (halt.Stopped why at)) h e = cc
+come_unstuck m checked P (Err halt.Stuck) h e = subst Owed checked h
 
 -- ---- plans
 
-module _ (globals : Globals) (s : Setting) (agrees : Agrees globals s) (declares : DeclareLocals s) (free : KeepRunsFree s.text) (shapes : List Shape) (entry : List ℕ) (here : Here)
-    (allocations : AllocationsDraw globals s shapes entry here) where
+module _ (m : Mode) (globals : Globals) (s : Setting) (agrees : Agrees globals s) (declares : DeclareLocals s) (free : KeepRunsFree s.text) (shapes : List Shape) (entry : List ℕ) (here : Here)
+    (allocations : AllocationsDraw m globals s shapes entry here) where
   module _ (b : State) (is_at : IsAt s shapes entry here b) (t : CType) (f g : NotedExpr) (fresh literals : ℕ) (typed : IsTyped globals s f) (goes : converts t f ≡ true)
       (judged : (view s.frame f).judged fresh here.at ≡ Ok g) (little : fresh + length ((view s.frame g).fresh here.at) < 2 ^ 32) (are : AreFresh s.frame fresh) where
     plain : (x : NotedLayer) → out-Node Name Note g.node ≡ x → is_allocation_form x ≡ false → is_allocation f ≡ false
@@ -129,16 +133,16 @@ module _ (globals : Globals) (s : Setting) (agrees : Agrees globals s) (declares
         sym (allocates_is s.frame f) ∙ ap (λ (w : View). w.allocates) (sym (same_view s.frame f g fresh here.at judged s.frame)) ∙ allocates_is s.frame g ∙ ap is_allocation_form is ∙ none
 
     -- a right side
-    pub right_drawn : IsCoveredValue s (store_of shapes b) here.seen t g (out-Node Name Note g.node) → AreStrings s literals (strings_of_expr g)
-        → ComesTo (IsDrawn s shapes entry here b t g) (drawn shapes b (right_of s.text s.variables literals (is_terminated t) g))
+    pub right_drawn : IsCoveredValue m s (store_of shapes b) here.seen t g (out-Node Name Note g.node) → AreStrings s literals (strings_of_expr g)
+        → Comes m (IsDrawn s shapes entry here b t g) (drawn shapes b (right_of s.text s.variables literals (is_terminated t) g))
     right_drawn covered strings = by (out-Node Name Note g.node) refl covered (subst (AreStrings s literals) (strings_are g) strings)
       where
-        by : (x : NotedLayer) → out-Node Name Note g.node ≡ x → IsCoveredValue s (store_of shapes b) here.seen t g x → AreStrings s literals (strings_in_node x)
-            → ComesTo (IsDrawn s shapes entry here b t g) (drawn shapes b (right_form s.text s.variables literals (is_terminated t) g x))
+        by : (x : NotedLayer) → out-Node Name Note g.node ≡ x → IsCoveredValue m s (store_of shapes b) here.seen t g x → AreStrings s literals (strings_in_node x)
+            → Comes m (IsDrawn s shapes entry here b t g) (drawn shapes b (right_form s.text s.variables literals (is_terminated t) g x))
         by (Node-F.Calloc w n x) is c numbered_there =
-            subst (λ (y : NotedLayer). ComesTo (IsDrawn s shapes entry here b t g) (drawn shapes b (right_form s.text s.variables literals (is_terminated t) g y))) is
+            subst (λ (y : NotedLayer). Comes m (IsDrawn s shapes entry here b t g) (drawn shapes b (right_form s.text s.variables literals (is_terminated t) g y))) is
             (allocations b is_at t f g n fresh literals (ap counted_in is) typed goes c.0 judged little are c.1 numbered_there)
-        by x is c numbered_there = value_drawn s globals agrees declares shapes entry here b is_at t f g fresh literals typed goes (plain x is refl) judged little are c strings
+        by x is c numbered_there = value_drawn s m globals agrees declares shapes entry here b is_at t f g fresh literals typed goes (plain x is refl) judged little are c strings
 
   abbrev IsPlan : State → List Placed → ℕ → ℕ → Valuation → Planned → Type 0
   IsPlan b ps value fresh before = IsSoundPlan s shapes entry here b ps value fresh before
@@ -230,8 +234,8 @@ module _ (globals : Globals) (s : Setting) (agrees : Agrees globals s) (declares
   -- what is claimed of the assignments in front of others, by the layer of the first one
   abbrev Claim : State → ℕ → ℕ → Valuation → Pos → List NotedStmt → (Target × Right) → List (Target × Right) → ActLayer → Type 0
   Claim b value fresh before pos afters a others x =
-      HaveRoom s.frame here.at value fresh (with_store x pos (stores_of afters)) → AreCoveredSides s (store_of shapes b) here.seen x → BecomesPart s x a
-      → ComesTo (IsPlan b (numbers_of value fresh (with_store x pos (stores_of afters))) value fresh before) (planned shapes b (a ∷ others))
+      HaveRoom s.frame here.at value fresh (with_store x pos (stores_of afters)) → AreCoveredSides m s (store_of shapes b) here.seen x → BecomesPart s x a
+      → Comes m (IsPlan b (numbers_of value fresh (with_store x pos (stores_of afters))) value fresh before) (planned shapes b (a ∷ others))
 
   more_free : (fresh n : ℕ) → AreFresh s.frame fresh → fresh ≤ n → AreFresh s.frame n
   more_free fresh n are h k l low there = are k l (omega arith) there
@@ -241,7 +245,7 @@ module _ (globals : Globals) (s : Setting) (agrees : Agrees globals s) (declares
       (right_judged : (view s.frame f).judged (fresh_behind (view s.frame e) fresh here.at) here.at ≡ Ok right) (afters : List NotedStmt) (a : Target × Right) (others : List (Target × Right))
       (rest : (d : State) → IsAt s shapes entry here d → (last : Valuation) → IsValuationOf s d.frame.locals last
       → HaveRoom s.frame here.at (capped value (view s.frame right).values) (fresh_behind (view s.frame right) (fresh_behind (view s.frame place) fresh here.at) here.at) (stores_of afters)
-      → ComesTo (IsPlan d (numbers_of (capped value (view s.frame right).values) (fresh_behind (view s.frame right) (fresh_behind (view s.frame place) fresh here.at) here.at) (stores_of afters))
+      → Comes m (IsPlan d (numbers_of (capped value (view s.frame right).values) (fresh_behind (view s.frame right) (fresh_behind (view s.frame place) fresh here.at) here.at) (stores_of afters))
       (capped value (view s.frame right).values) (fresh_behind (view s.frame right) (fresh_behind (view s.frame place) fresh here.at) here.at) last) (planned shapes d others)) where
     abbrev first_of : Placed
     first_of = record { target = place; right = right; pos = pos; from = record { value = value; fresh = fresh_behind (view s.frame place) fresh here.at } }
@@ -276,25 +280,25 @@ module _ (globals : Globals) (s : Setting) (agrees : Agrees globals s) (declares
     front_planned : Claim b value fresh before pos afters a others (Act-F.Assign place right)
     unfolding HaveRoom
     front_planned room covered becomes =
-        comes_on (λ to. (n : ℕ) (w : Place) → n < 2 ^ 32 → allowed to n ≡ Ok w → GoesThere s (store_of shapes b) first_of n w) Q (aimed (store_of shapes b) a.0) then_drawn
-        (subst (λ y. ComesTo (λ to. (n : ℕ) (w : Place) → n < 2 ^ 32 → allowed to n ≡ Ok w → GoesThere s (store_of shapes b) first_of n w) (aimed (store_of shapes b) y)) (sym becomes.target)
-        (judged_aims globals s agrees declares (store_of shapes b) entry b.next is_at.ready here free e first_of fresh becomes.first (subst (λ (w : View). fresh + length (w.fresh here.at) < 2 ^ 32) place_view room.0.left.variables) are fit.0 left_judged
+        comes_on m (λ to. (n : ℕ) (w : Place) → n < 2 ^ 32 → allowed to n ≡ Ok w → GoesThere s (store_of shapes b) first_of n w) Q (aimed (store_of shapes b) a.0) then_drawn
+        (subst (λ y. Comes m (λ to. (n : ℕ) (w : Place) → n < 2 ^ 32 → allowed to n ≡ Ok w → GoesThere s (store_of shapes b) first_of n w) (aimed (store_of shapes b) y)) (sym becomes.target)
+        (judged_aims m globals s agrees declares (store_of shapes b) entry b.next is_at.ready here free e first_of fresh becomes.first (subst (λ (w : View). fresh + length (w.fresh here.at) < 2 ^ 32) place_view room.0.left.variables) are fit.0 left_judged
         (ap is_scalar place_type ∙ fit.3) covered.0 becomes.target_strings is_at.holds))
-        (λ to goes.
-        comes_on (IsDrawn s shapes entry here b place.note.ctype right) Q (drawn shapes b a.1) (then_allowed to)
-        (subst (λ y. ComesTo (IsDrawn s shapes entry here b place.note.ctype right) (drawn shapes b y)) (sym becomes.right)
+        (λ to there goes.
+        comes_on m (IsDrawn s shapes entry here b place.note.ctype right) Q (drawn shapes b a.1) (then_allowed to)
+        (subst (λ y. Comes m (IsDrawn s shapes entry here b place.note.ctype right) (drawn shapes b y)) (sym becomes.right)
         (right_drawn b is_at place.note.ctype f right next becomes.second fit.1 (subst (λ t. converts t f ≡ true) (sym place_type) fit.2)
         (subst (λ n. (view s.frame f).judged n here.at ≡ Ok right) next_is right_judged) room.0.right.variables next_free covered.1 becomes.right_strings))
-        (λ d dr.
+        (λ d there dr.
         let on : IsDrawnOn s shapes here place.note.ctype right first_of.from before d =
         dr.gives first_of.from before room.0.right next_free (subst (λ locals. IsValuationOf s locals before) (sym (same_locals b d.state dr.grown)) values) in
         let word = (on.received on.after on.values (record { address = λ n h. refl; number = λ x h. refl })).word in
-        comes_on (λ w. allowed to d.number ≡ Ok w) Q (allowed to d.number) (then_planned d) (allowed_comes to d.number)
-        (λ w is.
-        comes_on (IsPlan d.state (numbers_of (capped value (view s.frame right).values) (fresh_behind (view s.frame right) next here.at) (stores_of afters)) (capped value (view s.frame right).values)
+        comes_on m (λ w. allowed to d.number ≡ Ok w) Q (allowed to d.number) (then_planned d) (allowed_comes m to d.number)
+        (λ w there is.
+        comes_on m (IsPlan d.state (numbers_of (capped value (view s.frame right).values) (fresh_behind (view s.frame right) next here.at) (stores_of afters)) (capped value (view s.frame right).values)
         (fresh_behind (view s.frame right) next here.at) on.after) Q (planned shapes d.state others) (λ (p : Planned). Ok (and_then_written w d.number p))
         (rest d.state dr.at on.after on.values room.1)
-        (λ pl sound.
+        (λ pl there sound.
         one_more b first_of (numbers_of (capped value (view s.frame right).values) (fresh_behind (view s.frame right) next here.at) (stores_of afters)) value fresh before small little refl w d dr on
         (goes d.number w word is) pl sound))))
 
@@ -322,8 +326,8 @@ module _ (globals : Globals) (s : Setting) (agrees : Agrees globals s) (declares
       both i j k p q = omega arith
 
   pub all_planned : (befores afters : List NotedStmt) (others : List (Target × Right)) (b : State) → IsAt s shapes entry here b → (value fresh : ℕ) (before : Valuation) → IsValuationOf s b.frame.locals before
-      → value < 2 ^ 32 → fresh < 2 ^ 32 → AreFresh s.frame fresh → AreAssignsJudged s here.at fresh befores afters → AllFit globals s befores → StayCovered s shapes entry here afters → BecomeParts s afters others
-      → HaveRoom s.frame here.at value fresh (stores_of afters) → ComesTo (IsPlan b (numbers_of value fresh (stores_of afters)) value fresh before) (planned shapes b others)
+      → value < 2 ^ 32 → fresh < 2 ^ 32 → AreFresh s.frame fresh → AreAssignsJudged s here.at fresh befores afters → AllFit globals s befores → StayCovered m s shapes entry here afters → BecomeParts s afters others
+      → HaveRoom s.frame here.at value fresh (stores_of afters) → Comes m (IsPlan b (numbers_of value fresh (stores_of afters)) value fresh before) (planned shapes b others)
   unfolding AreAssignsJudged BecomeParts HaveRoom
   all_planned [] [] [] b is_at value fresh before values small little are judged fit covered becomes room = none_planned b is_at value fresh before values
   all_planned [] [] (a ∷ others) b is_at value fresh before values small little are judged fit covered becomes room = absurd becomes
@@ -343,11 +347,11 @@ module _ (globals : Globals) (s : Setting) (agrees : Agrees globals s) (declares
 
   -- ---- targets alone, each of them in the state before all assignments
 
-  module _ (b : State) (is_at : IsAt s shapes entry here b) where
+  module _ (checked : m ≡ Checked) (b : State) (is_at : IsAt s shapes entry here b) where
     -- what is claimed of the assignments in front of others, by the layer of the first one
     abbrev AimClaim : ℕ → ℕ → Pos → List NotedStmt → (Target × Right) → List (Target × Right) → ActLayer → Type 0
     AimClaim value fresh pos afters a others x =
-        HaveRoom s.frame here.at value fresh (with_store x pos (stores_of afters)) → AreCoveredSides s (store_of shapes b) here.seen x → BecomesPart s x a
+        HaveRoom s.frame here.at value fresh (with_store x pos (stores_of afters)) → AreCoveredSides m s (store_of shapes b) here.seen x → BecomesPart s x a
         → AreUnstuck shapes b (a ∷ others)
 
     front_unstuck : (value fresh : ℕ) → AreFresh s.frame fresh → (pos : Pos) (e f place right : NotedExpr) → AreFit globals s (Act-F.Assign e f) → (view s.frame e).judged fresh here.at ≡ Ok place
@@ -364,13 +368,13 @@ module _ (globals : Globals) (s : Setting) (agrees : Agrees globals s) (declares
 
         unstuck : aimed (store_of shapes b) (target_of s.text s.variables becomes.first place) ≢ Err halt.Stuck
         unstuck =
-            come_unstuck (λ to. (n : ℕ) (w : Place) → n < 2 ^ 32 → allowed to n ≡ Ok w → GoesThere s (store_of shapes b) p n w) (aimed (store_of shapes b) (target_of s.text s.variables becomes.first place))
-            (judged_aims globals s agrees declares (store_of shapes b) entry b.next is_at.ready here free e p fresh becomes.first
+            come_unstuck m checked (λ to. (n : ℕ) (w : Place) → n < 2 ^ 32 → allowed to n ≡ Ok w → GoesThere s (store_of shapes b) p n w) (aimed (store_of shapes b) (target_of s.text s.variables becomes.first place))
+            (judged_aims m globals s agrees declares (store_of shapes b) entry b.next is_at.ready here free e p fresh becomes.first
             (subst (λ (w : View). fresh + length (w.fresh here.at) < 2 ^ 32) (same_view s.frame e place fresh here.at left_judged s.frame) room.0.left.variables) are fit.0 left_judged
             (ap is_scalar (same_type s.frame e place fresh here.at left_judged) ∙ fit.3) covered.0 becomes.target_strings is_at.holds)
 
     pub all_unstuck : (befores afters : List NotedStmt) (others : List (Target × Right)) (value fresh : ℕ) → fresh < 2 ^ 32 → AreFresh s.frame fresh → AreAssignsJudged s here.at fresh befores afters
-        → AllFit globals s befores → AreCoveredParts s (store_of shapes b) here.seen afters → BecomeParts s afters others → HaveRoom s.frame here.at value fresh (stores_of afters) → AreUnstuck shapes b others
+        → AllFit globals s befores → AreCoveredParts m s (store_of shapes b) here.seen afters → BecomeParts s afters others → HaveRoom s.frame here.at value fresh (stores_of afters) → AreUnstuck shapes b others
     unfolding AreAssignsJudged BecomeParts HaveRoom
     all_unstuck [] [] [] value fresh little are judged fit covered becomes room = tt
     all_unstuck [] [] (a ∷ others) value fresh little are judged fit covered becomes room = absurd becomes

@@ -4,6 +4,7 @@ use Rattle.std.specs.Prelude.{Result, Ok, Err}
 use Rattle.std.specs.List.{All}
 use Rattle.std.proofs.lemmas.List.{append-nil}
 use Rattle.ckc_base.specs.Lists.{AreBytes}
+use Rattle.ckc_base.specs.declared.arithmetic.Mode.{Mode}
 use Rattle.ckc_typed.specs.declared.typed.Typed.{Typed}
 use Rattle.ckc_typed.specs.Trees.{NotedStmt}
 use Rattle.ckc_bounds_points.specs.Flow as flow
@@ -23,7 +24,6 @@ use Rattle.ckc_blame_sound.specs.Settings.{Setting, IsFunction, setting_of}
 use Rattle.ckc_blame_sound.specs.Sound.{Sound}
 use Rattle.ckc_blame_sound.specs.Valuations.{Valuation, AreFacts}
 use Rattle.ckc_blame_sound.proofs.Kept.{point_kept}
-use Rattle.ckc_blame_sound.specs.Moves.{IsSoundMove}
 use Rattle.ckc_blame_sound.specs.Slots.{AreFilled}
 use Rattle.ckc_blame_sound.specs.Cells.{AreSound, HaveOwnNames}
 use Rattle.ckc_blame_sound.specs.Writes.{AreCellWrites}
@@ -36,18 +36,19 @@ use Rattle.ckc_blame_declared.proofs.HaveEnds.{locals_have_ends}
 use Rattle.ckc_blame_control.specs.Kept.{KeepRanges, IsSameCall}
 use Rattle.ckc_blame_control.specs.Ready.{Faces}
 use Rattle.ckc_blame_control.proofs.Kept.{faced_sound, writes_keep_ranges, blocks_keep_ranges}
-use Rattle.ckc_blame_control.proofs.Moved.{stopped}
+use Rattle.ckc_blame_pointers.specs.Owed.{Comes}
 use Rattle.ckc_blame_given.specs.Planned.{ArePlanned}
 use Rattle.ckc_blame_given.specs.Written.{IsFitting}
 use Rattle.ckc_blame_given.specs.Stored.{AreStored}
 use Rattle.ckc_blame_given.proofs.Apart.{ones_apart}
 use Rattle.ckc_blame_given.proofs.Points.{point_after, all_planned}
 use Rattle.ckc_blame_given.proofs.Written.{written_locals}
-use Rattle.ckc_blame_given.specs.Targets.{ComesTo}
 use Rattle.ckc_blame_given.specs.Together.{HaveSmallNames, AreTogether}
 use Rattle.ckc_blame_given.proofs.Filled.{stays_filled}
 use Rattle.ckc_blame_steps.specs.Granted.{IsGranted}
 use Rattle.ckc_blame_steps.specs.Plans.{IsAt, IsSoundPlan}
+use Rattle.ckc_blame_steps.specs.Unchecked.{MovesSoundly}
+use Rattle.ckc_blame_steps.proofs.Comes.{stops_soundly}
 use Rattle.ckc_blame_steps.proofs.Writes.{AreWrittenAll, all_come}
 
 pub text_is : (p : Typed) (s : Setting) (f : Function) → IsFunction p s f → s.text ≡ p
@@ -55,11 +56,11 @@ unfolding setting_of
 text_is p s f i = ap (λ (x : Setting). x.text) i.judged
 
 -- what is planned goes on, if what is written after it does
-pub move_on : (p : Typed) (P : Planned → Type 0) (r : Result Planned Halt) → ComesTo P r → ((plan : Planned) → P plan → IsSoundMove p (comes_to [] (all_written plan.writes plan.state)))
-    → IsSoundMove p (comes_to [] (given r (λ plan. all_written plan.writes plan.state)))
-move_on p P (Ok plan) h k = k plan h
-move_on p P (Err (halt.Stopped why at)) h k = stopped why at
-move_on p P (Err halt.Stuck) h k = absurd h
+pub move_on : (m : Mode) (p : Typed) (P : Planned → Type 0) (r : Result Planned Halt) → Comes m P r → ((plan : Planned) → P plan → MovesSoundly m p (comes_to [] (all_written plan.writes plan.state)))
+    → MovesSoundly m p (comes_to [] (given r (λ plan. all_written plan.writes plan.state)))
+move_on m p P (Ok plan) h k = k plan h
+move_on m p P (Err (halt.Stopped why at)) h k = stops_soundly m why at
+move_on m p P (Err halt.Stuck) h k = λ e. h
 
 -- what is planned is written to objects of their own types
 cells_of : (s : Setting) (before after : Store) (v : Valuation) (at : flow.State) (ps : List Placed) (ws : List Write) → ArePlanned s before after v at ps ws → AreCellWrites s.text.layout before.blocks ws
@@ -161,9 +162,9 @@ module _ (p : Typed) (g : IsGranted p) (st : State) (h : Sound p st) (step : Cod
     keeps to n low high e =
         stays to n low high (subst (λ bs. is_true shapes bs to n low high ≡ true) (sym sound.grown.blocks) (blocks_keep_ranges shapes st.blocks sound.grown.more to n low high e))
 
-    pub written_sound : IsSoundMove p (comes_to [] (all_written plan.writes plan.state))
-    written_sound =
-        subst (λ r. IsSoundMove p (comes_to [] r)) (sym written.is)
+    pub written_sound : (m : Mode) → MovesSoundly m p (comes_to [] (all_written plan.writes plan.state))
+    written_sound m =
+        subst (λ r. MovesSoundly m p (comes_to [] r)) (sym written.is)
         (faced_sound p st done h same keeps
         (subst (λ n. AreSound p done.blocks n) (sym written.left.next) (subst (λ q. AreSound q done.blocks plan.state.next) text sound_there))
         (subst (λ q. AreFilled q (store_of shapes done)) text filled_after.2)
