@@ -1,9 +1,10 @@
 -- Steps of either mode: which stores go through unchecked pointers, and what a step does that stores through none.
-use Rattle.std.specs.Prelude.{◌≡◌, ℕ, zero, suc, Bool, true, false, if◌then◌else◌, List, ◌∷◌, Option, None, Some}
+use Rattle.std.specs.Prelude.{◌≡◌, ◌⊎◌, ℕ, zero, suc, Bool, true, false, if◌then◌else◌, List, ◌∷◌, Option, None, Some, IsSome}
 use Rattle.std.specs.List.{list_any}
 use Rattle.ckc_base.specs.declared.arithmetic.Mode.{Mode}
 use Rattle.ckc_base.specs.declared.arithmetic.Mode.TheVariants.{Checked, Unchecked}
 use Rattle.ckc_base.specs.declared.places.Pos.{Pos}
+use Rattle.ckc_base.specs.Lists.{AreBytes}
 use Rattle.ckc_base.specs.States.{state_at}
 use Rattle.ckc_base.specs.Steps.{Move, Goes, Halts}
 use Rattle.ckc_base.specs.Traces.{Event, Stuck}
@@ -11,7 +12,7 @@ use Rattle.ckc_typed.specs.declared.typed.Typed.{Typed}
 use Rattle.ckc_source.specs.declared.expr.Through.{Through}
 use Rattle.ckc_source.specs.declared.expr.Through.TheVariants as through
 use Rattle.ckc_source.specs.Code.{Code, Target, Memory, Right, Assign, Bundle, Get, Put, Program}
-use Rattle.ckc_source.specs.Source.{source_system, first_state, on_next}
+use Rattle.ckc_source.specs.Source.{source, source_system, first_state, on_next}
 use Rattle.ckc_source.specs.States.{Work, Rest, State, settled}
 use Rattle.ckc_source.specs.Steps.{source_step, spot_of}
 use Rattle.ckc_blame_sound.specs.Sound.{Sound}
@@ -75,3 +76,10 @@ unchecked_store_since p input n = first_unchecked_store p n (first_state p input
 -- the mode of the last of the first n steps, or of the next one if the run has not halted
 abbrev pub mode_after : Program → List ℕ → ℕ → Mode
 mode_after p input n = (spot_of (state_at (source_system p) (first_state p input) n)).mode
+
+-- If the program is stuck, with some input of bytes, then a step before stored through an unchecked pointer, or the step
+-- that is stuck has mode Unchecked.
+abbrev pub AreStoresBlamed : Program → Type 0
+AreStoresBlamed p =
+    (input : List ℕ) (n : ℕ) → AreBytes input → (source p input n).standing ≡ Stuck
+    → IsSome (unchecked_store_since p input n) ⊎ (mode_after p input n ≡ Unchecked)

@@ -38,9 +38,13 @@ accepted exactly text p m =
 elaborated_is : (t : Typed) (p : Program) → ◌≡◌ {A = Outcome Program} (Ok (elaborated t)) (Ok p) → elaborated t ≡ p
 elaborated_is t p e = cc
 
+-- whatever holds of the program of each typed text that the phases make holds of the program that a text means
+pub meant_by : (P : Program → Type 0) → ((text : List ℕ) (p : Typed) → judging.Makes text p → P (elaborated p)) → (text : List ℕ) (p : Program) → HasMeaning text p → P p
+meant_by P law text p m = subst P (elaborated_is m.0 p m.2) (law text m.0 m.1)
+
 -- the program that a text means lies as that of the typed text does
 pub laid_out_by : ((text : List ℕ) (p : Typed) → judging.Makes text p → IsLaidOut (elaborated p)) → (text : List ℕ) (p : Program) → HasMeaning text p → IsLaidOut p
-laid_out_by law text p m = subst IsLaidOut (elaborated_is m.0 p m.2) (law text m.0 m.1)
+laid_out_by law = meant_by IsLaidOut law
 
 -- whatever holds of each typed text that the phases make holds of what they answer
 pub if_judged : (P : Typed → Type 0) (text : List ℕ) (r : Result Typed Fault) → ((p : Typed) → judging.Makes text p → P p) → Exact judging text r → IfOk r P
@@ -54,7 +58,7 @@ checked_by P law text p m w = subst P (elaborated_is m.0 p m.2) (law text m.0 m.
 
 module _ (judged : (text : List ℕ) (p : Typed) → judging.Makes text p → IsBlamed (elaborated p)) (checked : (text : List ℕ) (p : Typed) → judging.Makes text p → WhollyChecked p → IsNeverStuck (elaborated p)) (text : List ℕ) where
   pub blamed_by : (p : Program) → HasMeaning text p → IsBlamed p
-  blamed_by p m = subst IsBlamed (elaborated_is m.0 p m.2) (judged text m.0 m.1)
+  blamed_by p m = meant_by IsBlamed judged text p m
 
   pub never_by : (p : Program) → HasMeaning text p → IsWhollyChecked text → IsNeverStuck p
   never_by p m w = checked_by IsNeverStuck checked text p m w

@@ -3,10 +3,11 @@ ghost use Rattle.std.specs.Prelude.{IfOk};
 ghost use Rattle.ckc_base.specs.Phases.{Exact};
 ghost use Rattle.ckc_blame.specs.Blamed.{IsBlamed, IsNeverStuck};
 ghost use Rattle.ckc_blame.specs.Checked.{WhollyChecked};
+ghost use Rattle.ckc_blame_steps.specs.Unchecked.{AreStoresBlamed};
 ghost use Rattle.ckc_build_elaborate.specs.Elaborated.{elaborated};
 ghost use Rattle.ckc_build.specs.Meanings.{judging};
 
-use crate::laws::unchecked_code_is_to_blame;
+use crate::laws::{unchecked_code_is_to_blame, unchecked_stores_are_to_blame};
 use ckc_base::Fault;
 use ckc_bounds::bounds;
 use ckc_lexer::{end_of, lex};
@@ -24,10 +25,13 @@ pub fn judge(alloc: Global, text: &[u8]) -> Result<Typed, Fault>
     ensures exact { Exact judging text.now result }
     // If the meaning of the text is stuck, unchecked code is to blame,
     ensures blamed { IfOk result (λ p. IsBlamed (elaborated p)) }
+    // more exactly, a store through an unchecked pointer or the step that is stuck,
+    ensures stores { IfOk result (λ p. AreStoresBlamed (elaborated p)) }
     // and the meaning of a text that is wholly checked is never stuck.
     ensures checked { IfOk result (λ p. WhollyChecked p → IsNeverStuck (elaborated p)) }
 {
     unchecked_code_is_to_blame();
+    unchecked_stores_are_to_blame();
     judged(alloc, text)
 }
 

@@ -8,11 +8,12 @@ ghost use Rattle.ckc_checks_operands.specs.Weights.{program_weight, most_weight}
 ghost use Rattle.ckc_blame.specs.Blamed.{IsBlamed, IsNeverStuck};
 ghost use Rattle.ckc_blame.specs.Checked.{WhollyChecked};
 ghost use Rattle.ckc_blame_steps.specs.Stores.{PlansLie};
+ghost use Rattle.ckc_blame_steps.specs.Unchecked.{AreStoresBlamed};
 ghost use Rattle.ckc_build_elaborate.specs.Elaborated.{elaborated};
 ghost use Rattle.ckc_typed.specs.declared.typed.Typed.{Typed};
 ghost use Rattle.ckc_build.specs.Meanings.{HasMeaning, IsWhollyChecked, judging, reading};
 
-use ckc_blame_steps::{accepted_stores_lie, accepted_texts_are_blamed};
+use ckc_blame_steps::{accepted_stores_lie, accepted_texts_are_blamed, stores_are_to_blame};
 use ckc_build_sizes::{marks_stay, programs_are_small};
 use ckc_typed_fit::small_stays;
 use ckc_typed_welltyped::{counts_stay, texts_exactly};
@@ -60,6 +61,17 @@ pub fn unchecked_code_is_to_blame()
 {
     texts_exactly();
     accepted_texts_are_blamed();
+}
+
+/// It is unchecked code that stores which is to blame: if the meaning of a text is stuck, then a step before stored through
+/// an unchecked pointer, or the step that is stuck has mode Unchecked.
+pub fn unchecked_stores_are_to_blame()
+    ensures judged { (text : List ℕ) (p : Typed) → judging.Makes text p
+        → AreStoresBlamed (elaborated p) }
+    ensures stores { (text : List ℕ) (p : Program) → HasMeaning text p → AreStoresBlamed p }
+{
+    texts_exactly();
+    stores_are_to_blame();
 }
 
 /// What the steps of a text that is wholly checked plan to write to memory lies in blocks of their states.

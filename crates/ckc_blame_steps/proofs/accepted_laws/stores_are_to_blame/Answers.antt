@@ -3,6 +3,6 @@ use Rattle.ckc_blame_steps.proofs.accepted_laws.stores_are_to_blame.Goals as goa
 
 pub returns : goal.returns
 returns c = record {
-  blamed = λ text p input n a. accepted_store text p a input n;
+  blamed = λ text p a input n. accepted_store text p a input n;
   sound = λ text p input n a. accepted_sound text p a input n;
 }
