@@ -180,7 +180,7 @@ limits_part made same o b code pos e is =
     by a false is = (same_limits (made a) (made e) is, refl)
 
 -- the operand and the limits of a bounds cast
-cast_parts : (made : NotedExpr → Option NotedLimits → NotedLayer) → ((a b : NotedExpr) (c d : Option NotedLimits) → made a c ≡ made b d → (a ≡ b) × (c ≡ d)) → (o : Outcome NotedExpr) (q : Outcome (Option NotedLimits)) (e : NotedExpr) (l : Option NotedLimits)
+pub cast_parts : (made : NotedExpr → Option NotedLimits → NotedLayer) → ((a b : NotedExpr) (c d : Option NotedLimits) → made a c ≡ made b d → (a ≡ b) × (c ≡ d)) → (o : Outcome NotedExpr) (q : Outcome (Option NotedLimits)) (e : NotedExpr) (l : Option NotedLimits)
     → bind o (λ a. bind q (λ k. Ok (node_of (made a k)))) ≡ Ok (node_of (made e l)) → (o ≡ Ok e) × (q ≡ Ok l)
 cast_parts made same o q e l is =
     let b = bind_is o (λ a. bind q (λ k. Ok (node_of (made a k)))) (node_of (made e l)) is in

@@ -1,6 +1,6 @@
 -- Expressions and targets come to the same if blocks are made, unless they are stuck without them.
-use Rattle.std.proofs.Common.{◌≡◌, ◌⊎◌, inl, inr, refl, sym, ap, subst, ◌∙◌, ℕ, ◌==◌, ◌%◌, List, ◌++◌, ℤ, ◌+ℤ◌}
-use Rattle.std.specs.Prelude.{◌≢◌, Bool, true, false, if◌then◌else◌, pos, negsuc, Option, None, Some, Result, Ok, Err}
+use Rattle.std.proofs.Common.{◌≡◌, ◌⊎◌, inl, inr, refl, sym, ap, subst, ℕ, ◌==◌, ◌%◌, List, ◌++◌, ℤ, ◌+ℤ◌}
+use Rattle.std.specs.Prelude.{Bool, true, false, if◌then◌else◌, pos, negsuc, Option, None, Some, Result, Ok, Err}
 use Rattle.ckc_base.specs.declared.arithmetic.Width.{Width}
 use Rattle.ckc_base.specs.declared.arithmetic.Width.TheVariants.{Word}
 use Rattle.ckc_source.specs.declared.expr.Access.{Access}
@@ -9,11 +9,10 @@ use Rattle.ckc_source.specs.declared.expr.Count.{Count}
 use Rattle.ckc_source.specs.declared.expr.Count.TheVariants as count
 use Rattle.ckc_source.specs.declared.outcome.Halt.{Halt}
 use Rattle.ckc_source.specs.declared.outcome.Halt.TheVariants.{Stuck}
-use Rattle.ckc_source.specs.declared.outcome.Range.{Range}
 use Rattle.ckc_source.specs.declared.outcome.Value.{Value}
 use Rattle.ckc_source.specs.declared.program.Shape.{Shape}
-use Rattle.ckc_source.specs.Blocks.{Block, loaded, lies_in}
-use Rattle.ckc_source.specs.Code.{Expr, Number, Local, Limited, Array, Load, Member, Address, Moved, Added, Binary, And, Or, Choice, Narrow, Bare, Tested, Trusted, Target, Nothing, Variable, Memory}
+use Rattle.ckc_source.specs.Blocks.{Block, loaded}
+use Rattle.ckc_source.specs.Code.{Expr, Number, Local, Limited, Array, Load, Member, Address, Moved, Added, Binary, And, Or, Choice, Narrow, Bare, Tested, Trusted}
 use Rattle.ckc_source.specs.Eval.{Store, given, given_both, given_some, plain, ranged, spanned, reads_within, reads, element, place_in, loads, counted, loads_pointer, moves, operates, tests, trusts, accessed, evaluated}
 use Rattle.ckc_source.specs.Runs.{is_true}
 use Rattle.ckc_source.specs.Words.{exact, width_of, elements_behind, truth}

@@ -1,6 +1,6 @@
 -- What assignments are going to write to memory lies in a block of the state before them.
 use Rattle.std.proofs.Common.{◌≡◌, inl, inr, refl, sym, ap, subst, ◌∙◌, ℕ, ◌==◌, ◌%◌, List, [], ◌∷◌, ◌++◌, append_assoc}
-use Rattle.std.specs.Prelude.{◌≢◌, ◌&&◌, ◌||◌, Bool, true, false, if◌then◌else◌, Option, None, Some, Result, Ok, Err}
+use Rattle.std.specs.Prelude.{◌≢◌, ◌&&◌, ◌||◌, Bool, true, false, if◌then◌else◌, None, Some, Result, Ok, Err}
 use Rattle.std.specs.List.{AllByRecursion, list_any}
 use Rattle.std.proofs.lemmas.List.{append-nil}
 use Rattle.std.proofs.lemmas.List.Elements.{All-nil, All-cons}
@@ -16,12 +16,11 @@ use Rattle.ckc_source.specs.declared.outcome.Place.TheVariants as place
 use Rattle.ckc_source.specs.declared.outcome.Range.{Range}
 use Rattle.ckc_source.specs.declared.outcome.Value.{Value as Given}
 use Rattle.ckc_source.specs.declared.program.Shape.{Shape}
-use Rattle.ckc_source.specs.declared.stmt.Spot.{Spot}
 use Rattle.ckc_source.specs.Blocks.{Block, has, is_aligned, lies_in}
-use Rattle.ckc_source.specs.Code.{Target, Nothing, Variable, Memory, Right, Code, End, Assign, Bundle, Get, Put, Call, If, Loop, Break, Continue, Return, Check, Program}
+use Rattle.ckc_source.specs.Code.{Target, Nothing, Variable, Memory, Right, End, Assign, Bundle, Get, Put, Call, If, Loop, Break, Continue, Return, Check, Program}
 use Rattle.ckc_source.specs.Eval.{Store, given, stops, place_in, element, evaluated}
 use Rattle.ckc_source.specs.States.{Work, Rest, Turn, State}
-use Rattle.ckc_source.specs.Steps.{Write, store_of, terminator_at, aims_at, aimed, refuses, allowed, Drawn, drawn, Planned, and_then_written, planned, at_work}
+use Rattle.ckc_source.specs.Steps.{Write, store_of, terminator_at, aims_at, aimed, allowed, Drawn, drawn, Planned, and_then_written, planned, at_work}
 use Rattle.ckc_checks_follow.specs.Stores.{next_byte, plans}
 use Rattle.ckc_blame_sound.proofs.Claims.{given_is, both_are}
 use Rattle.ckc_blame_sound.specs.Limited.{store_with}

@@ -8,10 +8,10 @@ ghost use Rattle.ckc_blame_sound.specs.JudgedTexts.{IsJudged};
 ghost use Rattle.ckc_blame_pointers.specs.Covered.{DeclareLocals};
 ghost use Rattle.ckc_blame_steps.specs.Plans.{AllocateSoundly};
 
-/// A `calloc` that is drawn at a step of a judged text, in a state at a point that holds, comes to a
-/// null pointer or to a new block of as many elements as it counts, or stops at a named check, or is
-/// stuck in code of mode Unchecked; the point holds after, and the word goes to a place of the type
-/// that it converts to with the range that is judged.
+/// A `calloc` that is drawn at a step of a judged text, in a state at a point that holds, comes to
+/// a null pointer or to a new block of as many elements as it counts, or stops at a named check, or
+/// is stuck in code of mode Unchecked; the point holds after, and the word goes to a place of the
+/// type that it converts to with the range that is judged.
 pub fn allocations_draw()
     ensures { (p : Typed) → IsJudged p → AreSlotParts p
         → ((s : Setting) (f : Function) → IsFunction p s f → DeclareLocals s)
