@@ -20,7 +20,7 @@ use Rattle.ckc_bounds_views.specs.Judged.{fault_if, fault_of_node, limits_judged
 use Rattle.ckc_bounds_views.specs.Parts.{LimitsOfViews, LimitsView, NodeView, View, fresh_behind}
 use Rattle.ckc_bounds_views.specs.Views.{limits_view, node_view, expr_view, view_of_limits, view_of_node, view}
 use Rattle.ckc_blame_sound.proofs.Every.{LimitsLayer, ExprLayer, EachLimits, EachExpr}
-use Rattle.ckc_blame_pointers.proofs.Inside.{cast_parts, judged_is, limits_layer, limits_part, no_ends, one_part, operand_is, some_there, three_parts, two_parts}
+use Rattle.ckc_blame_pointers.proofs.Inside.{judged_is, limits_layer, limits_part, no_ends, one_part, operand_is, some_there, tested_parts, three_parts, trusted_parts, two_parts}
 use Rattle.ckc_blame_given.proofs.Layers.{view_is, viewed}
 use Rattle.ckc_blame_given.proofs.Pointers.{node_is}
 use Rattle.ckc_blame_steps.proofs.Callless.{IsCallless, HasNoCall}
@@ -112,13 +112,13 @@ module _ (frame : Frame) where
   parts_kept e (Node-F.Arrow f m spot) is n c p = kept f _ _ (one_part (λ b. Node-F.Arrow b m spot) (λ b d e. cc) _ f (n.judged ∙ ap Ok is)) p
   parts_kept e (Node-F.Cast w f) is n c p = kept f _ _ (one_part (λ b. Node-F.Cast w b) (λ b d e. cc) _ f (n.judged ∙ ap Ok is)) p
   parts_kept e (Node-F.Size w) is n c p = tt
-  parts_kept e (Node-F.Trusted w f None) is n c p = (kept f _ _ (cast_parts (λ b d. Node-F.Trusted w b d) (λ b d i g e. (cc, cc)) _ (Ok None) f None (n.judged ∙ ap Ok is)).0 p.0, tt)
+  parts_kept e (Node-F.Trusted w f None) is n c p = (kept f _ _ (trusted_parts w _ (Ok None) f None (n.judged ∙ ap Ok is)).0 p.0, tt)
   parts_kept e (Node-F.Trusted w f (Some l)) is n c p =
-      let h = cast_parts (λ b d. Node-F.Trusted w b d) (λ b d i g e. (cc, cc)) _ _ f (Some l) (n.judged ∙ ap Ok is) in
+      let h = trusted_parts w _ _ f (Some l) (n.judged ∙ ap Ok is) in
       (kept f _ _ h.0 p.0, record { size = _; fresh = _; at = _; judged = some_there _ l h.1; callless = p.1 })
-  parts_kept e (Node-F.Tested w f None) is n c p = (kept f _ _ (cast_parts (λ b d. Node-F.Tested w b d) (λ b d i g e. (cc, cc)) _ (Ok None) f None (n.judged ∙ ap Ok is)).0 p.0, tt)
+  parts_kept e (Node-F.Tested w f None) is n c p = (kept f _ _ (tested_parts w _ (Ok None) f None (n.judged ∙ ap Ok is)).0 p.0, tt)
   parts_kept e (Node-F.Tested w f (Some l)) is n c p =
-      let h = cast_parts (λ b d. Node-F.Tested w b d) (λ b d i g e. (cc, cc)) _ _ f (Some l) (n.judged ∙ ap Ok is) in
+      let h = tested_parts w _ _ f (Some l) (n.judged ∙ ap Ok is) in
       (kept f _ _ h.0 p.0, record { size = _; fresh = _; at = _; judged = some_there _ l h.1; callless = p.1 })
   parts_kept e (Node-F.Call m es) is n c p = absurd c
   parts_kept e (Node-F.Calloc w f u) is n c p = absurd c

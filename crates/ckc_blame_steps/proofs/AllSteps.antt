@@ -34,16 +34,13 @@ stores_safely : (m : Mode) (code : Code) → (m ≡ Unchecked → stores_raw cod
 stores_safely Checked code h = tt
 stores_safely Unchecked code h = h refl
 
-some_same : {x y : Expr} → ◌≡◌ {A = Option Expr} (Some x) (Some y) → x ≡ y
-some_same e = cc
-
 -- a step is stuck if its condition is
 stuck_condition : (q : Program) (s : State) (code : Code) (next : List Work) (e : Expr) → condition_of code ≡ Some e → evaluated (store_of q.shapes s) e ≡ Err halt.Stuck
     → acts q s next code ≡ Halts [] Stuck
 stuck_condition q s code next e there value = by code there
   where
     stuck : (x : Expr) (f : Value → Move Event State) → ◌≡◌ {A = Option Expr} (Some x) (Some e) → and_moves (evaluated (store_of q.shapes s) x) f ≡ Halts [] Stuck
-    stuck x f same = ap (λ r. and_moves r f) (ap (evaluated (store_of q.shapes s)) (some_same same) ∙ value)
+    stuck x f same = let is : x ≡ e = cc in ap (λ r. and_moves r f) (ap (evaluated (store_of q.shapes s)) is ∙ value)
 
     by : (code : Code) → condition_of code ≡ Some e → acts q s next code ≡ Halts [] Stuck
     by (If spot x one two rest) same = stuck x (λ v. Goes [] (at_work s (Rest (if v.number == 0 then two else one) ∷ Rest rest ∷ next))) same

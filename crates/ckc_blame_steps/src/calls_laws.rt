@@ -22,8 +22,8 @@ ghost use Rattle.ckc_blame_steps.specs.Arguments.{GiveWords, literals_before};
 ghost use Rattle.ckc_blame_steps.specs.Callees.{HaveCallees, HaveFewVariables};
 ghost use Rattle.ckc_blame_steps.specs.Results.{GivesWordIf, ObjectsKeepResults, ResultsAreKnown, ResultsLeadOn, returned_by};
 
-/// The step of a call from a sound state enters a function soundly, or stops, or is stuck as it may be
-/// in code of its mode, if each argument gives a word.
+/// The step of a call from a sound state enters a function soundly, or stops, or is stuck in code of
+/// mode Unchecked, if each argument gives a word.
 pub fn calls_keep_sound()
     ensures { (p : Typed) (s : State) (h : Sound p s) (j : IsJudged p) (spot : Spot)
         (target : Option Kept) (number : ℕ) (es : List Expr) (rest : Code) (next : List Work)
@@ -44,7 +44,7 @@ pub fn results_are_known()
 {}
 
 /// The step of a return from a sound state leads to a sound state, or the run ends or stops, or is
-/// stuck as it may be in code of its mode, if what is returned gives a word.
+/// stuck in code of mode Unchecked, if what is returned gives a word.
 pub fn returns_keep_sound()
     ensures { (p : Typed) (s : State) (h : Sound p s) (spot : Spot) (e : Expr) (rest : Code)
         (next : List Work)

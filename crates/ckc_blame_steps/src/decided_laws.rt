@@ -16,7 +16,7 @@ ghost use Rattle.ckc_blame_control.specs.Decided.{IsDecided};
 ghost use Rattle.ckc_blame_steps.specs.Tests.{AreTestsCovered};
 
 /// Wherever an expression is the condition of a statement at a point that holds, in a sound state, it leads to a side
-/// of it that holds, or stops at a named check, if in unchecked code it is not stuck.
+/// of it that holds, or stops at a named check: in checked code always, and in unchecked code if it is not stuck.
 pub fn conditions_are_decided()
     ensures { (p : Typed) (s : State) (h : Sound p s) (m : Mode) (e : Expr) → IsJudged p
         → HaveWords p → length h.setting.variables < 2 ^ 32 → DeclareLocals h.setting

@@ -41,8 +41,8 @@ pub fn objects_keep_results()
 {}
 
 /// An expression that is covered, whose string literals are static objects from a number on, gives
-/// a word to what it is returned or passed as, or is stuck as it may be in code of a mode, and the
-/// arguments of a call do if each is, with their numbers one after another.
+/// a word to what it is returned or passed as, or stops at a named check, or is stuck in code of mode
+/// Unchecked, and the arguments of a call do if each is, with their numbers one after another.
 pub fn covered_give_words()
     ensures one { (m : Mode) (globals : Globals) (s : Setting) (entry : List ℕ) (here : Here)
         (next : ℕ) (store : Store) → Agrees globals s → DeclareLocals s → IsSoundStore s store next
