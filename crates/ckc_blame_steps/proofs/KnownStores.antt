@@ -1,10 +1,10 @@
 -- What a checked step of a known text is going to write to memory lies in a block.
-use Rattle.std.proofs.Common.{◌≡◌, refl, List, [], ◌∷◌}
+use Rattle.std.proofs.Common.{◌≡◌, refl, List, ◌∷◌}
 use Rattle.std.specs.Prelude.{Ok}
 use Rattle.ckc_base.specs.declared.arithmetic.Mode.TheVariants.{Checked}
 use Rattle.ckc_typed.specs.declared.typed.Typed.{Typed}
-use Rattle.ckc_source.specs.Code.{Code, Bundle}
-use Rattle.ckc_source.specs.States.{Work, Rest, Turn, State, settled}
+use Rattle.ckc_source.specs.Code.{Bundle}
+use Rattle.ckc_source.specs.States.{Work, Rest, State, settled}
 use Rattle.ckc_source.specs.Steps.{Write, spot_of}
 use Rattle.ckc_build_elaborate.specs.Elaborated.{elaborated}
 use Rattle.ckc_checks_follow.specs.Stores.{plans}

@@ -1,4 +1,4 @@
-use Rattle.std.proofs.Common.{◌≡◌, refl, List, ◌∷◌}
+use Rattle.std.proofs.Common.{refl, List, ◌∷◌}
 use Rattle.std.specs.Prelude.{◌≢◌}
 use Rattle.ckc_source.specs.declared.stmt.Spot.{Spot}
 use Rattle.ckc_source.specs.Code.{Target, Right, Code, Bundle, Program}
