@@ -1,5 +1,5 @@
 -- What sources, sinks and stores mean when they tell their contents, and their counts of failures.
-use Rattle.std.specs.Prelude.{◌≡◌, ◌≢◌, ℕ, ◌+◌, ◌-◌, ◌^◌, ◌<◌, ◌≤◌, min, List, ◌++◌, length, take, drop, slice_get, Bool, Option, None, Some, Result, Ok, Err}
+use Rattle.std.specs.Prelude.{◌≡◌, ◌≢◌, ℕ, ◌<◌, ◌≤◌, List, ◌++◌, length, take, drop, slice_get, Bool, Option, None, Some, Result, Ok, Err}
 use Rattle.std.specs.Ordering.{nat_cmp}
 use Rattle.std.specs.Cmp.Lexicographic.{slice_cmp}
 use Rattle.std.specs.FinMap as map
@@ -40,10 +40,6 @@ pub record Stored : Type 0 where
   pub limit : ℕ
   pub keeps : ℕ
   pub kept : ℕ
-
--- a count after so many more, which stands still at its last value
-abbrev pub many_more : ℕ → ℕ → ℕ
-many_more k n = min (n + k) (2 ^ 64 - 1)
 
 -- a count of faults after one more call of a source or a sink: a failure is a fault
 abbrev pub faults_after : {A : Type 0} → Result A Failed → ℕ → ℕ
