@@ -41,9 +41,10 @@ module _ (p : Program) (given : List ℕ) (n limit : ℕ) (s u : State) (old mid
     record {
       below = below;
       goes = goes_at p given n s old mid blame at;
-      asks = subst AsksToPut (sym (state_is p given n at.trace s at.travels)) x.0;
-      put = failed_front blame x.1 at x.2 x.3;
-      took = subst (λ l. given ≡ taken (source p given n).trace ++ l) (sym x.4) (took_at p given n s old mid blame at);
+      byte = x.0;
+      asks = subst (λ (u : State). AsksToPut p u x.0) (sym (state_is p given n at.trace s at.travels)) x.1;
+      showed = put_then old mid new (source p given n).trace here x.0 x.2;
+      took = subst (λ l. given ≡ taken (source p given n).trace ++ l) (sym x.3) (took_at p given n s old mid blame at);
     },
   )
   over_steps seen.Memory x = (

@@ -104,6 +104,14 @@ module _ (old new : Streams) (written : new.written ≡ old.written) (asked : ne
   pub got_nothing : AskedInVain old new []
   got_nothing = record { put = nothing_put; called = called_none (one_more old.asks) new.asks old.puts new.puts asked puts }
 
+-- a call of the output for one byte, and what came of it
+module _ (old new : Streams) (byte : ℕ) (asked : new.asks ≡ old.asks) (puts : new.puts ≡ one_more old.puts) where
+  pub showed_put : Printed old.written new.written (byte ∷ []) → Showed old new (Put byte ∷ [])
+  showed_put put = record { put = put; called = called_put old.asks new.asks old.puts new.puts byte asked puts }
+
+  pub put_nothing : PrintedFront old.written new.written 0 (byte ∷ []) → PutInVain old new [] byte
+  put_nothing put = record { put = put; called = called_none old.asks new.asks (one_more old.puts) new.puts asked puts }
+
 -- ---- what was given
 
 all_given : (more then : List ℕ) → AreBytes more → AreBytes then → AreBytes (more ++ then)

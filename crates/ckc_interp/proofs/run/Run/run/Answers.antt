@@ -1,4 +1,4 @@
-use Rattle.std.proofs.Common.{◌≡◌, ◌+◌, ℕ, None, Some, sym, ap, subst, ◌∙◌, arith}
+use Rattle.std.proofs.Common.{◌≡◌, ◌+◌, ℕ, None, Some, refl, sym, ap, subst, ◌∙◌, arith}
 use Rattle.ckc_base.specs.Traces.{Going}
 use Rattle.ckc_source.specs.Code.{program_of}
 use Rattle.ckc_source.specs.States.{State}

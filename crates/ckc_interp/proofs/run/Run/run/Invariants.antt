@@ -13,7 +13,7 @@ invariant-loop-step g l =
     record {
       shapes : shapes_of l.self.blocks ≡ l.program.shapes;
       at : Fed (g.S.Source.seen l.fn.input) (g.S.Source.seen l.input)
-          (λ given left. IsAt (program_of l.program) given l._step (state_of l.self left) 
+          (λ given left. IsAt (program_of l.program) given l._step (state_of l.self left)
           (streams (g.S.Source.seen l.fn.input) (g.O.Sink.seen l.fn.out)) (streams (g.S.Source.seen l.input) (g.O.Sink.seen l.out)) l.marks.blame);
       input_faults : (g.S.Source.seen l.input).faults ≡ (g.S.Source.seen l.fn.input).faults;
       out_faults : (g.O.Sink.seen l.out).faults ≡ (g.O.Sink.seen l.fn.out).faults;
