@@ -1,12 +1,12 @@
 -- A run after some steps, and after one more.
-use Rattle.std.proofs.Common.{◌≡◌, ◌≢◌, ◌⊎◌, inl, inr, ℕ, zero, suc, ◌+◌, ◌≤◌, ◌<◌, List, [], ◌++◌, Option, Some, None, refl, sym, ◌∙◌, ap, subst, arith, append_assoc, append-nil}
+use Rattle.std.proofs.Common.{◌≡◌, ◌≢◌, ◌⊎◌, inl, inr, ℕ, zero, suc, ◌+◌, ◌≤◌, ◌<◌, List, [], ◌++◌, Option, Some, None, refl, sym, ◌∙◌, ap, subst, arith, append_assoc}
 use Rattle.std.proofs.lemmas.Grind.{flat_map-append}
 use Rattle.ckc_base.specs.declared.arithmetic.Mode.{Mode}
 use Rattle.ckc_base.specs.declared.arithmetic.Mode.TheVariants.{Checked, Unchecked}
 use Rattle.ckc_base.specs.declared.places.Pos.{Pos}
 use Rattle.ckc_base.specs.States.{state_at, state_after, moved_on, Travels}
 use Rattle.ckc_base.specs.Steps.{Move, Goes, Halts, System, shown}
-use Rattle.ckc_base.specs.Traces.{Event, Standing, Going, Ended, Stopped, Stuck, Fault, Showing, put_byte, output}
+use Rattle.ckc_base.specs.Traces.{Event, Standing, Going, Ended, Stopped, Stuck, Fault, Showing}
 use Rattle.ckc_base.proofs.Runs.{shown-later, one_halt, then_closes}
 use Rattle.ckc_base.proofs.Travelling.{one_travel, no_travel, then_travels}
 use Rattle.ckc_source.specs.declared.stmt.Spot.{Spot}
@@ -14,7 +14,8 @@ use Rattle.ckc_source.specs.Code.{Program}
 use Rattle.ckc_source.specs.States.{State}
 use Rattle.ckc_source.specs.Steps.{source_step, spot_of}
 use Rattle.ckc_source.specs.Source.{source, source_system, first_state, place_after, unchecked_since, first_unchecked, on_next, by_mode}
-use Rattle.ckc_outside.specs.Given.{got_byte, taken, Printed}
+use Rattle.ckc_outside.specs.Given.{got_byte, taken, Streams, Showed}
+use Rattle.ckc_outside.proofs.Giving.{showed_nothing, showed_both}
 use Rattle.ckc_interp.specs.Runs.{GoesAt, Comes}
 use Rattle.ckc_interp.specs.code.Turns.{noted}
 
@@ -52,13 +53,7 @@ first_unchecked-more p (suc n) s =
     (spot_of (moved_on (λ u. state_at (source_system p) u n) s (source_step p s)))
     (λ checked. after_move p n s (source_step p s) checked (λ u. first_unchecked-more p n u))
 
--- ---- what is printed
-
-pub printed_nothing : (written : Option (List ℕ)) → Printed written written []
-printed_nothing written before e = e ∙ ap Some (sym (append-nil before))
-
-pub printed_then : (old mid new : Option (List ℕ)) (one two : List ℕ) → Printed old mid one → Printed mid new two → Printed old new (one ++ two)
-printed_then old mid new one two p q before e = q (before ++ one) (p before e) ∙ ap Some (append_assoc before one two)
+-- ---- what is taken
 
 pub took_then : (given one two left left' : List ℕ) → given ≡ one ++ left → left ≡ two ++ left' → given ≡ (one ++ two) ++ left'
 took_then given one two left left' e f = e ∙ ap (λ l. one ++ l) f ∙ sym (append_assoc one two left')
@@ -73,10 +68,10 @@ module _ (p : Program) (given : List ℕ) where
   start = first_state p given
 
   -- After n steps, in each of which the program went on, it is in a state: what they put and took was put and taken.
-  pub record IsAt (n : ℕ) (s : State) (written written' : Option (List ℕ)) (blame : Option Pos) : Type 0 where
+  pub record IsAt (n : ℕ) (s : State) (old new : Streams) (blame : Option Pos) : Type 0 where
     pub trace : List Event
     pub travels : Travels system n trace start s
-    pub put : Printed written written' (output trace)
+    pub showed : Showed old new trace
     pub took : given ≡ taken trace ++ s.input
     pub blame_is : blame ≡ unchecked_since p given n
 
@@ -91,9 +86,6 @@ module _ (p : Program) (given : List ℕ) where
   unfolding state_after
   state_is n trace s t = ap (λ k. state_at system start k) (sym (plus_none n)) ∙ t.states 0
 
-  output_joins : (one two : List Event) → output one ++ output two ≡ output (one ++ two)
-  output_joins one two = sym (flat_map-append put_byte one two)
-
   taken_joins : (one two : List Event) → taken one ++ taken two ≡ taken (one ++ two)
   taken_joins one two = sym (flat_map-append got_byte one two)
 
@@ -102,20 +94,20 @@ module _ (p : Program) (given : List ℕ) where
   blame_next n trace s blame blame' t e f =
       f ∙ ap (λ b. noted b (spot_of s)) e ∙ ap (λ u. noted (unchecked_since p given n) (spot_of u)) (sym (state_is n trace s t)) ∙ sym (first_unchecked-more p n start)
 
-  pub at_start : (written : Option (List ℕ)) → IsAt 0 start written written None
+  pub at_start : (out : Streams) → IsAt 0 start out out None
   unfolding first_unchecked
-  at_start written = record { trace = []; travels = no_travel system start; put = printed_nothing written; took = refl; blame_is = refl }
+  at_start out = record { trace = []; travels = no_travel system start; showed = showed_nothing out; took = refl; blame_is = refl }
 
   plus_one : (n : ℕ) → n + 1 ≡ suc n
   plus_one n = omega arith
 
-  pub at_next : (n : ℕ) (s u : State) (written mid new : Option (List ℕ)) (blame blame' : Option Pos) (events : List Event)
-      → IsAt n s written mid blame → source_step p s ≡ Goes events u → Printed mid new (output events) → s.input ≡ taken events ++ u.input → blame' ≡ noted blame (spot_of s)
-      → IsAt (n + 1) u written new blame'
-  at_next n s u written mid new blame blame' events a e put took f = record {
+  pub at_next : (n : ℕ) (s u : State) (old mid new : Streams) (blame blame' : Option Pos) (events : List Event)
+      → IsAt n s old mid blame → source_step p s ≡ Goes events u → Showed mid new events → s.input ≡ taken events ++ u.input → blame' ≡ noted blame (spot_of s)
+      → IsAt (n + 1) u old new blame'
+  at_next n s u old mid new blame blame' events a e put took f = record {
     trace = a.trace ++ events;
     travels = then_travels system n 1 a.trace events start s u a.travels (one_travel system events s u e);
-    put = subst (Printed written new) (output_joins a.trace events) (printed_then written mid new (output a.trace) (output events) a.put put);
+    showed = showed_both old mid new a.trace a.showed events put;
     took = subst (λ t. given ≡ t ++ u.input) (taken_joins a.trace events) (took_then given (taken a.trace) (taken events) s.input u.input a.took took);
     blame_is = blame_next n a.trace s blame blame' a.travels a.blame_is f ∙ ap (λ k. unchecked_since p given k) (sym (plus_one n));
   }
@@ -133,22 +125,22 @@ module _ (p : Program) (given : List ℕ) where
     | inr halted ↦ sym (ap (λ (a : Showing Event). a.standing) ((shown-later system m n 0 [] start h).stays halted)) ∙ g
   ]
 
-  pub goes_at : (n : ℕ) (s : State) (written written' : Option (List ℕ)) (blame : Option Pos) → IsAt n s written written' blame → GoesAt p given n
-  goes_at n s written written' blame a = ap (λ (x : Showing Event). x.standing) (shows_at n a.trace s a.travels)
+  pub goes_at : (n : ℕ) (s : State) (old new : Streams) (blame : Option Pos) → IsAt n s old new blame → GoesAt p given n
+  goes_at n s old new blame a = ap (λ (x : Showing Event). x.standing) (shows_at n a.trace s a.travels)
 
-  pub put_at : (n : ℕ) (s : State) (written written' : Option (List ℕ)) (blame : Option Pos) → IsAt n s written written' blame → Printed written written' (output (source p given n).trace)
-  put_at n s written written' blame a = subst (λ (x : Showing Event). Printed written written' (output x.trace)) (sym (shows_at n a.trace s a.travels)) a.put
+  pub showed_at : (n : ℕ) (s : State) (old new : Streams) (blame : Option Pos) → IsAt n s old new blame → Showed old new (source p given n).trace
+  showed_at n s old new blame a = subst (λ (x : Showing Event). Showed old new x.trace) (sym (shows_at n a.trace s a.travels)) a.showed
 
-  pub took_at : (n : ℕ) (s : State) (written written' : Option (List ℕ)) (blame : Option Pos) → IsAt n s written written' blame → given ≡ taken (source p given n).trace ++ s.input
-  took_at n s written written' blame a = subst (λ (x : Showing Event). given ≡ taken x.trace ++ s.input) (sym (shows_at n a.trace s a.travels)) a.took
+  pub took_at : (n : ℕ) (s : State) (old new : Streams) (blame : Option Pos) → IsAt n s old new blame → given ≡ taken (source p given n).trace ++ s.input
+  took_at n s old new blame a = subst (λ (x : Showing Event). given ≡ taken x.trace ++ s.input) (sym (shows_at n a.trace s a.travels)) a.took
 
-  pub comes_at : (n : ℕ) (s : State) (written written' : Option (List ℕ)) (blame : Option Pos) → IsAt n s written written' blame → Comes p given s.input n n written written' Going
-  comes_at n s written written' blame a = record {
+  pub comes_at : (n : ℕ) (s : State) (old new : Streams) (blame : Option Pos) → IsAt n s old new blame → Comes p given s.input n n old new Going
+  comes_at n s old new blame a = record {
     within = omega arith;
-    before = λ m h. goes_before n m (goes_at n s written written' blame a) (omega arith);
-    stands_so = goes_at n s written written' blame a;
-    put = put_at n s written written' blame a;
-    took = took_at n s written written' blame a;
+    before = λ m h. goes_before n m (goes_at n s old new blame a) (omega arith);
+    stands_so = goes_at n s old new blame a;
+    showed = showed_at n s old new blame a;
+    took = took_at n s old new blame a;
   }
 
   -- ---- a halt
@@ -165,25 +157,24 @@ module _ (p : Program) (given : List ℕ) where
   halt_state n trace events s standing t e =
       ap (λ k. state_at system start k) (sym (plus_one n)) ∙ t.states 1 ∙ ap (moved_on (λ u. state_after system 0 0 u) s) e
 
-  pub place_is : (n : ℕ) (s : State) (written written' : Option (List ℕ)) (blame : Option Pos) (events : List Event) (standing : Standing)
-      → IsAt n s written written' blame → source_step p s ≡ Halts events standing → (spot_of s).at ≡ place_after p given (suc n)
-  place_is n s written written' blame events standing a e = ap (λ u. (spot_of u).at) (sym (halt_state n a.trace events s standing a.travels e))
+  pub place_is : (n : ℕ) (s : State) (old new : Streams) (blame : Option Pos) (events : List Event) (standing : Standing)
+      → IsAt n s old new blame → source_step p s ≡ Halts events standing → (spot_of s).at ≡ place_after p given (suc n)
+  place_is n s old new blame events standing a e = ap (λ u. (spot_of u).at) (sym (halt_state n a.trace events s standing a.travels e))
 
-  pub blame_is_next : (n : ℕ) (s : State) (written written' : Option (List ℕ)) (blame blame' : Option Pos)
-      → IsAt n s written written' blame → blame' ≡ noted blame (spot_of s) → blame' ≡ unchecked_since p given (suc n)
-  blame_is_next n s written written' blame blame' a f = blame_next n a.trace s blame blame' a.travels a.blame_is f
+  pub blame_is_next : (n : ℕ) (s : State) (old new : Streams) (blame blame' : Option Pos)
+      → IsAt n s old new blame → blame' ≡ noted blame (spot_of s) → blame' ≡ unchecked_since p given (suc n)
+  blame_is_next n s old new blame blame' a f = blame_next n a.trace s blame blame' a.travels a.blame_is f
 
-  pub comes_over : (n limit : ℕ) (s : State) (written mid new : Option (List ℕ)) (blame : Option Pos) (events : List Event) (standing : Standing) (left : List ℕ)
-      → n < limit → IsAt n s written mid blame → source_step p s ≡ Halts events standing → Printed mid new (output events) → s.input ≡ taken events ++ left
-      → Comes p given left limit (suc n) written new standing
-  comes_over n limit s written mid new blame events standing left h a e put took =
+  pub comes_over : (n limit : ℕ) (s : State) (old mid new : Streams) (blame : Option Pos) (events : List Event) (standing : Standing) (left : List ℕ)
+      → n < limit → IsAt n s old mid blame → source_step p s ≡ Halts events standing → Showed mid new events → s.input ≡ taken events ++ left
+      → Comes p given left limit (suc n) old new standing
+  comes_over n limit s old mid new blame events standing left h a e put took =
       let shows = shows_halt n a.trace events s standing a.travels e in
       record {
         within = omega arith;
-        before = λ m l. goes_before n m (goes_at n s written mid blame a) (omega arith);
+        before = λ m l. goes_before n m (goes_at n s old mid blame a) (omega arith);
         stands_so = ap (λ (x : Showing Event). x.standing) shows;
-        put = subst (λ (x : Showing Event). Printed written new (output x.trace)) (sym shows)
-            (subst (Printed written new) (output_joins a.trace events) (printed_then written mid new (output a.trace) (output events) a.put put));
+        showed = subst (λ (x : Showing Event). Showed old new x.trace) (sym shows) (showed_both old mid new a.trace a.showed events put);
         took = subst (λ (x : Showing Event). given ≡ taken x.trace ++ left) (sym shows)
             (subst (λ t. given ≡ t ++ left) (taken_joins a.trace events) (took_then given (taken a.trace) (taken events) s.input left a.took took));
       }

@@ -1,16 +1,16 @@
 //! Whole runs.
 
-ghost use Rattle.std.specs.Prelude.{◌≡◌, ◌≢◌, ◌%◌, ◌^◌, ◌<◌, ◌≤◌, [], ◌∷◌, map, slice_get, None, Some, IfOk, ℕ, List};
-ghost use Rattle.ckc_outside.specs.Outside.{Rose};
+ghost use Rattle.std.specs.Prelude.{◌≡◌, ◌%◌, ◌^◌, ◌<◌, [], ◌∷◌, map, slice_get, None, Some, IfOk, ℕ, List};
+ghost use Rattle.ckc_outside.specs.Outside.{one_more};
 ghost use Rattle.ckc_source.specs.Code.{function_of, program_of};
 ghost use Rattle.ckc_source.specs.LaidOut.{IsLaidOut};
 ghost use Rattle.ckc_source.specs.Source.{no_function, function_at, first_state};
 ghost use Rattle.ckc_source.specs.Steps.{writes_allowed};
 ghost use Rattle.ckc_interp_blocks.specs.Views.{shapes_of};
 ghost use Rattle.ckc_interp.specs.code.Views.{core_of, state_of};
-ghost use Rattle.ckc_outside.specs.Given.{OverAny, WhereTold};
-ghost use Rattle.ckc_interp.specs.Runs.{Interprets};
-ghost use Rattle.ckc_interp.specs.code.Turns.{seen_of, Wrote, PutsAs, GetsAs, Fed, Steps};
+ghost use Rattle.ckc_outside.specs.Given.{OverAny, WhereTold, streams};
+ghost use Rattle.ckc_interp.specs.Runs.{Interprets, read_faults, write_faults};
+ghost use Rattle.ckc_interp.specs.code.Turns.{seen_of, Wrote, PutsAs, GetsAs, Fed, Steps, reads_after, writes_after, with_asks};
 
 use crate::arms::Marks;
 use crate::frame::enter;
@@ -24,7 +24,9 @@ use std::alloc::{AllocError, Global};
 
 /// What a halt comes to, by the marks of its step.
 fn seen_of(why: Halt, marks: Marks) -> Seen
-    ensures { result ≡ seen_of why marks.at marks.blame }
+    ensures is { result ≡ seen_of why marks.at marks.blame }
+    ensures reads { (n : ℕ) → read_faults result n ≡ n }
+    ensures writes { (n : ℕ) → write_faults result n ≡ n }
 {
     match why {
         Halt::Stopped(check, at) => Seen::Stopped(check, at),
@@ -38,6 +40,8 @@ impl<'a> Run<'a> {
         ensures done { Wrote (writes_allowed to n (core_of self.old))
             (core_of self.new) marks.at marks.blame result }
         ensures shapes { shapes_of self.new.blocks ≡ shapes_of self.old.blocks }
+        ensures reads { (n : ℕ) → reads_after result n ≡ n }
+        ensures writes { (n : ℕ) → writes_after result n ≡ n }
     {
         match self.write_allowed(to, n) {
             Ok(()) => None,
@@ -47,13 +51,12 @@ impl<'a> Run<'a> {
 
     /// Puts the lowest byte of a word and writes it.
     fn put<O: Sink>(&mut self, to: Place, n: u32, marks: Marks, out: &mut O) -> Option<Seen>
-        ensures puts { PutsAs (core_of self.old) to n (core_of self.new) marks.at marks.blame
-            (O.seen out.old).written (O.seen out.new).written result }
+        ensures puts { (asks : ℕ)
+            → PutsAs (core_of self.old) to n (core_of self.new) marks.at marks.blame
+            (with_asks asks (O.seen out.old)) (with_asks asks (O.seen out.new)) result }
         ensures shapes { shapes_of self.new.blocks ≡ shapes_of self.old.blocks }
-        ensures write_fault { result ≡ Some Seen.WriteFault
-            → Rose (O.seen out.old).faults (O.seen out.new).faults }
-        ensures read_fault { result ≢ Some Seen.ReadFault }
-        ensures out_counts { (O.seen out.old).faults ≤ (O.seen out.new).faults }
+        ensures reads { (n : ℕ) → reads_after result n ≡ n }
+        ensures writes { (O.seen out.new).faults ≡ writes_after result (O.seen out.old).faults }
     {
         let byte = (n % 256) as u8;
         match out.put(&[byte]) {
@@ -67,11 +70,10 @@ impl<'a> Run<'a> {
         ensures gets { Fed (S.seen input.old) (S.seen input.new)
             (λ left left'. GetsAs (core_of self.old) to
             (core_of self.new) marks.at marks.blame left left' result) }
+        ensures asked { (S.seen input.new).asks ≡ one_more (S.seen input.old).asks }
         ensures shapes { shapes_of self.new.blocks ≡ shapes_of self.old.blocks }
-        ensures read_fault { result ≡ Some Seen.ReadFault
-            → Rose (S.seen input.old).faults (S.seen input.new).faults }
-        ensures write_fault { result ≢ Some Seen.WriteFault }
-        ensures input_counts { (S.seen input.old).faults ≤ (S.seen input.new).faults }
+        ensures reads { (S.seen input.new).faults ≡ reads_after result (S.seen input.old).faults }
+        ensures writes { (n : ℕ) → writes_after result n ≡ n }
     {
         match input.next() {
             Ok(Some(byte)) => self.wrote(to, word_of(byte), marks),
@@ -93,14 +95,11 @@ impl<'a> Run<'a> {
         ensures steps { Fed (S.seen input.old) (S.seen input.new)
             (λ left left'. Steps (program_of program.entry.now) (state_of self.old left)
             (state_of self.new left') marks.old.blame marks.new.blame
-            (O.seen out.old).written (O.seen out.new).written result) }
+            (streams (S.seen input.old) (O.seen out.old))
+            (streams (S.seen input.new) (O.seen out.new)) result) }
         ensures shapes { shapes_of self.new.blocks ≡ shapes_of self.old.blocks }
-        ensures read_fault { result ≡ Some Seen.ReadFault
-            → Rose (S.seen input.old).faults (S.seen input.new).faults }
-        ensures write_fault { result ≡ Some Seen.WriteFault
-            → Rose (O.seen out.old).faults (O.seen out.new).faults }
-        ensures input_counts { (S.seen input.old).faults ≤ (S.seen input.new).faults }
-        ensures out_counts { (O.seen out.old).faults ≤ (O.seen out.new).faults }
+        ensures reads { (S.seen input.new).faults ≡ reads_after result (S.seen input.old).faults }
+        ensures writes { (O.seen out.new).faults ≡ writes_after result (O.seen out.old).faults }
     {
         match self.turn(alloc, program, marks) {
             Err(_) => Some(Seen::Memory),
@@ -124,14 +123,11 @@ impl<'a> Run<'a> {
         requires shapes { shapes_of self.old.blocks ≡ program.now.shapes }
         requires start { core_of self.old ≡ first_state (program_of program.now) [] }
         ensures runs { Fed (S.seen input.old) (S.seen input.new)
-            (Interprets (program_of program.entry.now) limit (O.seen out.old).written
-            (O.seen out.new).written result) }
-        ensures read_fault { result ≡ Seen.ReadFault
-            → Rose (S.seen input.old).faults (S.seen input.new).faults }
-        ensures write_fault { result ≡ Seen.WriteFault
-            → Rose (O.seen out.old).faults (O.seen out.new).faults }
-        ensures input_counts { (S.seen input.old).faults ≤ (S.seen input.new).faults }
-        ensures out_counts { (O.seen out.old).faults ≤ (O.seen out.new).faults }
+            (Interprets (program_of program.entry.now) limit
+            (streams (S.seen input.old) (O.seen out.old))
+            (streams (S.seen input.new) (O.seen out.new)) result) }
+        ensures reads { (S.seen input.new).faults ≡ read_faults result (S.seen input.old).faults }
+        ensures writes { (O.seen out.new).faults ≡ write_faults result (O.seen out.old).faults }
     {
         let mut marks = Marks {
             at: self.frame.function.end.at,
@@ -217,14 +213,11 @@ fn run_from<'a, S: Source, O: Sink>(
     requires main { function_of main.now ≡ function_at (slice_get
         (map function_of p.now.functions) p.now.main) }
     ensures runs { Fed (S.seen input.old) (S.seen input.new)
-        (Interprets (program_of p.entry.now) limit (O.seen out.old).written
-        (O.seen out.new).written result) }
-    ensures read_fault { result ≡ Seen.ReadFault
-        → Rose (S.seen input.old).faults (S.seen input.new).faults }
-    ensures write_fault { result ≡ Seen.WriteFault
-        → Rose (O.seen out.old).faults (O.seen out.new).faults }
-    ensures input_counts { (S.seen input.old).faults ≤ (S.seen input.new).faults }
-    ensures out_counts { (O.seen out.old).faults ≤ (O.seen out.new).faults }
+        (Interprets (program_of p.entry.now) limit
+        (streams (S.seen input.old) (O.seen out.old))
+        (streams (S.seen input.new) (O.seen out.new)) result) }
+    ensures reads { (S.seen input.new).faults ≡ read_faults result (S.seen input.old).faults }
+    ensures writes { (O.seen out.new).faults ≡ write_faults result (O.seen out.old).faults }
 {
     match start(alloc, p, main) {
         Ok(mut run) => run.run(alloc, p, limit, input, out),
@@ -232,7 +225,7 @@ fn run_from<'a, S: Source, O: Sink>(
     }
 }
 
-/// Runs the meaning of a program for at most `limit` steps. The bytes that it puts are written before the value of that
+/// Runs the meaning of a program for at most `limit` steps, and calls the objects once for each byte. The bytes that it puts are written before the value of that
 /// `putchar` is, and a put that failed may have left its own byte.
 pub fn interp<S: Source, O: Sink>(
     alloc: Global,
@@ -244,21 +237,18 @@ pub fn interp<S: Source, O: Sink>(
     requires { IsLaidOut (program_of p.now) }
 
     // With the input that a source tells, the answer is how the program stands.
-    ensures exact { WhereTold (S.seen input.old).left (S.seen input.new).left (Interprets
-        (program_of p.now) limit (O.seen out.old).written (O.seen out.new).written result) }
+    ensures exact { WhereTold (S.seen input.old).left (S.seen input.new).left
+        (Interprets (program_of p.now) limit (streams (S.seen input.old) (O.seen out.old))
+        (streams (S.seen input.new) (O.seen out.new)) result) }
 
     // Over any source, whatever may come after the bytes that it gave, the same holds of the input with both.
     ensures any { OverAny (S.seen input.old) (S.seen input.new)
-        (Interprets (program_of p.now) limit (O.seen out.old).written (O.seen out.new).written
-        result) }
+        (Interprets (program_of p.now) limit (streams (S.seen input.old) (O.seen out.old))
+        (streams (S.seen input.new) (O.seen out.new)) result) }
 
-    // A fault of an object is answered only if its count rose.
-    ensures read_fault { result ≡ Seen.ReadFault
-        → Rose (S.seen input.old).faults (S.seen input.new).faults }
-    ensures write_fault { result ≡ Seen.WriteFault
-        → Rose (O.seen out.old).faults (O.seen out.new).faults }
-    ensures input_counts { (S.seen input.old).faults ≤ (S.seen input.new).faults }
-    ensures out_counts { (O.seen out.old).faults ≤ (O.seen out.new).faults }
+    // An object fails exactly if that is answered, and then once.
+    ensures reads { (S.seen input.new).faults ≡ read_faults result (S.seen input.old).faults }
+    ensures writes { (O.seen out.new).faults ≡ write_faults result (O.seen out.old).faults }
 {
     let none = no_function(alloc);
     let main = function_at(p.functions.as_slice(), p.main, &none);

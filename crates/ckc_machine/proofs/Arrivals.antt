@@ -6,14 +6,15 @@ use Rattle.std.proofs.lemmas.Grind.{flat_map-append}
 use Rattle.ckc_base.specs.Traces.{Event, Got, Put, Standing, Showing, output, put_byte}
 use Rattle.ckc_base.specs.Traces as standings
 use Rattle.ckc_base.specs.Steps.{Goes, Halts}
-use Rattle.ckc_outside.specs.Outside.{Rose}
+use Rattle.ckc_outside.specs.Outside.{one_more}
+use Rattle.ckc_outside.proofs.Giving.{called_none, called_get, called_put, called_both, asked_once_more, put_once_more}
 use Rattle.ckc_rv.specs.Machine.{Parts, State, machine, machine_step, calls, gets, register, with_register, next_with}
 use Rattle.ckc_rv.specs.Effects.{following}
 use Rattle.ckc_machine.specs.declared.observed.Observed.{Observed}
 use Rattle.ckc_machine.specs.declared.observed.Observed.TheVariants.{Ended, Stopped, Going, Fault, ReadFault, WriteFault}
 use Rattle.ckc_machine.specs.declared.machine.Machine.{Machine}
 use Rattle.ckc_machine.specs.Points.{state_at, since, taken}
-use Rattle.ckc_machine.specs.Runs.{Says, answer_of, state_of, IsAt, AsksFor, AsksNothing, ArePuts, Printed, PrintedFront, Took, Arrives, FailsToGet, FailsToPut, Runs}
+use Rattle.ckc_machine.specs.Runs.{Says, answer_of, state_of, IsAt, AsksFor, AsksNothing, ArePuts, Called, Printed, PrintedFront, Took, Arrives, FailsToGet, FailsToPut, Runs}
 use Rattle.ckc_machine.specs.code.Runs.{IsFed}
 use Rattle.ckc_machine.proofs.Turning.{asks_step}
 use Rattle.ckc_machine.proofs.Points.{goes_on, halts_then, next_goes, next_halts, stays, halted, going_or_not, since_self, since_joins, since_goes, since_halts, since_stays, takes}
@@ -68,31 +69,32 @@ got_word (Some byte) = byte
 
 -- ---- one instruction
 
-module _ (parts : Parts) (input : List ℕ) (k : ℕ) (m m' : Machine) (left left' written written' : Option (List ℕ)) where
+module _ (parts : Parts) (input : List ℕ) (k : ℕ) (m m' : Machine) (left left' written written' : Option (List ℕ)) (asks asks' puts puts' : ℕ) where
   abbrev rest : List ℕ
   rest = (state_at parts input k).input
 
   abbrev arrives_at : ℕ → Type 0
-  arrives_at j = IsAt parts input j m' left' × Printed written written' (output (since parts input k j))
+  arrives_at j = IsAt parts input j m' left' × Printed written written' (output (since parts input k j)) × Called (since parts input k j) asks asks' puts puts'
 
-  arrives_one : arrives_at (suc k) → left ≡ Some rest → Arrives parts input k 1 m' left left' written written'
+  arrives_one : arrives_at (suc k) → left ≡ Some rest → Arrives parts input k 1 m' left left' written written' asks asks' puts puts'
   arrives_one p e =
       let one : suc k ≡ k + 1 = omega arith in
       let q = subst arrives_at one p in
-      record { at = q.0; put = q.1; took = took_between parts input k 1 left left' e q.0.rest }
+      record { at = q.0; put = q.1; took = took_between parts input k 1 left left' e q.0.rest; called = q.2 }
 
   stands_going : IsAt parts input k m left → answer_of m ≡ Going → (machine parts input k).standing ≡ standings.Going
   stands_going is g = subst (λ (a : Observed). Says a (machine parts input k).standing) g is.answer
 
   -- the machine goes on to a state
   pub arrives_going : (events : List Event) (next : State) → IsAt parts input k m left → answer_of m ≡ Going → machine_step parts (state_of m rest) ≡ Goes events next
-      → m'.memory.code.now ≡ m.memory.code.now → state_of m' next.input ≡ next → answer_of m' ≡ Going → left' ≡ Some next.input → Printed written written' (output events)
-      → Arrives parts input k 1 m' left left' written written'
-  arrives_going events next is g step code state answer left_is put =
+      → m'.memory.code.now ≡ m.memory.code.now → state_of m' next.input ≡ next → answer_of m' ≡ Going → left' ≡ Some next.input → Printed written written' (output events) → Called events asks asks' puts puts'
+      → Arrives parts input k 1 m' left left' written written' asks asks' puts puts'
+  arrives_going events next is g step code state answer left_is put called =
       let standing = stands_going is g in
       let here : machine_step parts (state_at parts input k) ≡ Goes events next = ap (machine_step parts) (sym is.state) ∙ step in
       let there = next_goes parts input k events next here in
       let shows = goes_on parts input k events next standing here in
+      let all = subst (λ (e : List Event). Printed written written' (output e) × Called e asks asks' puts puts') (sym (since_goes parts input k events next standing here)) (put, called) in
       arrives_one (
         record {
           code = code ∙ is.code;
@@ -100,18 +102,21 @@ module _ (parts : Parts) (input : List ℕ) (k : ℕ) (m m' : Machine) (left lef
           answer = subst (λ (a : Observed). Says a (machine parts input (suc k)).standing) (sym answer) (ap (λ (a : Showing Event). a.standing) shows);
           rest = left_is ∙ ap (λ (s : State). Some s.input) (sym there);
         },
-        subst (λ (e : List Event). Printed written written' (output e)) (sym (since_goes parts input k events next standing here)) put,
+        all.0,
+        all.1,
       ) is.rest
 
   -- the machine halts
   pub arrives_halting : (answer : Observed) (standing : Standing) → IsAt parts input k m left → answer_of m ≡ Going → machine_step parts (state_of m rest) ≡ Halts [] standing → Says answer standing
-      → m'.memory.code.now ≡ m.memory.code.now → state_of m' rest ≡ state_of m rest → answer_of m' ≡ answer → left' ≡ left → written' ≡ written
-      → Arrives parts input k 1 m' left left' written written'
-  arrives_halting answer standing is g step says code state answer_is left_is written_is =
+      → m'.memory.code.now ≡ m.memory.code.now → state_of m' rest ≡ state_of m rest → answer_of m' ≡ answer → left' ≡ left → written' ≡ written → asks' ≡ asks → puts' ≡ puts
+      → Arrives parts input k 1 m' left left' written written' asks asks' puts puts'
+  arrives_halting answer standing is g step says code state answer_is left_is written_is asks_is puts_is =
       let going = stands_going is g in
       let here : machine_step parts (state_at parts input k) ≡ Halts [] standing = ap (machine_step parts) (sym is.state) ∙ step in
       let there = next_halts parts input k [] standing here in
       let shows = halts_then parts input k [] standing going here in
+      let none : Printed written written' [] = subst (λ (w : Option (List ℕ)). Printed written w []) (sym written_is) (printed_none written) in
+      let all = subst (λ (e : List Event). Printed written written' (output e) × Called e asks asks' puts puts') (sym (since_halts parts input k standing going here)) (none, called_none asks asks' puts puts' asks_is puts_is) in
       arrives_one (
         record {
           code = code ∙ is.code;
@@ -119,7 +124,8 @@ module _ (parts : Parts) (input : List ℕ) (k : ℕ) (m m' : Machine) (left lef
           answer = subst (λ (a : Observed). Says a (machine parts input (suc k)).standing) (sym answer_is) (subst (Says answer) (sym (ap (λ (a : Showing Event). a.standing) shows)) says);
           rest = left_is ∙ is.rest ∙ ap (λ (s : State). Some s.input) (sym there);
         },
-        subst (λ (e : List Event). Printed written written' (output e)) (sym (since_halts parts input k standing going here)) (subst (λ (w : Option (List ℕ)). Printed written w []) (sym written_is) (printed_none written)),
+        all.0,
+        all.1,
       ) is.rest
 
   -- ---- environment calls
@@ -141,21 +147,21 @@ module _ (parts : Parts) (input : List ℕ) (k : ℕ) (m m' : Machine) (left lef
       asks_step parts here 2 a ∙ calls_get here a.number
 
   pub arrives_putting : (byte : ℕ) → IsAt parts input k m left → answer_of m ≡ Going → AsksFor parts (state_at parts input k) 1 → byte ≡ register here 10 % 256
-      → m'.memory.code.now ≡ m.memory.code.now → state_of m' rest ≡ next_with here 0 0 → answer_of m' ≡ Going → left' ≡ left → Printed written written' (byte ∷ [])
-      → Arrives parts input k 1 m' left left' written written'
-  arrives_putting byte is g asks e code state answer left_is put =
-      arrives_going (Put byte ∷ []) (next_with here 0 0) is g (puts_step is asks byte e) code state answer (left_is ∙ is.rest) put
+      → m'.memory.code.now ≡ m.memory.code.now → state_of m' rest ≡ next_with here 0 0 → answer_of m' ≡ Going → left' ≡ left → Printed written written' (byte ∷ []) → asks' ≡ asks → puts' ≡ one_more puts
+      → Arrives parts input k 1 m' left left' written written' asks asks' puts puts'
+  arrives_putting byte is g call e code state answer left_is put asks_is puts_is =
+      arrives_going (Put byte ∷ []) (next_with here 0 0) is g (puts_step is call byte e) code state answer (left_is ∙ is.rest) put (called_put asks asks' puts puts' byte asks_is puts_is)
 
-  pub fails_putting : (byte faults faults' : ℕ) → IsAt parts input k m left → answer_of m ≡ Going → AsksFor parts (state_at parts input k) 1 → byte ≡ register here 10 % 256
-      → Rose faults faults' → PrintedFront written written' 0 (byte ∷ []) → FailsToPut parts input k 1 left written written' faults faults'
-  fails_putting byte faults faults' is g asks e rose put =
-      let step = ap (machine_step parts) (sym is.state) ∙ puts_step is asks byte e in
+  pub fails_putting : (byte : ℕ) → IsAt parts input k m left → answer_of m ≡ Going → AsksFor parts (state_at parts input k) 1 → byte ≡ register here 10 % 256
+      → PrintedFront written written' 0 (byte ∷ []) → asks' ≡ asks → puts' ≡ one_more puts → FailsToPut parts input k 1 left written written' asks asks' puts puts'
+  fails_putting byte is g call e put asks_is puts_is =
+      let step = ap (machine_step parts) (sym is.state) ∙ puts_step is call byte e in
       record {
         step = k;
         from = omega arith;
         below = omega arith;
-        asks = asks;
-        rose = rose;
+        next = call;
+        called = subst (λ (t : List Event). Called t asks asks' (one_more puts) puts') (sym (since_self parts input k)) (called_none asks asks' (one_more puts) puts' asks_is puts_is);
         put =
             subst (λ (t : List Event). PrintedFront written written' (length (output t)) (output (since parts input k (suc k)))) (sym (since_self parts input k))
             (subst (λ (t : List Event). PrintedFront written written' 0 (output t)) (sym (since_goes parts input k (Put byte ∷ []) (next_with here 0 0) (stands_going is g) step)) put);
@@ -172,29 +178,29 @@ module _ (parts : Parts) (input : List ℕ) (k : ℕ) (m m' : Machine) (left lef
   given_step given (byte ∷ rest') e f = ap (gets here) (sym e) ∙ ap (λ (o : Option ℕ). Goes (Got o ∷ []) (with_given o rest')) (sym f)
 
   pub arrives_getting : (given : Option ℕ) → IsAt parts input k m left → answer_of m ≡ Going → AsksFor parts (state_at parts input k) 2 → given ≡ slice_get rest 0
-      → m'.memory.code.now ≡ m.memory.code.now → ((l : List ℕ) → state_of m' l ≡ with_given given l) → answer_of m' ≡ Going → left' ≡ Some (drop 1 rest) → written' ≡ written
-      → Arrives parts input k 1 m' left left' written written'
-  arrives_getting given is g asks f code state answer left_is written_is =
-      arrives_going (Got given ∷ []) (with_given given (drop 1 rest)) is g (gets_step is asks ∙ given_step given rest refl f) code (state (drop 1 rest)) answer left_is
-      (subst (λ (w : Option (List ℕ)). Printed written w []) (sym written_is) (printed_none written))
+      → m'.memory.code.now ≡ m.memory.code.now → ((l : List ℕ) → state_of m' l ≡ with_given given l) → answer_of m' ≡ Going → left' ≡ Some (drop 1 rest) → written' ≡ written → asks' ≡ one_more asks → puts' ≡ puts
+      → Arrives parts input k 1 m' left left' written written' asks asks' puts puts'
+  arrives_getting given is g call f code state answer left_is written_is asks_is puts_is =
+      arrives_going (Got given ∷ []) (with_given given (drop 1 rest)) is g (gets_step is call ∙ given_step given rest refl f) code (state (drop 1 rest)) answer left_is
+      (subst (λ (w : Option (List ℕ)). Printed written w []) (sym written_is) (printed_none written)) (called_get asks asks' puts puts' given asks_is puts_is)
 
-  pub fails_getting : (faults faults' : ℕ) → IsAt parts input k m left → AsksFor parts (state_at parts input k) 2 → Rose faults faults' → left' ≡ Some rest
-      → FailsToGet parts input k 1 left' written written faults faults'
-  fails_getting faults faults' is asks rose left_is = record {
+  pub fails_getting : IsAt parts input k m left → AsksFor parts (state_at parts input k) 2 → left' ≡ Some rest → asks' ≡ one_more asks → puts' ≡ puts
+      → FailsToGet parts input k 1 left' written written asks asks' puts puts'
+  fails_getting is call left_is asks_is puts_is = record {
     step = k;
     from = omega arith;
     below = omega arith;
-    asks = asks;
-    rose = rose;
+    next = call;
+    called = subst (λ (t : List Event). Called t (one_more asks) asks' puts puts') (sym (since_self parts input k)) (called_none (one_more asks) asks' puts puts' asks_is puts_is);
     put = subst (λ (t : List Event). Printed written written (output t)) (sym (since_self parts input k)) (printed_none written);
     rest = left_is;
   }
 
 -- ---- runs
 
-module _ (parts : Parts) (input : List ℕ) (k limit : ℕ) (m : Machine) (left left' written written' : Option (List ℕ)) (faults faults' puts puts' : ℕ) where
+module _ (parts : Parts) (input : List ℕ) (k limit : ℕ) (m : Machine) (left left' written written' : Option (List ℕ)) (asks asks' puts puts' : ℕ) where
   -- what arrives is a run, by an answer that says how the machine stands
-  pub runs_arriving : (answer : Observed) (standing : Standing) → Says answer standing → Arrives parts input k limit m left left' written written' → Runs parts input k limit m left left' written written' faults faults' puts puts' answer
+  pub runs_arriving : (answer : Observed) (standing : Standing) → Says answer standing → Arrives parts input k limit m left left' written written' asks asks' puts puts' → Runs parts input k limit m left left' written written' asks asks' puts puts' answer
   runs_arriving (Ended value) standing says a = a
   runs_arriving (Stopped check at) standing says a = a
   runs_arriving Going standing says a = a
@@ -204,13 +210,15 @@ module _ (parts : Parts) (input : List ℕ) (k limit : ℕ) (m : Machine) (left 
 
 -- ---- one instruction after others
 
-rose_more : (a b c : ℕ) → a ≤ b → Rose b c → Rose a c
-rose_more a b c h (inl p) = inl (omega arith)
-rose_more a b c h (inr p) = inr p
+module _ (parts : Parts) (input : List ℕ) (k i limit : ℕ) (m m' : Machine) (left mid left' written midway written' : Option (List ℕ)) (asks asked asks' puts more puts' : ℕ)
+    (left_is : left ≡ Some (state_at parts input k).input) (before : Arrives parts input k i m left mid written midway asks asked puts more) (below : i < limit) where
+  -- the calls of the first part and of another one
+  first_then : (j : ℕ) → k + i ≤ j → (a b c x y z : ℕ) → Called (since parts input k (k + i)) a b x y → Called (since parts input (k + i) j) b c y z → Called (since parts input k j) a c x z
+  first_then j h a b c x y z p q =
+      subst (λ (t : List Event). Called t a c x z) (sym (since_joins parts input k (k + i) j (omega arith) h))
+      (called_both (since parts input k (k + i)) (since parts input (k + i) j) a b c x y z p q)
 
-module _ (parts : Parts) (input : List ℕ) (k i limit : ℕ) (m m' : Machine) (left mid left' written midway written' : Option (List ℕ)) (faults risen faults' puts more puts' : ℕ)
-    (left_is : left ≡ Some (state_at parts input k).input) (before : Arrives parts input k i m left mid written midway) (below : i < limit) (counts : faults ≤ risen) (put_counts : puts ≤ more) where
-  then_arrives : (d : ℕ) → Arrives parts input (k + i) d m' mid left' midway written' → Arrives parts input k (i + d) m' left left' written written'
+  then_arrives : (d : ℕ) → Arrives parts input (k + i) d m' mid left' midway written' asked asks' more puts' → Arrives parts input k (i + d) m' left left' written written' asks asks' puts puts'
   then_arrives d one =
       let e : k + i + d ≡ k + (i + d) = omega arith in
       record {
@@ -218,13 +226,14 @@ module _ (parts : Parts) (input : List ℕ) (k i limit : ℕ) (m m' : Machine) (
         put = subst (λ j. Printed written written' (output (since parts input k j))) e
             (subst (Printed written written') (sym (output_joins parts input k (k + i) (k + i + d) (omega arith) (omega arith))) (printed_more written midway written' _ _ before.put one.put));
         took = took_between parts input k (i + d) left left' left_is (subst (λ j. left' ≡ Some (state_at parts input j).input) e one.at.rest);
+        called = subst (λ j. Called (since parts input k j) asks asks' puts puts') e (first_then (k + i + d) (omega arith) asks asked asks' puts more puts' before.called one.called);
       }
 
-  pub then_going : answer_of m' ≡ Going → Runs parts input (k + i) 1 m' mid left' midway written' risen faults' more puts' Going → Arrives parts input k (i + 1) m' left left' written written'
+  pub then_going : answer_of m' ≡ Going → Runs parts input (k + i) 1 m' mid left' midway written' asked asks' more puts' Going → Arrives parts input k (i + 1) m' left left' written written' asks asks' puts puts'
   then_going g one = then_arrives 1 one
 
   -- what has halted is there at the limit
-  then_stays : (answer : Observed) (j : ℕ) → j ≤ limit → Arrives parts input k j m' left left' written written' → answer_of m' ≡ answer → answer ≢ Going → Arrives parts input k limit m' left left' written written'
+  then_stays : (answer : Observed) (j : ℕ) → j ≤ limit → Arrives parts input k j m' left left' written written' asks asks' puts puts' → answer_of m' ≡ answer → answer ≢ Going → Arrives parts input k limit m' left left' written written' asks asks' puts puts'
   then_stays answer j h one e n =
       let d = limit - j in
       let to : k + j + d ≡ k + limit = omega arith in
@@ -237,19 +246,20 @@ module _ (parts : Parts) (input : List ℕ) (k i limit : ℕ) (m m' : Machine) (
         answer = subst (λ (a : Showing Event). Says (answer_of m') a.standing) (sym still.0) one.at.answer;
         rest = one.at.rest ∙ ap (λ (s : State). Some s.input) (sym still.1);
       } in
-      let all : output (since parts input k (k + j)) ≡ output (since parts input k (k + j + d)) =
-      sym (output_joins parts input k (k + j) (k + j + d) (omega arith) (omega arith) ∙ ap (λ t. output (since parts input k (k + j)) ++ output t) none ∙ append-nil _) in
+      let all : since parts input k (k + j) ≡ since parts input k (k + j + d) =
+      sym (since_joins parts input k (k + j) (k + j + d) (omega arith) (omega arith) ∙ ap (λ t. since parts input k (k + j) ++ t) none ∙ append-nil _) in
       record {
         at = subst (λ l. IsAt parts input l m' left') to at;
-        put = subst (λ l. Printed written written' (output (since parts input k l))) to (subst (Printed written written') all one.put);
+        put = subst (λ l. Printed written written' (output (since parts input k l))) to (subst (λ (t : List Event). Printed written written' (output t)) all one.put);
         took = took_between parts input k limit left left' left_is (subst (λ l. IsAt parts input l m' left') to at).rest;
+        called = subst (λ l. Called (since parts input k l) asks asks' puts puts') to (subst (λ (t : List Event). Called t asks asks' puts puts') all one.called);
       }
 
-  then_halted : (answer : Observed) → Arrives parts input (k + i) 1 m' mid left' midway written' → answer_of m' ≡ answer → answer ≢ Going → Arrives parts input k limit m' left left' written written'
+  then_halted : (answer : Observed) → Arrives parts input (k + i) 1 m' mid left' midway written' asked asks' more puts' → answer_of m' ≡ answer → answer ≢ Going → Arrives parts input k limit m' left left' written written' asks asks' puts puts'
   then_halted answer one e n = then_stays answer (i + 1) (omega arith) (then_arrives 1 one) e n
 
-  pub then_ends : (answer : Observed) → answer_of m' ≡ answer → answer ≢ Going → Runs parts input (k + i) 1 m' mid left' midway written' risen faults' more puts' answer
-      → Runs parts input k limit m' left left' written written' faults faults' puts puts' answer
+  pub then_ends : (answer : Observed) → answer_of m' ≡ answer → answer ≢ Going → Runs parts input (k + i) 1 m' mid left' midway written' asked asks' more puts' answer
+      → Runs parts input k limit m' left left' written written' asks asks' puts puts' answer
   then_ends (Ended value) e n one = then_halted (Ended value) one e n
   then_ends (Stopped check at) e n one = then_halted (Stopped check at) one e n
   then_ends Going e n one = absurd (n refl)
@@ -258,8 +268,8 @@ module _ (parts : Parts) (input : List ℕ) (k i limit : ℕ) (m m' : Machine) (
     step = one.step;
     from = omega (arith, one.from);
     below = omega (arith, one.below);
-    asks = one.asks;
-    rose = rose_more faults risen faults' counts one.rose;
+    next = one.next;
+    called = first_then one.step one.from (one_more asks) (one_more asked) asks' puts more puts' (asked_once_more (since parts input k (k + i)) asks asked puts more before.called) one.called;
     put = subst (Printed written written') (sym (output_joins parts input k (k + i) one.step (omega arith) one.from)) (printed_more written midway written' _ _ before.put one.put);
     rest = one.rest;
   }
@@ -267,8 +277,8 @@ module _ (parts : Parts) (input : List ℕ) (k i limit : ℕ) (m m' : Machine) (
     step = one.step;
     from = omega (arith, one.from);
     below = omega (arith, one.below);
-    asks = one.asks;
-    rose = rose_more puts more puts' put_counts one.rose;
+    next = one.next;
+    called = first_then one.step one.from asks asked asks' (one_more puts) (one_more more) puts' (put_once_more (since parts input k (k + i)) asks asked puts more before.called) one.called;
     put =
         let first = output (since parts input k (k + i)) in
         let then = output (since parts input (k + i) one.step) in
@@ -280,34 +290,35 @@ module _ (parts : Parts) (input : List ℕ) (k i limit : ℕ) (m m' : Machine) (
   }
 
 -- no instruction
-pub arrives_none : (parts : Parts) (input : List ℕ) (k : ℕ) (m : Machine) (left written : Option (List ℕ)) → IsAt parts input k m left → Arrives parts input k 0 m left left written written
-arrives_none parts input k m left written is =
+pub arrives_none : (parts : Parts) (input : List ℕ) (k : ℕ) (m : Machine) (left written : Option (List ℕ)) (asks puts : ℕ) → IsAt parts input k m left → Arrives parts input k 0 m left left written written asks asks puts puts
+arrives_none parts input k m left written asks puts is =
     let e : k ≡ k + 0 = omega arith in
     let at = subst (λ j. IsAt parts input j m left) e is in
     record {
       at = at;
       put = subst (λ j. Printed written written (output (since parts input k j))) e (subst (λ (t : List Event). Printed written written (output t)) (sym (since_self parts input k)) (printed_none written));
       took = took_between parts input k 0 left left is.rest at.rest;
+      called = subst (λ j. Called (since parts input k j) asks asks puts puts) e (subst (λ (t : List Event). Called t asks asks puts puts) (sym (since_self parts input k)) (called_none asks asks puts puts refl refl));
     }
 
 -- a machine that has answered other than Going
-pub settled : (parts : Parts) (input : List ℕ) (k limit : ℕ) (m : Machine) (left written : Option (List ℕ)) (faults puts : ℕ) → IsAt parts input k m left → answer_of m ≢ Going
-    → Runs parts input k limit m left left written written faults faults puts puts (answer_of m)
-settled parts input k limit m left written faults puts is n =
-    runs_arriving parts input k limit m left left written written faults faults puts puts (answer_of m) (machine parts input k).standing is.answer
-    (elim (cases_lt 0 limit) as (λ _. Arrives parts input k limit m left left written written) [
-      | inl h ↦ then_stays parts input k 0 limit m m left left left written written written faults faults faults puts puts puts is.rest (arrives_none parts input k m left written is) h (omega arith) (omega arith)
-          (answer_of m) 0 (omega arith) (arrives_none parts input k m left written is) refl n
+pub settled : (parts : Parts) (input : List ℕ) (k limit : ℕ) (m : Machine) (left written : Option (List ℕ)) (asks puts : ℕ) → IsAt parts input k m left → answer_of m ≢ Going
+    → Runs parts input k limit m left left written written asks asks puts puts (answer_of m)
+settled parts input k limit m left written asks puts is n =
+    runs_arriving parts input k limit m left left written written asks asks puts puts (answer_of m) (machine parts input k).standing is.answer
+    (elim (cases_lt 0 limit) as (λ _. Arrives parts input k limit m left left written written asks asks puts puts) [
+      | inl h ↦ then_stays parts input k 0 limit m m left left left written written written asks asks asks puts puts puts is.rest (arrives_none parts input k m left written asks puts is) h
+          (answer_of m) 0 (omega arith) (arrives_none parts input k m left written asks puts is) refl n
       | inr h ↦
           let e : 0 ≡ limit = omega arith in
-          subst (λ j. Arrives parts input k j m left left written written) e (arrives_none parts input k m left written is)
+          subst (λ j. Arrives parts input k j m left left written written asks asks puts puts) e (arrives_none parts input k m left written asks puts is)
     ])
 
 -- a run by one instruction to a machine that goes on
-pub runs_going : (parts : Parts) (input : List ℕ) (k : ℕ) (m : Machine) (left left' written written' : Option (List ℕ)) (faults faults' puts puts' : ℕ) → answer_of m ≡ Going
-    → Arrives parts input k 1 m left left' written written' → Runs parts input k 1 m left left' written written' faults faults' puts puts' (answer_of m)
-runs_going parts input k m left left' written written' faults faults' puts puts' e a =
-    subst (λ (o : Observed). Runs parts input k 1 m left left' written written' faults faults' puts puts' o) (sym e) a
+pub runs_going : (parts : Parts) (input : List ℕ) (k : ℕ) (m : Machine) (left left' written written' : Option (List ℕ)) (asks asks' puts puts' : ℕ) → answer_of m ≡ Going
+    → Arrives parts input k 1 m left left' written written' asks asks' puts puts' → Runs parts input k 1 m left left' written written' asks asks' puts puts' (answer_of m)
+runs_going parts input k m left left' written written' asks asks' puts puts' e a =
+    subst (λ (o : Observed). Runs parts input k 1 m left left' written written' asks asks' puts puts' o) (sym e) a
 
 -- what is left stays if the source stays
 pub fed_same : (told : Option (List ℕ)) (silent : Type 0) (left left' : Option (List ℕ)) → IsFed told told silent left left' → left' ≡ left

@@ -1,7 +1,6 @@
 -- What a source gave, and what may come after it.
 use Rattle.std.proofs.Common.{◌≡◌, ◌^◌, ◌<◌, ℕ, List, [], ◌∷◌, ◌++◌, drop, slice_get, Option, None, Some, Ok, IfSome, IsTrue, refl, sym, subst, ◌∙◌, append_assoc}
-pub use Rattle.ckc_outside.proofs.Giving.{no_answer, one_answer}
-use Rattle.ckc_outside.proofs.Giving.{both_none, gave_nothing, gave_both}
+use Rattle.ckc_outside.proofs.Giving.{after_none, after_one, both_none, gave_nothing, gave_both}
 use Rattle.ckc_outside.specs.Outside.{GivesNothing, SeenSource, after_next}
 use Rattle.ckc_rv.specs.Machine.{Parts}
 use Rattle.ckc_machine.specs.declared.observed.Observed.{Observed}
@@ -22,9 +21,9 @@ pub asked_once : (old new : SeenSource) (next : Option ℕ) (Holds : List ℕ �
     → (IsTrue old.ended → GivesNothing (Ok next)) → (IsTrue old.ended → IsTrue new.ended) → (next ≡ None → IsTrue new.ended) → IfSome next (λ byte. byte < 2 ^ 8)
     → ((rest : List ℕ) → next ≡ slice_get rest 0 → Holds rest (drop 1 rest)) → OverAny old new Holds
 asked_once old new (Some byte) Holds count nothing stays end small h =
-    (byte ∷ [], record { count = count ∙ one_answer old.answers byte; bytes = (small, tt); none = λ t. absurd (nothing t); stays = stays }, λ rest may. h (byte ∷ rest) refl)
+    (byte ∷ [], record { count = count ∙ after_one old.answers byte; bytes = (small, tt); none = λ t. absurd (nothing t); stays = stays }, λ rest may. h (byte ∷ rest) refl)
 asked_once old new None Holds count nothing stays end small h =
-    ([], record { count = count ∙ no_answer old.answers; bytes = tt; none = λ t. refl; stays = stays }, λ rest may. subst (λ l. Holds l l) (sym (may (end refl))) (h [] refl))
+    ([], record { count = count ∙ after_none ℕ old.answers; bytes = tt; none = λ t. refl; stays = stays }, λ rest may. subst (λ l. Holds l l) (sym (may (end refl))) (h [] refl))
 
 -- what was given first, and what was given then
 pub given_then : (old between new : SeenSource) (First Then Both : List ℕ → List ℕ → Type 0) → OverAny old between First → OverAny between new Then
@@ -42,17 +41,17 @@ given_then old between new First Then Both f t h =
 
 -- a run from wherever the machine is
 abbrev pub RunsBy : ℕ → Machine → Machine → Option (List ℕ) → Option (List ℕ) → ℕ → ℕ → ℕ → ℕ → Observed → List ℕ → List ℕ → Type 0
-RunsBy limit m m' written written' faults faults' puts puts' answer left left' =
+RunsBy limit m m' written written' asks asks' puts puts' answer left left' =
     (parts : Parts) (given : List ℕ) (k : ℕ) → IsAt parts given k m (Some left)
-    → Runs parts given k limit m' (Some left) (Some left') written written' faults faults' puts puts' answer
+    → Runs parts given k limit m' (Some left) (Some left') written written' asks asks' puts puts' answer
 
 -- so many instructions more
-abbrev pub ArrivesBy : ℕ → Machine → Machine → Option (List ℕ) → Option (List ℕ) → List ℕ → List ℕ → Type 0
-ArrivesBy count m m' written written' left left' =
-    (parts : Parts) (given : List ℕ) (k : ℕ) → IsAt parts given k m (Some left) → Arrives parts given k count m' (Some left) (Some left') written written'
+abbrev pub ArrivesBy : ℕ → Machine → Machine → Option (List ℕ) → Option (List ℕ) → ℕ → ℕ → ℕ → ℕ → List ℕ → List ℕ → Type 0
+ArrivesBy count m m' written written' asks asks' puts puts' left left' =
+    (parts : Parts) (given : List ℕ) (k : ℕ) → IsAt parts given k m (Some left) → Arrives parts given k count m' (Some left) (Some left') written written' asks asks' puts puts'
 
 -- an instruction that asks for a byte
 abbrev pub GetsBy : Machine → Machine → ℕ → ℕ → Observed → List ℕ → List ℕ → Type 0
-GetsBy m m' faults faults' answer left left' =
+GetsBy m m' asks asks' answer left left' =
     (parts : Parts) (given : List ℕ) (k : ℕ) (written : Option (List ℕ)) (puts : ℕ) → IsAt parts given k m (Some left) → AsksFor parts (state_at parts given k) 2
-    → Runs parts given k 1 m' (Some left) (Some left') written written faults faults' puts puts answer
+    → Runs parts given k 1 m' (Some left) (Some left') written written asks asks' puts puts answer

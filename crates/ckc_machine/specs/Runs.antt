@@ -2,8 +2,8 @@
 use Rattle.std.specs.Prelude.{◌≡◌, ℕ, suc, ◌+◌, ◌≤◌, ◌<◌, true, List, [], ◌∷◌, length, Option, Some, option_and_then}
 use Rattle.ckc_base.specs.Traces.{Event, Got, Put, Standing, output}
 use Rattle.ckc_base.specs.Traces as standings
-use Rattle.ckc_outside.specs.Outside.{Rose}
-pub use Rattle.ckc_outside.specs.Given.{AreBytes, Gave, MayCome, OverAny, Took, Printed, PrintedFront}
+use Rattle.ckc_outside.specs.Outside.{one_more}
+pub use Rattle.ckc_outside.specs.Given.{AreBytes, Called, Gave, MayCome, OverAny, Took, Printed, PrintedFront}
 use Rattle.ckc_rv.specs.declared.instructions.Instr.TheVariants.{Ecall}
 use Rattle.ckc_rv.specs.Decoded.{decoded}
 use Rattle.ckc_rv.specs.Machine.{Parts, State, is_code, loaded, register, machine}
@@ -67,36 +67,48 @@ ArePuts [] = Unit {0}
 ArePuts (Put byte ∷ trace) = ArePuts trace
 ArePuts (Got byte ∷ trace) = ⊥
 
--- The run went on to limit instructions more: the machine is there, and what was put and taken is what came since.
-pub record Arrives (parts : Parts) (input : List ℕ) (k limit : ℕ) (m : Machine) (left left' written written' : Option (List ℕ)) : Type 0 where
+-- The run went on to limit instructions more: the machine is there, what was put and taken is what came since, and the
+-- objects were called once for each of it.
+pub record Arrives (parts : Parts) (input : List ℕ) (k limit : ℕ) (m : Machine) (left left' written written' : Option (List ℕ)) (asks asks' puts puts' : ℕ) : Type 0 where
   pub at : IsAt parts input (k + limit) m left'
   pub put : Printed written written' (output (since parts input k (k + limit)))
   pub took : Took left left' (taken (since parts input k (k + limit)))
+  pub called : Called (since parts input k (k + limit)) asks asks' puts puts'
 
--- Before one of the limit instructions, which is environment call 2, the source failed. What came before it was put
--- and taken.
-pub record FailsToGet (parts : Parts) (input : List ℕ) (k limit : ℕ) (left' written written' : Option (List ℕ)) (faults faults' : ℕ) : Type 0 where
+-- Before one of the limit instructions, which is environment call 2, the source failed, and was asked no more. What came
+-- before it was put and taken.
+pub record FailsToGet (parts : Parts) (input : List ℕ) (k limit : ℕ) (left' written written' : Option (List ℕ)) (asks asks' puts puts' : ℕ) : Type 0 where
   pub step : ℕ
   pub from : k ≤ step
   pub below : step < k + limit
-  pub asks : AsksFor parts (state_at parts input step) 2
-  pub rose : Rose faults faults'
+  pub next : AsksFor parts (state_at parts input step) 2
+  pub called : Called (since parts input k step) (one_more asks) asks' puts puts'
   pub put : Printed written written' (output (since parts input k step))
   pub rest : left' ≡ Some (state_at parts input step).input
 
--- Before one of the limit instructions, which is environment call 1, the sink failed. What came before it was put and
--- taken, and perhaps the byte itself was put.
-pub record FailsToPut (parts : Parts) (input : List ℕ) (k limit : ℕ) (left' written written' : Option (List ℕ)) (faults faults' : ℕ) : Type 0 where
+-- Before one of the limit instructions, which is environment call 1, the sink failed, and was called no more. What came
+-- before it was put and taken, and perhaps the byte itself was put.
+pub record FailsToPut (parts : Parts) (input : List ℕ) (k limit : ℕ) (left' written written' : Option (List ℕ)) (asks asks' puts puts' : ℕ) : Type 0 where
   pub step : ℕ
   pub from : k ≤ step
   pub below : step < k + limit
-  pub asks : AsksFor parts (state_at parts input step) 1
-  pub rose : Rose faults faults'
+  pub next : AsksFor parts (state_at parts input step) 1
+  pub called : Called (since parts input k step) asks asks' (one_more puts) puts'
   pub put : PrintedFront written written' (length (output (since parts input k step))) (output (since parts input k (suc step)))
   pub rest : left' ≡ Some (state_at parts input step).input
 
 -- What a run to a limit does from k on, by its answer.
 abbrev pub Runs : Parts → List ℕ → ℕ → ℕ → Machine → Option (List ℕ) → Option (List ℕ) → Option (List ℕ) → Option (List ℕ) → ℕ → ℕ → ℕ → ℕ → Observed → Type 0
-Runs parts input k limit m left left' written written' faults faults' puts puts' ReadFault = FailsToGet parts input k limit left' written written' faults faults'
-Runs parts input k limit m left left' written written' faults faults' puts puts' WriteFault = FailsToPut parts input k limit left' written written' puts puts'
-Runs parts input k limit m left left' written written' faults faults' puts puts' _ = Arrives parts input k limit m left left' written written'
+Runs parts input k limit m left left' written written' asks asks' puts puts' ReadFault = FailsToGet parts input k limit left' written written' asks asks' puts puts'
+Runs parts input k limit m left left' written written' asks asks' puts puts' WriteFault = FailsToPut parts input k limit left' written written' asks asks' puts puts'
+Runs parts input k limit m left left' written written' asks asks' puts puts' _ = Arrives parts input k limit m left left' written written' asks asks' puts puts'
+
+-- a count of the faults of the input after a run with this answer
+abbrev pub read_faults : Observed → ℕ → ℕ
+read_faults ReadFault n = one_more n
+read_faults answer n = n
+
+-- the same of the output
+abbrev pub write_faults : Observed → ℕ → ℕ
+write_faults WriteFault n = one_more n
+write_faults answer n = n

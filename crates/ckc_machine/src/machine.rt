@@ -33,11 +33,10 @@ pub enum Turn {
 impl<'a> Machine<'a> {
     ghost use Rattle.std.specs.Prelude.{◌≡◌, ◌≢◌, ◌↔◌, ◌<◌, ◌≤◌, ◌+◌, ◌%◌, ℕ, List, Option, Some, IfOk, IsTrue, slice_index};
     ghost use Rattle.ckc_base.specs.Checks.{check_with};
-    ghost use Rattle.ckc_outside.specs.Outside.{Rose};
     ghost use Rattle.ckc_rv.specs.declared.registers.Outcome.TheVariants as outcome;
     ghost use Rattle.ckc_rv.specs.Machine.{Parts, by_outcome, calls, stops, register, with_register, next_with, stored, data_start, memory_end};
     ghost use Rattle.ckc_machine.specs.Points.{state_at};
-    ghost use Rattle.ckc_machine.specs.Runs.{IsAt, AsksFor, AsksNothing, OverAny, Runs, answer_of, state_of};
+    ghost use Rattle.ckc_machine.specs.Runs.{IsAt, AsksFor, AsksNothing, OverAny, Runs, answer_of, state_of, read_faults, write_faults};
     ghost use Rattle.ckc_machine.specs.code.Runs.{IsFed};
     ghost use Rattle.ckc_rv.specs.Outcomes.{NamesRegister};
     ghost use Rattle.ckc_machine.specs.code.Turns.{Turns, TurnsBy};
@@ -71,8 +70,8 @@ impl<'a> Machine<'a> {
             → IsAt parts given k self.old (S.seen input.old).left
             → Runs parts given k limit self.new (S.seen input.old).left (S.seen input.new).left
             (O.seen out.old).written (O.seen out.new).written
-            (S.seen input.old).faults (S.seen input.new).faults
-            (O.seen out.old).faults (O.seen out.new).faults result }
+            (S.seen input.old).asks (S.seen input.new).asks
+            (O.seen out.old).puts (O.seen out.new).puts result }
 
         // If none of those instructions asks for a byte, the same holds over any source, which is left as it is.
         ensures silent { (parts : Parts) (given : List ℕ) (k : ℕ) (left : Option (List ℕ))
@@ -80,8 +79,8 @@ impl<'a> Machine<'a> {
             → (input.new ≡ input.old)
             × Runs parts given k limit self.new left left
             (O.seen out.old).written (O.seen out.new).written
-            (S.seen input.old).faults (S.seen input.new).faults
-            (O.seen out.old).faults (O.seen out.new).faults result }
+            (S.seen input.old).asks (S.seen input.new).asks
+            (O.seen out.old).puts (O.seen out.new).puts result }
 
         // Over any source, whatever may come after the bytes that it gave, the same holds of the input with both.
         ensures any { OverAny (S.seen input.old) (S.seen input.new)
@@ -89,16 +88,14 @@ impl<'a> Machine<'a> {
             → IsAt parts given k self.old (Some left)
             → Runs parts given k limit self.new (Some left) (Some left')
             (O.seen out.old).written (O.seen out.new).written
-            (S.seen input.old).faults (S.seen input.new).faults
-            (O.seen out.old).faults (O.seen out.new).faults result) }
+            (S.seen input.old).asks (S.seen input.new).asks
+            (O.seen out.old).puts (O.seen out.new).puts result) }
 
-        // A fault of an object is first answered only if its count rose.
-        ensures read_fault { answer_of self.old ≡ Observed.Going → result ≡ Observed.ReadFault
-            → Rose (S.seen input.old).faults (S.seen input.new).faults }
-        ensures write_fault { answer_of self.old ≡ Observed.Going → result ≡ Observed.WriteFault
-            → Rose (O.seen out.old).faults (O.seen out.new).faults }
-        ensures input_counts { (S.seen input.old).faults ≤ (S.seen input.new).faults }
-        ensures out_counts { (O.seen out.old).faults ≤ (O.seen out.new).faults }
+        // An object fails exactly if that is first answered, and then once.
+        ensures reads { answer_of self.old ≡ Observed.Going
+            → (S.seen input.new).faults ≡ read_faults result (S.seen input.old).faults }
+        ensures writes { answer_of self.old ≡ Observed.Going
+            → (O.seen out.new).faults ≡ write_faults result (O.seen out.old).faults }
     {
         if !self.goes() {
             return self.answer;
@@ -132,24 +129,22 @@ impl<'a> Machine<'a> {
             (¬ AsksFor parts (state_at parts given k) 2) left left'
             → Runs parts given k 1 self.new left left'
             (O.seen out.old).written (O.seen out.new).written
-            (S.seen input.old).faults (S.seen input.new).faults
-            (O.seen out.old).faults (O.seen out.new).faults (answer_of self.new) }
+            (S.seen input.old).asks (S.seen input.new).asks
+            (O.seen out.old).puts (O.seen out.new).puts (answer_of self.new) }
         ensures any { OverAny (S.seen input.old) (S.seen input.new)
             (λ left left'. (parts : Parts) (given : List ℕ) (k : ℕ)
             → IsAt parts given k self.old (Some left)
             → Runs parts given k 1 self.new (Some left) (Some left')
             (O.seen out.old).written (O.seen out.new).written
-            (S.seen input.old).faults (S.seen input.new).faults
-            (O.seen out.old).faults (O.seen out.new).faults (answer_of self.new)) }
+            (S.seen input.old).asks (S.seen input.new).asks
+            (O.seen out.old).puts (O.seen out.new).puts (answer_of self.new)) }
         ensures silent { (parts : Parts) (given : List ℕ) (k : ℕ) (left : Option (List ℕ))
             → IsAt parts given k self.old left
             → ¬ AsksFor parts (state_at parts given k) 2 → input.new ≡ input.old }
-        ensures read_fault { answer_of self.new ≡ Observed.ReadFault
-            → Rose (S.seen input.old).faults (S.seen input.new).faults }
-        ensures write_fault { answer_of self.new ≡ Observed.WriteFault
-            → Rose (O.seen out.old).faults (O.seen out.new).faults }
-        ensures input_counts { (S.seen input.old).faults ≤ (S.seen input.new).faults }
-        ensures out_counts { (O.seen out.old).faults ≤ (O.seen out.new).faults }
+        ensures reads { (S.seen input.new).faults
+            ≡ read_faults (answer_of self.new) (S.seen input.old).faults }
+        ensures writes { (O.seen out.new).faults
+            ≡ write_faults (answer_of self.new) (O.seen out.old).faults }
     {
         match self.turn() {
             Turn::Next(rd, value, pc) => self.go_on(rd, value, pc),
@@ -164,15 +159,14 @@ impl<'a> Machine<'a> {
     fn put<O: Sink>(&mut self, byte: u8, out: &mut O)
         requires { answer_of self.old ≡ Observed.Going }
         ensures exact { (parts : Parts) (given : List ℕ) (k : ℕ) (left : Option (List ℕ))
-            (faults : ℕ) → IsAt parts given k self.old left
+            (asks : ℕ) → IsAt parts given k self.old left
             → AsksFor parts (state_at parts given k) 1 → byte ≡ slice_index self.old.regs.x 10 % 256
             → Runs parts given k 1 self.new left left
             (O.seen out.old).written (O.seen out.new).written
-            faults faults (O.seen out.old).faults (O.seen out.new).faults (answer_of self.new) }
-        ensures read_fault { answer_of self.new ≢ Observed.ReadFault }
-        ensures write_fault { answer_of self.new ≡ Observed.WriteFault
-            → Rose (O.seen out.old).faults (O.seen out.new).faults }
-        ensures out_counts { (O.seen out.old).faults ≤ (O.seen out.new).faults }
+            asks asks (O.seen out.old).puts (O.seen out.new).puts (answer_of self.new) }
+        ensures reads { answer_of self.new ≢ Observed.ReadFault }
+        ensures writes { (O.seen out.new).faults
+            ≡ write_faults (answer_of self.new) (O.seen out.old).faults }
     {
         match out.put(&[byte]) {
             Ok(()) => self.go_on(0, 0, self.pc.wrapping_add(4)),
@@ -184,22 +178,21 @@ impl<'a> Machine<'a> {
     fn get<S: Source>(&mut self, input: &mut S)
         requires { answer_of self.old ≡ Observed.Going }
         ensures exact { (parts : Parts) (given : List ℕ) (k : ℕ) (written : Option (List ℕ))
-            (faults : ℕ) → IsAt parts given k self.old (S.seen input.old).left
+            (puts : ℕ) → IsAt parts given k self.old (S.seen input.old).left
             → AsksFor parts (state_at parts given k) 2
             → Runs parts given k 1 self.new
             (S.seen input.old).left (S.seen input.new).left written written
-            (S.seen input.old).faults (S.seen input.new).faults faults faults (answer_of self.new) }
+            (S.seen input.old).asks (S.seen input.new).asks puts puts (answer_of self.new) }
         ensures any { OverAny (S.seen input.old) (S.seen input.new)
             (λ left left'. (parts : Parts) (given : List ℕ) (k : ℕ) (written : Option (List ℕ))
-            (faults : ℕ) → IsAt parts given k self.old (Some left)
+            (puts : ℕ) → IsAt parts given k self.old (Some left)
             → AsksFor parts (state_at parts given k) 2
             → Runs parts given k 1 self.new (Some left) (Some left') written written
-            (S.seen input.old).faults (S.seen input.new).faults
-            faults faults (answer_of self.new)) }
-        ensures read_fault { answer_of self.new ≡ Observed.ReadFault
-            → Rose (S.seen input.old).faults (S.seen input.new).faults }
-        ensures write_fault { answer_of self.new ≢ Observed.WriteFault }
-        ensures input_counts { (S.seen input.old).faults ≤ (S.seen input.new).faults }
+            (S.seen input.old).asks (S.seen input.new).asks
+            puts puts (answer_of self.new)) }
+        ensures reads { (S.seen input.new).faults
+            ≡ read_faults (answer_of self.new) (S.seen input.old).faults }
+        ensures writes { answer_of self.new ≢ Observed.WriteFault }
     {
         match input.next() {
             Ok(next) => self.go_on(10, byte_or_end(next), self.pc.wrapping_add(4)),

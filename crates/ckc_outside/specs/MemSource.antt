@@ -17,4 +17,4 @@ plan_of s = record { listed = s.plan.fail.now; calls = s.plan.calls; faults = s.
 
 -- what is seen of it
 abbrev pub seen_of : MemSource → SeenSource
-seen_of s = record { left = Some (left_of s); ended = has_ended s; answers = s.answers; faults = (plan_of s).faults }
+seen_of s = record { left = Some (left_of s); ended = has_ended s; asks = (plan_of s).calls; answers = s.answers; faults = (plan_of s).faults }

@@ -35,6 +35,8 @@ seen_of s = record {
   files = Some (files_of s);
   steady = is_steady s;
   faults = (plan_of s).faults;
+  fetches = s.fetches;
+  limit = s.limit;
   keeps = s.keeps;
   kept = s.kept;
 }

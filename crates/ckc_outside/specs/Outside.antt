@@ -6,6 +6,7 @@ use Rattle.std.specs.FinMap as map
 pub use Rattle.ckc_base_counts.specs.Counts.{Rose, one_more}
 use Rattle.ckc_outside.specs.declared.traits.Failed.{Failed}
 use Rattle.ckc_outside.specs.declared.traits.StoreError as errors
+use Rattle.ckc_outside.specs.declared.traits.StoreError.TheVariants as error
 use Rattle.ckc_outside.specs.declared.traits.Fetched as fetches
 use Rattle.ckc_outside.specs.declared.traits.Fetched.TheVariants.{Whole, Longer}
 
@@ -14,10 +15,11 @@ abbrev pub Files : Type 0
 Files = map.FinMap (slice_cmp nat_cmp) (List ℕ)
 
 -- What is seen of a source: the bytes that are left, if it tells them; whether it said that there is no byte, and
--- gives none from then on; how many bytes it gave, and how many faults there were.
+-- gives none from then on; how often it was asked, how many bytes it gave, and how many faults there were.
 pub record SeenSource : Type 0 where
   pub left : Option (List ℕ)
   pub ended : Bool
+  pub asks : ℕ
   pub answers : ℕ
   pub faults : ℕ
 
@@ -29,13 +31,26 @@ pub record SeenSink : Type 0 where
   pub faults : ℕ
 
 -- What is seen of a store: its files, if it tells them; whether it is steady; how many faults there were, how many
--- calls of keep, and how many of these were done.
+-- calls of fetch, and with which limit the last of them was; how many calls of keep, and how many of these were done.
 pub record Stored : Type 0 where
   pub files : Option Files
   pub steady : Bool
   pub faults : ℕ
+  pub fetches : ℕ
+  pub limit : ℕ
   pub keeps : ℕ
   pub kept : ℕ
+
+-- a count of faults after one more call of a source or a sink: a failure is a fault
+abbrev pub faults_after : {A : Type 0} → Result A Failed → ℕ → ℕ
+faults_after (Ok answer) n = n
+faults_after (Err failed) n = one_more n
+
+-- the same of a store, where want of memory is none
+abbrev pub store_faults_after : {A : Type 0} → Result A errors.StoreError → ℕ → ℕ
+store_faults_after (Ok answer) n = n
+store_faults_after (Err error.Failed) n = one_more n
+store_faults_after (Err error.Memory) n = n
 
 -- next gave no byte: it answered that there is none, or failed
 abbrev pub GivesNothing : Result (Option ℕ) Failed → Type 0

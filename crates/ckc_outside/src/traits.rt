@@ -1,6 +1,6 @@
-ghost use Rattle.std.specs.Prelude.{◌≡◌, ◌≢◌, ℕ, ◌≤◌, List, Ok, None, Some, IsTrue, OnErr, IsErrOf};
+ghost use Rattle.std.specs.Prelude.{◌≡◌, ◌≢◌, ℕ, List, Ok, Err, None, Some, IsTrue, IsErrOf};
 ghost use Rattle.std.specs.FinMap as map;
-ghost use Rattle.ckc_outside.specs.Outside.{Rose, one_more, Files, SeenSink, SeenSource, Stored, GivesNext, GivesNothing, after_next, Puts, IsWithin, GivesFile, Keeps, after_keep};
+ghost use Rattle.ckc_outside.specs.Outside.{one_more, faults_after, store_faults_after, Files, SeenSink, SeenSource, Stored, GivesNext, GivesNothing, after_next, Puts, IsWithin, GivesFile, Keeps, after_keep};
 
 use ckc_base::Bytes;
 use std::alloc::Global;
@@ -30,13 +30,13 @@ pub enum Fetched {
 /// A source of input bytes.
 pub trait Source {
     /// What is seen of it. It may tell the bytes that are left. Once it said that there is none it gives none. The
-    /// counts of the faults and of the bytes that it gave stand still at 2^64 - 1.
+    /// counts of the calls, of the bytes that it gave and of the faults stand still at 2^64 - 1.
     ghost seen: { Self → SeenSource };
 
     /// Takes the next byte, or says that there is none.
     fn next(&mut self) -> Result<Option<u8>, Failed>
-        ensures counts { (seen self.old).faults ≤ (seen self.new).faults }
-        ensures failed { OnErr result (Rose (seen self.old).faults (seen self.new).faults) }
+        ensures faults { (seen self.new).faults ≡ faults_after result (seen self.old).faults }
+        ensures asked { (seen self.new).asks ≡ one_more (seen self.old).asks }
         ensures told { (bytes : List ℕ) → (seen self.old).left ≡ Some bytes
             → GivesNext bytes result (seen self.new).left }
         ensures end { result ≡ Ok None → IsTrue (seen self.new).ended }
@@ -53,8 +53,7 @@ pub trait Sink {
 
     /// Writes a piece after what was written. A failure may leave a prefix of it there.
     fn put(&mut self, piece: &[u8]) -> Result<(), Failed>
-        ensures counts { (seen self.old).faults ≤ (seen self.new).faults }
-        ensures failed { OnErr result (Rose (seen self.old).faults (seen self.new).faults) }
+        ensures faults { (seen self.new).faults ≡ faults_after result (seen self.old).faults }
         ensures told { (bytes : List ℕ) → (seen self.old).written ≡ Some bytes
             → Puts bytes piece.now result (seen self.new).written }
         ensures once { (seen self.new).puts ≡ one_more (seen self.old).puts };
@@ -63,15 +62,15 @@ pub trait Sink {
 /// A store of named files.
 pub trait Store {
     /// What is seen of it. It may tell its files by name. If it is steady it stays so, never fails to keep, and
-    /// fails to fetch only a name that it lacks. The counts of the faults, of the calls of `keep` and of those that
-    /// were done stand still at 2^64 - 1.
+    /// fails to fetch only a name that it lacks. The counts of the faults, of the calls of `fetch` and of `keep` and
+    /// of those that were done stand still at 2^64 - 1.
     ghost seen: { Self → Stored };
 
     /// The bytes under a name, if they are at most `limit` many. A missing name is a fault.
     fn fetch(&mut self, alloc: Global, name: &str, limit: u64) -> Result<Fetched, StoreError>
-        ensures counts { (seen self.old).faults ≤ (seen self.new).faults }
-        ensures failed { IsErrOf result StoreError.Failed
-            → Rose (seen self.old).faults (seen self.new).faults }
+        ensures faults { (seen self.new).faults ≡ store_faults_after result (seen self.old).faults }
+        ensures asked { (seen self.new).fetches ≡ one_more (seen self.old).fetches }
+        ensures limited { (seen self.new).limit ≡ limit }
         ensures within { IsWithin limit result }
         ensures unchanged { (seen self.new).files ≡ (seen self.old).files }
         ensures told { (here : Files) → (seen self.old).files ≡ Some here
@@ -85,9 +84,9 @@ pub trait Store {
 
     /// Puts bytes under a name, in place of what was there. After an `Err` that name may hold anything.
     fn keep(&mut self, name: &str, bytes: &[u8]) -> Result<(), StoreError>
-        ensures counts { (seen self.old).faults ≤ (seen self.new).faults }
-        ensures failed { IsErrOf result StoreError.Failed
-            → Rose (seen self.old).faults (seen self.new).faults }
+        ensures faults { (seen self.new).faults ≡ store_faults_after result (seen self.old).faults }
+        ensures unasked { (seen self.new).fetches ≡ (seen self.old).fetches }
+        ensures limited { (seen self.new).limit ≡ (seen self.old).limit }
         ensures told { (here : Files) → (seen self.old).files ≡ Some here
             → Keeps here name.now bytes.now result (seen self.new).files }
         ensures steady { IsTrue (seen self.old).steady → IsTrue (seen self.new).steady

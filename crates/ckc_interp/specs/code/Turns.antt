@@ -2,7 +2,7 @@
 use Rattle.std.specs.Prelude.{◌≡◌, ◌⊎◌, ◌%◌, ◌^◌, ◌-◌, Bool, ℕ, List, [], ◌∷◌, ◌++◌, Option, Some, None, Result, Ok, Err, Vec}
 use Rattle.std.specs.declared.alloc.Global.{Global}
 use Rattle.ckc_base.specs.declared.places.Pos.{Pos}
-use Rattle.ckc_base.specs.Traces.{Event, Standing, output}
+use Rattle.ckc_base.specs.Traces.{Event, Standing}
 use Rattle.ckc_base.specs.Traces as standing
 use Rattle.ckc_base.specs.Steps.{Move, Goes, Halts}
 use Rattle.ckc_source.specs.declared.outcome.Halt.{Halt}
@@ -16,9 +16,9 @@ use Rattle.ckc_source.specs.declared.outcome.Value.{Value}
 use Rattle.ckc_source.specs.declared.program.Shape.{Shape}
 use Rattle.ckc_source.specs.Source.{by_mode}
 use Rattle.ckc_source.specs.declared.outcome.Halt.TheVariants as halt
-use Rattle.ckc_outside.specs.Outside.{SeenSource}
-use Rattle.ckc_outside.specs.Given.{taken, Took, Printed, PrintedFront, Gave, MayCome}
-use Rattle.ckc_interp.specs.Runs.{AsksToGet, AsksToPut}
+use Rattle.ckc_outside.specs.Outside.{SeenSource, SeenSink}
+use Rattle.ckc_outside.specs.Given.{taken, Took, Streams, Showed, AskedInVain, PutInVain, Gave, MayCome}
+use Rattle.ckc_interp.specs.Runs.{AsksToGet, AsksToPut, read_faults, write_faults}
 use Rattle.ckc_interp.specs.declared.seen.Seen.{Seen}
 use Rattle.ckc_interp.specs.declared.seen.Seen.TheVariants as seen
 use Rattle.ckc_interp.specs.declared.run.Turn.{Turn}
@@ -122,10 +122,10 @@ Wrote x u at blame None = x ≡ Ok u
 Wrote x u at blame (Some answer) = (why : Halt) × (x ≡ Err why) × (answer ≡ seen_of why at blame)
 
 -- a byte was put, and then a value written; or the byte was not put
-abbrev pub PutsAs : State → Place → ℕ → State → Pos → Option Pos → Option (List ℕ) → Option (List ℕ) → Option Seen → Type 0
-PutsAs s to n u at blame written written' answer =
-    (Wrote (writes_allowed to (n % 256) s) u at blame answer × Printed written written' (n % 256 ∷ []))
-    ⊎ ((answer ≡ Some seen.WriteFault) × PrintedFront written written' 0 (n % 256 ∷ []))
+abbrev pub PutsAs : State → Place → ℕ → State → Pos → Option Pos → Streams → Streams → Option Seen → Type 0
+PutsAs s to n u at blame old new answer =
+    (Wrote (writes_allowed to (n % 256) s) u at blame answer × Showed old new (standing.Put (n % 256) ∷ []))
+    ⊎ ((answer ≡ Some seen.WriteFault) × PutInVain old new [] (n % 256))
 
 -- a byte was got, or there was none, and then a value written; or the byte was not got
 abbrev pub GetsAs : State → Place → State → Pos → Option Pos → List ℕ → List ℕ → Option Seen → Type 0
@@ -135,35 +135,43 @@ GetsAs s to u at blame left left' answer =
     ⊎ ((answer ≡ Some seen.ReadFault) × (left' ≡ left))
 
 -- The step leads to a state, and its events were put and taken.
-pub record GoesTo (p : Program) (s u : State) (written written' : Option (List ℕ)) : Type 0 where
+pub record GoesTo (p : Program) (s u : State) (old new : Streams) : Type 0 where
   pub events : List Event
   pub moves : source_step p s ≡ Goes events u
-  pub put : Printed written written' (output events)
+  pub showed : Showed old new events
   pub took : s.input ≡ taken events ++ u.input
 
 -- The step halts, and its events were put and taken.
-pub record HaltsWith (p : Program) (s : State) (left : List ℕ) (written written' : Option (List ℕ)) (stands : Standing) : Type 0 where
+pub record HaltsWith (p : Program) (s : State) (left : List ℕ) (old new : Streams) (stands : Standing) : Type 0 where
   pub events : List Event
   pub moves : source_step p s ≡ Halts events stands
-  pub put : Printed written written' (output events)
+  pub showed : Showed old new events
   pub took : s.input ≡ taken events ++ left
 
-abbrev pub events_of : Move Event State → List Event
-events_of (Goes events s) = events
-events_of (Halts events stands) = events
-
 -- What a step is, by its answer.
-abbrev pub Steps : Program → State → State → Option Pos → Option Pos → Option (List ℕ) → Option (List ℕ) → Option Seen → Type 0
-Steps p s u blame blame' written written' None = GoesTo p s u written written' × (blame' ≡ noted blame (spot_of s))
-Steps p s u blame blame' written written' (Some (seen.Ended value)) = HaltsWith p s u.input written written' (standing.Ended value)
-Steps p s u blame blame' written written' (Some (seen.Stopped check at)) = HaltsWith p s u.input written written' (standing.Stopped check at)
-Steps p s u blame blame' written written' (Some seen.Going) = ⊥
-Steps p s u blame blame' written written' (Some (seen.Stuck at since)) =
-    HaltsWith p s u.input written written' standing.Stuck × (at ≡ (spot_of s).at) × (since ≡ noted blame (spot_of s))
-Steps p s u blame blame' written written' (Some seen.ReadFault) = AsksToGet s × (written' ≡ written) × (u.input ≡ s.input)
-Steps p s u blame blame' written written' (Some seen.WriteFault) =
-    AsksToPut s × (byte : ℕ) × (events_of (source_step p s) ≡ standing.Put byte ∷ []) × PrintedFront written written' 0 (byte ∷ []) × (u.input ≡ s.input)
-Steps p s u blame blame' written written' (Some seen.Memory) = (written' ≡ written) × (u.input ≡ s.input)
+abbrev pub Steps : Program → State → State → Option Pos → Option Pos → Streams → Streams → Option Seen → Type 0
+Steps p s u blame blame' old new None = GoesTo p s u old new × (blame' ≡ noted blame (spot_of s))
+Steps p s u blame blame' old new (Some (seen.Ended value)) = HaltsWith p s u.input old new (standing.Ended value)
+Steps p s u blame blame' old new (Some (seen.Stopped check at)) = HaltsWith p s u.input old new (standing.Stopped check at)
+Steps p s u blame blame' old new (Some seen.Going) = ⊥
+Steps p s u blame blame' old new (Some (seen.Stuck at since)) =
+    HaltsWith p s u.input old new standing.Stuck × (at ≡ (spot_of s).at) × (since ≡ noted blame (spot_of s))
+Steps p s u blame blame' old new (Some seen.ReadFault) = AsksToGet p s × AskedInVain old new [] × (u.input ≡ s.input)
+Steps p s u blame blame' old new (Some seen.WriteFault) = (byte : ℕ) × AsksToPut p s byte × PutInVain old new [] byte × (u.input ≡ s.input)
+Steps p s u blame blame' old new (Some seen.Memory) = Showed old new [] × (u.input ≡ s.input)
+
+-- counts of faults after a step with an answer, if it has one
+abbrev pub reads_after : Option Seen → ℕ → ℕ
+reads_after None n = n
+reads_after (Some answer) n = read_faults answer n
+
+abbrev pub writes_after : Option Seen → ℕ → ℕ
+writes_after None n = n
+writes_after (Some answer) n = write_faults answer n
+
+-- the output of a step that asks the input nothing, with a count of how often it was asked
+abbrev pub with_asks : ℕ → SeenSink → Streams
+with_asks asks output = record { written = output.written; asks = asks; puts = output.puts }
 
 -- ---- what a source gave
 

@@ -1,5 +1,5 @@
-ghost use Rattle.std.specs.Prelude.{◌≡◌, ◌≤◌, IsTrue};
-ghost use Rattle.ckc_outside.specs.Outside.{Rose, one_more};
+ghost use Rattle.std.specs.Prelude.{◌≡◌};
+ghost use Rattle.ckc_outside.specs.Outside.{one_more};
 ghost use Rattle.ckc_outside.specs.Memory.{is_listed, counted};
 
 use ckc_base_counts::one_more;
@@ -33,8 +33,6 @@ impl<'a> Plan<'a> {
         ensures listed { self.new.fail.now ≡ self.old.fail.now }
         ensures calls { self.new.calls ≡ one_more self.old.calls }
         ensures faults { self.new.faults ≡ counted self.old.faults result }
-        ensures counts { self.old.faults ≤ self.new.faults }
-        ensures rose { IsTrue result → Rose self.old.faults self.new.faults }
     {
         self.calls = one_more(self.calls);
         let fails = self.fail.contains(&self.calls);
@@ -49,8 +47,6 @@ impl<'a> Plan<'a> {
         ensures listed { self.new.fail.now ≡ self.old.fail.now }
         ensures calls { self.new.calls ≡ self.old.calls }
         ensures faults { self.new.faults ≡ one_more self.old.faults }
-        ensures counts { self.old.faults ≤ self.new.faults }
-        ensures rose { Rose self.old.faults self.new.faults }
     {
         self.faults = one_more(self.faults);
     }

@@ -40,16 +40,15 @@ impl<'a> MemSink<'a> {
 }
 
 impl<'a> Sink for MemSink<'a> {
-    ghost use Rattle.std.specs.Prelude.{◌≡◌, ℕ, ◌+◌, ◌<◌, List, Option, Some, OnErr, is_err, ◌||◌, ◌++◌, if◌then◌else◌, take};
-    ghost use Rattle.ckc_outside.specs.Outside.{Rose, one_more, Puts};
+    ghost use Rattle.std.specs.Prelude.{◌≡◌, ℕ, ◌+◌, ◌<◌, List, Option, Some, is_err, ◌||◌, ◌++◌, if◌then◌else◌, take};
+    ghost use Rattle.ckc_outside.specs.Outside.{one_more, faults_after, Puts};
     ghost use Rattle.ckc_outside.specs.Memory.{is_listed, after_call};
     ghost use Rattle.ckc_outside.specs.MemSink.{written_of, room_of, plan_of, seen_of, overflows};
 
     ghost seen = { seen_of };
 
     fn put(&mut self, piece: &[u8]) -> Result<(), Failed>
-        ensures counts { (plan_of self.old).faults ≤ (plan_of self.new).faults }
-        ensures failed { OnErr result (Rose (plan_of self.old).faults (plan_of self.new).faults) }
+        ensures faults { (plan_of self.new).faults ≡ faults_after result (plan_of self.old).faults }
         ensures told { (bytes : List ℕ) → Some (written_of self.old) ≡ Some bytes
             → Puts bytes piece.now result (Some (written_of self.new)) }
         ensures once { (plan_of self.new).calls ≡ one_more (plan_of self.old).calls }

@@ -1,5 +1,5 @@
-ghost use Rattle.std.specs.Prelude.{◌≡◌, ℕ, ◌≤◌, List, Option, Some, None, Ok, IsTrue, OnErr, is_err};
-ghost use Rattle.ckc_outside.specs.Outside.{Rose, GivesNext, GivesNothing, after_next};
+ghost use Rattle.std.specs.Prelude.{◌≡◌, ℕ, List, Option, Some, None, Ok, IsTrue, is_err};
+ghost use Rattle.ckc_outside.specs.Outside.{one_more, faults_after, GivesNext, GivesNothing, after_next};
 ghost use Rattle.ckc_outside.specs.Memory.{is_listed, after_call};
 ghost use Rattle.ckc_outside.specs.MemSource.{left_of, has_ended, plan_of, seen_of};
 
@@ -36,8 +36,8 @@ impl<'a> Source for MemSource<'a> {
     ghost seen = { seen_of };
 
     fn next(&mut self) -> Result<Option<u8>, Failed>
-        ensures counts { (plan_of self.old).faults ≤ (plan_of self.new).faults }
-        ensures failed { OnErr result (Rose (plan_of self.old).faults (plan_of self.new).faults) }
+        ensures faults { (plan_of self.new).faults ≡ faults_after result (plan_of self.old).faults }
+        ensures asked { (plan_of self.new).calls ≡ one_more (plan_of self.old).calls }
         ensures told { (bytes : List ℕ) → Some (left_of self.old) ≡ Some bytes
             → GivesNext bytes result (Some (left_of self.new)) }
         ensures end { result ≡ Ok None → IsTrue (has_ended self.new) }

@@ -1,7 +1,7 @@
-ghost use Rattle.std.specs.Prelude.{◌≡◌, ◌≢◌, ℕ, ◌≤◌, List, Option, Some, None, Bool, IsTrue, OnOk, OnErr, IsErrOf, Err, is_none, ◌||◌};
+ghost use Rattle.std.specs.Prelude.{◌≡◌, ◌≢◌, ℕ, List, Option, Some, None, Bool, IsTrue, OnOk, OnErr, IsErrOf, Err, is_none, ◌||◌};
 ghost use Rattle.std.specs.FinMap as map;
 ghost use Rattle.std.specs.Option.{option_copied};
-ghost use Rattle.ckc_outside.specs.Outside.{Rose, one_more, Files, IsWithin, GivesFile, Keeps, after_keep};
+ghost use Rattle.ckc_outside.specs.Outside.{one_more, store_faults_after, Files, IsWithin, GivesFile, Keeps, after_keep};
 ghost use Rattle.ckc_outside.specs.Memory.{is_listed, after_call};
 ghost use Rattle.ckc_outside.specs.MemStore.{files_of, files_in, plan_of, is_steady, seen_of, has_failed};
 
@@ -18,6 +18,8 @@ pub struct MemStore<'a> {
     alloc: Global,
     files: BTreeMap<String, Vec<u8>>,
     plan: Plan<'a>,
+    fetches: u64,
+    limit: u64,
     keeps: u64,
     kept: u64,
 }
@@ -29,6 +31,7 @@ impl<'a> MemStore<'a> {
         ensures listed { (plan_of result).listed ≡ fail.now }
         ensures calls { (plan_of result).calls ≡ 0 }
         ensures faults { (plan_of result).faults ≡ 0 }
+        ensures fetches { (seen_of result).fetches ≡ 0 }
         ensures keeps { (seen_of result).keeps ≡ 0 }
         ensures kept { (seen_of result).kept ≡ 0 }
     {
@@ -36,6 +39,8 @@ impl<'a> MemStore<'a> {
             alloc,
             files: BTreeMap::new(alloc),
             plan: Plan::new(fail),
+            fetches: 0,
+            limit: 0,
             keeps: 0,
             kept: 0,
         }
@@ -47,6 +52,8 @@ impl<'a> MemStore<'a> {
             (files_of self.old) name.now bytes.now) }
         ensures err { OnErr result (files_of self.new ≡ files_of self.old) }
         ensures plan { plan_of self.new ≡ plan_of self.old }
+        ensures fetches { (seen_of self.new).fetches ≡ (seen_of self.old).fetches }
+        ensures limit { (seen_of self.new).limit ≡ (seen_of self.old).limit }
         ensures keeps { (seen_of self.new).keeps ≡ (seen_of self.old).keeps }
         ensures kept { (seen_of self.new).kept ≡ (seen_of self.old).kept }
     {
@@ -61,9 +68,10 @@ impl<'a> Store for MemStore<'a> {
     ghost seen = { seen_of };
 
     fn fetch(&mut self, alloc: Global, name: &str, limit: u64) -> Result<Fetched, StoreError>
-        ensures counts { (plan_of self.old).faults ≤ (plan_of self.new).faults }
-        ensures failed { IsErrOf result StoreError.Failed
-            → Rose (plan_of self.old).faults (plan_of self.new).faults }
+        ensures faults { (plan_of self.new).faults
+            ≡ store_faults_after result (plan_of self.old).faults }
+        ensures asked { (seen_of self.new).fetches ≡ one_more (seen_of self.old).fetches }
+        ensures limited { (seen_of self.new).limit ≡ limit }
         ensures within { IsWithin limit result }
         ensures unchanged { Some (files_of self.new) ≡ Some (files_of self.old) }
         ensures told { (here : Files) → Some (files_of self.old) ≡ Some here
@@ -81,6 +89,8 @@ impl<'a> Store for MemStore<'a> {
             (files_of self.old) name.now)) }
         ensures plan { plan_of self.new ≡ after_call (plan_of self.old) (has_failed result) }
     {
+        self.fetches = one_more(self.fetches);
+        self.limit = limit;
         if self.plan.fails() {
             return Err(StoreError::Failed);
         }
@@ -98,9 +108,10 @@ impl<'a> Store for MemStore<'a> {
     }
 
     fn keep(&mut self, name: &str, bytes: &[u8]) -> Result<(), StoreError>
-        ensures counts { (plan_of self.old).faults ≤ (plan_of self.new).faults }
-        ensures failed { IsErrOf result StoreError.Failed
-            → Rose (plan_of self.old).faults (plan_of self.new).faults }
+        ensures faults { (plan_of self.new).faults
+            ≡ store_faults_after result (plan_of self.old).faults }
+        ensures unasked { (seen_of self.new).fetches ≡ (seen_of self.old).fetches }
+        ensures limited { (seen_of self.new).limit ≡ (seen_of self.old).limit }
         ensures told { (here : Files) → Some (files_of self.old) ≡ Some here
             → Keeps here name.now bytes.now result (Some (files_of self.new)) }
         ensures steady { IsTrue (is_steady self.old) → IsTrue (is_steady self.new)

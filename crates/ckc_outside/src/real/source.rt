@@ -15,6 +15,7 @@ pub struct RealSource<R> {
     from: usize,
     to: usize,
     ended: bool,
+    asks: u64,
     answers: u64,
     faults: u64,
     ghost in_order: { from ≤ to },
@@ -24,6 +25,7 @@ pub struct RealSource<R> {
 impl<R: Read + Drop> RealSource<R> {
     /// Over what the reader gives.
     pub fn new(reader: R) -> RealSource<R>
+        ensures asks { result.asks ≡ 0 }
         ensures answers { result.answers ≡ 0 }
         ensures faults { result.faults ≡ 0 }
     {
@@ -33,6 +35,7 @@ impl<R: Read + Drop> RealSource<R> {
             from: 0,
             to: 0,
             ended: false,
+            asks: 0,
             answers: 0,
             faults: 0,
         }
@@ -43,11 +46,13 @@ impl<R: Read> Source for RealSource<R> {
     ghost seen = { λ s. record {
       left = None;
       ended = s.ended;
+      asks = s.asks;
       answers = s.answers;
       faults = s.faults;
     } };
 
     fn next(&mut self) -> Result<Option<u8>, Failed> {
+        self.asks = one_more(self.asks);
         if self.ended {
             return Ok(None);
         }

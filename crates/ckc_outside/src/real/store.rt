@@ -17,6 +17,8 @@ const ROOM: usize = 4096;
 pub struct RealStore<'a, R> {
     rt: &'a R,
     faults: u64,
+    fetches: u64,
+    limit: u64,
     keeps: u64,
     kept: u64,
 }
@@ -25,12 +27,15 @@ impl<'a, R: Files> RealStore<'a, R> {
     /// The files that the runtime reaches.
     pub fn new(rt: &'a R) -> RealStore<'a, R>
         ensures faults { result.faults ≡ 0 }
+        ensures fetches { result.fetches ≡ 0 }
         ensures keeps { result.keeps ≡ 0 }
         ensures kept { result.kept ≡ 0 }
     {
         RealStore {
             rt,
             faults: 0,
+            fetches: 0,
+            limit: 0,
             keeps: 0,
             kept: 0,
         }
@@ -42,11 +47,15 @@ impl<'a, R: Files + AllocGlobal> Store for RealStore<'a, R> {
       files = None;
       steady = false;
       faults = s.faults;
+      fetches = s.fetches;
+      limit = s.limit;
       keeps = s.keeps;
       kept = s.kept;
     } };
 
     fn fetch(&mut self, alloc: Global, name: &str, limit: u64) -> Result<Fetched, StoreError> {
+        self.fetches = one_more(self.fetches);
+        self.limit = limit;
         match read_file(self.rt, alloc, name, limit) {
             Ok(fetched) => Ok(fetched),
             Err(StoreError::Memory) => Err(StoreError::Memory),

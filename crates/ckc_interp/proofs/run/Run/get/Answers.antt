@@ -3,7 +3,7 @@ use Rattle.ckc_outside.specs.Outside.{GivesNext, GivesNothing, after_next}
 use Rattle.ckc_source.specs.Steps.{writes_allowed}
 use Rattle.ckc_interp.specs.code.Turns.{Wrote}
 use Rattle.ckc_interp.specs.code.Views.{core_of}
-use Rattle.ckc_outside.proofs.Giving.{no_answer, one_answer}
+use Rattle.ckc_outside.proofs.Giving.{after_none, after_one}
 use Rattle.ckc_interp.proofs.Giving.{first_of, none_of, left_none}
 use Rattle.ckc_interp.proofs.run.Run.get.Goals as goal
 
@@ -13,7 +13,7 @@ returns-in-Ok-Some-clause-gets g c =
     let some = c.in-Ok-Some.field-0-is in (
       byte ∷ [],
       record {
-        count = subst (λ (o : Option ℕ). (g.S.Source.seen c.next.new.self).answers ≡ after_next (Ok o) (g.S.Source.seen c.args.input.now).answers) some c.in-Ok-Some.ensures.answered ∙ one_answer _ byte;
+        count = subst (λ (o : Option ℕ). (g.S.Source.seen c.next.new.self).answers ≡ after_next (Ok o) (g.S.Source.seen c.args.input.now).answers) some c.in-Ok-Some.ensures.answered ∙ after_one _ byte;
         bytes = (c.word_of.ensures.small, tt);
         none = λ t. absurd (subst (λ (o : Option ℕ). GivesNothing (Ok o)) some (c.in-Ok-Some.ensures.nothing t));
         stays = c.next.ensures.stays;
@@ -30,7 +30,7 @@ returns-in-Ok-None-clause-gets g c =
     let told = λ (before : List ℕ) (e : (g.S.Source.seen c.args.input.now).left ≡ Some before). subst (λ (o : Option ℕ). GivesNext before (Ok o) (g.S.Source.seen c.next.new.self).left) none (c.in-Ok-None.ensures.told before e) in (
       [],
       record {
-        count = subst (λ (o : Option ℕ). (g.S.Source.seen c.next.new.self).answers ≡ after_next (Ok o) (g.S.Source.seen c.args.input.now).answers) none c.in-Ok-None.ensures.answered ∙ no_answer _;
+        count = subst (λ (o : Option ℕ). (g.S.Source.seen c.next.new.self).answers ≡ after_next (Ok o) (g.S.Source.seen c.args.input.now).answers) none c.in-Ok-None.ensures.answered ∙ after_none ℕ _;
         bytes = tt;
         none = λ t. refl;
         stays = c.next.ensures.stays;
@@ -46,7 +46,7 @@ returns-in-Ok-None-clause-gets g c =
 pub returns-in-Err-clause-gets : goal.returns-in-Err-clause-gets
 returns-in-Err-clause-gets g c = (
   [],
-  record { count = c.in-Err.ensures.answered ∙ no_answer _; bytes = tt; none = λ t. refl; stays = c.next.ensures.stays },
+  record { count = c.in-Err.ensures.answered ∙ after_none ℕ _; bytes = tt; none = λ t. refl; stays = c.next.ensures.stays },
   λ before e. (before, c.in-Err.ensures.told before e, refl),
   λ rest may. inr (inr (refl, refl)),
 )

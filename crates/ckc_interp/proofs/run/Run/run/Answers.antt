@@ -1,8 +1,9 @@
-use Rattle.std.proofs.Common.{◌≡◌, ◌+◌, ℕ, None, Some, sym, ap, subst, ◌∙◌, arith}
+use Rattle.std.proofs.Common.{◌≡◌, ◌+◌, ℕ, None, Some, refl, sym, ap, subst, ◌∙◌, arith}
 use Rattle.ckc_base.specs.Traces.{Going}
 use Rattle.ckc_source.specs.Code.{program_of}
 use Rattle.ckc_source.specs.States.{State}
 use Rattle.ckc_interp.specs.declared.seen.Seen.TheVariants as seen
+use Rattle.ckc_outside.specs.Given.{streams}
 use Rattle.ckc_interp.specs.Runs.{Comes, Interprets}
 use Rattle.ckc_interp.specs.code.Turns.{Steps}
 use Rattle.ckc_interp.specs.code.Views.{state_of}
@@ -14,14 +15,14 @@ use Rattle.ckc_interp.proofs.run.Run.run.Goals as goal
 
 pub loop-step-init : goal.loop-step-init
 loop-step-init g c =
-    let w = (g.O.Sink.seen c.args.out.now).written in
+    let w = streams (g.S.Source.seen c.args.input.now) (g.O.Sink.seen c.args.out.now) in
     let p = program_of c.args.program.now in
     record {
       shapes = c.requires.shapes;
       at = not_asked _ (λ given left. IsAt p given 0 (state_of c.args.self.now left) w w None)
           (λ rest. subst (λ (s : State). IsAt p rest 0 s w w None) (ap (fed rest) (sym c.requires.start)) (at_start p rest w));
-      input_counts = omega arith;
-      out_counts = omega arith;
+      input_faults = refl;
+      out_faults = refl;
     }
 
 pub loop-step-preserved : goal.loop-step-preserved
@@ -30,30 +31,30 @@ loop-step-preserved g c =
     let i = c.loop-step._step in
     record {
       shapes = c.in-None.ensures.shapes ∙ c.loop-step.invariant.shapes;
-      at = fed_then _ _ _ (λ given left. IsAt p given i (state_of c.loop-step.self left) (g.O.Sink.seen c.args.out.now).written (g.O.Sink.seen c.loop-step.out).written c.loop-step.marks.blame)
-          (λ left left'. Steps p (state_of c.loop-step.self left) (state_of c.step.new.self left') c.loop-step.marks.blame c.step.new.marks.blame (g.O.Sink.seen c.loop-step.out).written (g.O.Sink.seen c.step.new.out).written None)
-          (λ given left. IsAt p given (i + 1) (state_of c.step.new.self left) (g.O.Sink.seen c.args.out.now).written (g.O.Sink.seen c.step.new.out).written c.step.new.marks.blame)
+      at = fed_then _ _ _ (λ given left. IsAt p given i (state_of c.loop-step.self left) (streams (g.S.Source.seen c.args.input.now) (g.O.Sink.seen c.args.out.now)) (streams (g.S.Source.seen c.loop-step.input) (g.O.Sink.seen c.loop-step.out)) c.loop-step.marks.blame)
+          (λ left left'. Steps p (state_of c.loop-step.self left) (state_of c.step.new.self left') c.loop-step.marks.blame c.step.new.marks.blame (streams (g.S.Source.seen c.loop-step.input) (g.O.Sink.seen c.loop-step.out)) (streams (g.S.Source.seen c.step.new.input) (g.O.Sink.seen c.step.new.out)) None)
+          (λ given left. IsAt p given (i + 1) (state_of c.step.new.self left) (streams (g.S.Source.seen c.args.input.now) (g.O.Sink.seen c.args.out.now)) (streams (g.S.Source.seen c.step.new.input) (g.O.Sink.seen c.step.new.out)) c.step.new.marks.blame)
           c.loop-step.invariant.at c.in-None.ensures.steps
-          (λ given half left' a s. next_steps p given i c.args.limit (state_of c.loop-step.self half) (state_of c.step.new.self left') (g.O.Sink.seen c.args.out.now).written (g.O.Sink.seen c.loop-step.out).written (g.O.Sink.seen c.step.new.out).written c.loop-step.marks.blame c.step.new.marks.blame c.loop-step-test.true a s);
-      input_counts = omega (arith, c.loop-step.invariant.input_counts, c.in-None.ensures.input_counts);
-      out_counts = omega (arith, c.loop-step.invariant.out_counts, c.in-None.ensures.out_counts);
+          (λ given half left' a s. next_steps p given i c.args.limit (state_of c.loop-step.self half) (state_of c.step.new.self left') (streams (g.S.Source.seen c.args.input.now) (g.O.Sink.seen c.args.out.now)) (streams (g.S.Source.seen c.loop-step.input) (g.O.Sink.seen c.loop-step.out)) (streams (g.S.Source.seen c.step.new.input) (g.O.Sink.seen c.step.new.out)) c.loop-step.marks.blame c.step.new.marks.blame c.loop-step-test.true a s);
+      input_faults = c.in-None.ensures.reads ∙ c.loop-step.invariant.input_faults;
+      out_faults = c.in-None.ensures.writes ∙ c.loop-step.invariant.out_faults;
     }
 
 pub returns-in-Some-clause-runs : goal.returns-in-Some-clause-runs
 returns-in-Some-clause-runs g c =
     let p = program_of c.args.program.now in
     let i = c.loop-step._step in
-    fed_then _ _ _ (λ given left. IsAt p given i (state_of c.loop-step.self left) (g.O.Sink.seen c.args.out.now).written (g.O.Sink.seen c.loop-step.out).written c.loop-step.marks.blame)
-    (λ left left'. Steps p (state_of c.loop-step.self left) (state_of c.step.new.self left') c.loop-step.marks.blame c.step.new.marks.blame (g.O.Sink.seen c.loop-step.out).written (g.O.Sink.seen c.step.new.out).written (Some c.in-Some.seen))
-    (Interprets p c.args.limit (g.O.Sink.seen c.args.out.now).written (g.O.Sink.seen c.step.new.out).written c.in-Some.seen)
+    fed_then _ _ _ (λ given left. IsAt p given i (state_of c.loop-step.self left) (streams (g.S.Source.seen c.args.input.now) (g.O.Sink.seen c.args.out.now)) (streams (g.S.Source.seen c.loop-step.input) (g.O.Sink.seen c.loop-step.out)) c.loop-step.marks.blame)
+    (λ left left'. Steps p (state_of c.loop-step.self left) (state_of c.step.new.self left') c.loop-step.marks.blame c.step.new.marks.blame (streams (g.S.Source.seen c.loop-step.input) (g.O.Sink.seen c.loop-step.out)) (streams (g.S.Source.seen c.step.new.input) (g.O.Sink.seen c.step.new.out)) (Some c.in-Some.seen))
+    (Interprets p c.args.limit (streams (g.S.Source.seen c.args.input.now) (g.O.Sink.seen c.args.out.now)) (streams (g.S.Source.seen c.step.new.input) (g.O.Sink.seen c.step.new.out)) c.in-Some.seen)
     c.loop-step.invariant.at c.in-Some.ensures.steps
-    (λ given half left' a s. over_steps p given i c.args.limit (state_of c.loop-step.self half) (state_of c.step.new.self left') (g.O.Sink.seen c.args.out.now).written (g.O.Sink.seen c.loop-step.out).written (g.O.Sink.seen c.step.new.out).written c.loop-step.marks.blame c.step.new.marks.blame c.loop-step-test.true a c.in-Some.seen s)
+    (λ given half left' a s. over_steps p given i c.args.limit (state_of c.loop-step.self half) (state_of c.step.new.self left') (streams (g.S.Source.seen c.args.input.now) (g.O.Sink.seen c.args.out.now)) (streams (g.S.Source.seen c.loop-step.input) (g.O.Sink.seen c.loop-step.out)) (streams (g.S.Source.seen c.step.new.input) (g.O.Sink.seen c.step.new.out)) c.loop-step.marks.blame c.step.new.marks.blame c.loop-step-test.true a c.in-Some.seen s)
 
 pub returns-clause-runs : goal.returns-clause-runs
 returns-clause-runs g c =
     let p = program_of c.args.program.now in
     let i = c.loop-step._step in
     let e : i ≡ c.args.limit = omega arith in
-    fed_so _ _ (λ given left. IsAt p given i (state_of c.loop-step.self left) (g.O.Sink.seen c.args.out.now).written (g.O.Sink.seen c.loop-step.out).written c.loop-step.marks.blame)
-    (Interprets p c.args.limit (g.O.Sink.seen c.args.out.now).written (g.O.Sink.seen c.loop-step.out).written seen.Going) c.loop-step.invariant.at
-    (λ given left a. subst (λ (k : ℕ). Comes p given left k k (g.O.Sink.seen c.args.out.now).written (g.O.Sink.seen c.loop-step.out).written Going) e (comes_at p given i (state_of c.loop-step.self left) (g.O.Sink.seen c.args.out.now).written (g.O.Sink.seen c.loop-step.out).written c.loop-step.marks.blame a))
+    fed_so _ _ (λ given left. IsAt p given i (state_of c.loop-step.self left) (streams (g.S.Source.seen c.args.input.now) (g.O.Sink.seen c.args.out.now)) (streams (g.S.Source.seen c.loop-step.input) (g.O.Sink.seen c.loop-step.out)) c.loop-step.marks.blame)
+    (Interprets p c.args.limit (streams (g.S.Source.seen c.args.input.now) (g.O.Sink.seen c.args.out.now)) (streams (g.S.Source.seen c.loop-step.input) (g.O.Sink.seen c.loop-step.out)) seen.Going) c.loop-step.invariant.at
+    (λ given left a. subst (λ (k : ℕ). Comes p given left k k (streams (g.S.Source.seen c.args.input.now) (g.O.Sink.seen c.args.out.now)) (streams (g.S.Source.seen c.loop-step.input) (g.O.Sink.seen c.loop-step.out)) Going) e (comes_at p given i (state_of c.loop-step.self left) (streams (g.S.Source.seen c.args.input.now) (g.O.Sink.seen c.args.out.now)) (streams (g.S.Source.seen c.loop-step.input) (g.O.Sink.seen c.loop-step.out)) c.loop-step.marks.blame a))

@@ -5,7 +5,7 @@ use Rattle.ckc_machine.specs.Runs.{IsAt, OverAny, AsksNothing, Arrives, answer_o
 use Rattle.ckc_machine.specs.code.Runs.{IsFed}
 use Rattle.ckc_machine.proofs.machine.Machine.run.Given as goal
 
--- The machine goes on, and from wherever it was it has come as many instructions further.
+-- The machine goes on, from wherever it was it has come as many instructions further, and no object failed.
 abbrev pub invariant-loop-done : goal.invariant-loop-done
 invariant-loop-done g l =
     record {
@@ -13,14 +13,16 @@ invariant-loop-done g l =
       going : answer_of l.self ≡ Going;
       arrives : (parts : Parts) (given : List ℕ) (k : ℕ) (before after : Option (List ℕ)) → IsAt parts given k l.fn.self before
           → IsFed (g.S.Source.seen l.fn.input).left (g.S.Source.seen l.input).left (AsksNothing parts given k l.limit) before after
-          → Arrives parts given k l.done l.self before after (g.O.Sink.seen l.fn.out).written (g.O.Sink.seen l.out).written;
+          → Arrives parts given k l.done l.self before after (g.O.Sink.seen l.fn.out).written (g.O.Sink.seen l.out).written
+          (g.S.Source.seen l.fn.input).asks (g.S.Source.seen l.input).asks (g.O.Sink.seen l.fn.out).puts (g.O.Sink.seen l.out).puts;
       any : OverAny (g.S.Source.seen l.fn.input) (g.S.Source.seen l.input)
           (λ before after. (parts : Parts) (given : List ℕ) (k : ℕ) → IsAt parts given k l.fn.self (Some before)
-          → Arrives parts given k l.done l.self (Some before) (Some after) (g.O.Sink.seen l.fn.out).written (g.O.Sink.seen l.out).written);
+          → Arrives parts given k l.done l.self (Some before) (Some after) (g.O.Sink.seen l.fn.out).written (g.O.Sink.seen l.out).written
+          (g.S.Source.seen l.fn.input).asks (g.S.Source.seen l.input).asks (g.O.Sink.seen l.fn.out).puts (g.O.Sink.seen l.out).puts);
       silent : (parts : Parts) (given : List ℕ) (k : ℕ) (before : Option (List ℕ)) → IsAt parts given k l.fn.self before → AsksNothing parts given k l.limit
           → l.input ≡ l.fn.input;
-      input_counts : (g.S.Source.seen l.fn.input).faults ≤ (g.S.Source.seen l.input).faults;
-      out_counts : (g.O.Sink.seen l.fn.out).faults ≤ (g.O.Sink.seen l.out).faults;
+      input_faults : (g.S.Source.seen l.input).faults ≡ (g.S.Source.seen l.fn.input).faults;
+      out_faults : (g.O.Sink.seen l.out).faults ≡ (g.O.Sink.seen l.fn.out).faults;
     }
 
 abbrev pub decreases-loop-done : goal.decreases-loop-done
