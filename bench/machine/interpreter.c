@@ -149,15 +149,15 @@ int main(int argc, char **argv) {
   FILE *f = argc > 1 ? fopen(argv[1], "rb") : NULL;
   if (!f) return 1;
   size_t len = fread(file, 1, sizeof file, f);
-  if (len < 20) return 1;
-  code_len = word(file + 12);
-  code = file + 20;
+  if (len < 116) return 1;
+  code_len = word(file + 68);
+  code = file + 116;
   data = calloc(REGION, 1);
   stack = calloc(REGION, 1);
-  memcpy(data, code + code_len, word(file + 16));
+  memcpy(data, code + code_len, word(file + 100));
   struct timespec from, to;
   clock_gettime(CLOCK_MONOTONIC, &from);
-  uint64_t count = run(word(file + 8), 10000000000);
+  uint64_t count = run(word(file + 24), 10000000000);
   clock_gettime(CLOCK_MONOTONIC, &to);
   printf("%llu instructions in %lld ms\n", (unsigned long long)count,
          (to.tv_sec - from.tv_sec) * 1000LL + (to.tv_nsec - from.tv_nsec) / 1000000);

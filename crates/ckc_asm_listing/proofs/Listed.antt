@@ -15,15 +15,16 @@ use Rattle.std.specs.Int.{w32, from_le_bytes}
 use Rattle.ckc_rv.specs.declared.instructions.Instr.{Instr}
 use Rattle.ckc_rv.specs.Decoded.{decoded}
 use Rattle.ckc_rv.proofs.Rows.{decoded_law}
-use Rattle.ckc_asm_listing.specs.Listing.{text_of, instr_or_word, word_line, data_line, word_lines, data_lines, entry_text, listing}
+use Rattle.ckc_asm_listing.specs.Listing.{text_of, instr_or_word, word_line, data_line, word_lines, data_lines, entry_text, format_text, listing_lines, listing, shown_lines, shown_image}
 use Rattle.ckc_asm.specs.Cut.{lines_of}
 use Rattle.ckc_asm.specs.Items.{Statement, item}
 use Rattle.ckc_asm.specs.code.Found.{reading}
+use Rattle.ckc_image.specs.declared.format.Format.{Format}
 use Rattle.ckc_image.specs.Image.{word_bytes, IsProper, four_at, word_at}
-use Rattle.ckc_asm.specs.Program.{width_of, size_of, offset_of, address_of, IsBytes, IsValue, IsWordOf, data_bytes, IsEntry, IsImage, AreSingle, AsmOf, bytes_at, IsEntryOf, no_place, of_word, there}
+use Rattle.ckc_asm.specs.Program.{width_of, size_of, offset_of, address_of, IsBytes, IsValue, IsWordOf, data_bytes, IsEntry, AsmOf, bytes_at, IsEntryOf, no_place, of_word, there}
 use Rattle.ckc_asm.proofs.Grammatical.{lines_found}
 use Rattle.ckc_asm.proofs.Words.{not_feed, Reads}
-use Rattle.ckc_asm_listing.proofs.ReadBack.{IsPlainValue, LineOf, instr_line, word_line as plain_word_line, data_reads, entry_reads, empty_reads}
+use Rattle.ckc_asm_listing.proofs.ReadBack.{IsPlainValue, LineOf, instr_line, word_line as plain_word_line, data_reads, entry_reads, format_reads, empty_reads}
 
 -- lines, their statements, and the code and the initial bytes of them
 pub data Lists : List (List ℕ) → List Statement → List ℕ → List ℕ → Type 0 where
@@ -118,60 +119,106 @@ last_line blank =
 later : (s : Statement) (ss : List Statement) (k : ℕ) → size_of s ≡ 0 → offset_of (s ∷ ss) (suc k) ≡ offset_of ss k
 later s ss k size = omega (arith, size, sum_by-cons size_of s (take k ss))
 
--- the first statement is the only `.entry`, and no statement has a label
-all_plain : {ls : List (List ℕ)} {ss : List Statement} {c d : List ℕ} (s : Statement) → s.label ≡ None → Lists ls ss c d → (k : ℕ) (u : Statement)
-    → slice_get (s ∷ ss) k ≡ Some u → (u.label ≡ None) × (IsEntry u.item.form → k ≡ 0)
-all_plain s label lists zero u at = let P : Statement → Type 0 = λ v. (v.label ≡ None) × (IsEntry v.item.form → ◌≡◌ {A = ℕ} 0 0) in subst P (same_Some s u at) (label, λ h. refl)
-all_plain s label lists (suc k) u at = let p = plain_of_lists lists k u at in (p.0, λ h. absurd (p.1 h))
+-- bytes after a statement that takes no place
+each_after : (s : Statement) (ss : List Statement) (c : List ℕ) → size_of s ≡ 0
+    → ((k : ℕ) (u : Statement) → slice_get ss k ≡ Some u → (all : List Statement) (a : ℕ) → IsBytes all a u (bytes_at ss k u c))
+    → (k : ℕ) (u : Statement) → slice_get (s ∷ ss) k ≡ Some u → (all : List Statement) (a : ℕ) → IsBytes all a u (bytes_at (s ∷ ss) k u c)
+each_after s ss c size each zero u at all a =
+    let P : Statement → Type 0 = λ v. IsBytes all a v (take (size_of v) c) in
+    subst P (same_Some s u at) (no_place size (ap (λ n. take n c) size))
+each_after s ss c size each (suc k) u at all a =
+    let same : bytes_at (s ∷ ss) (suc k) u c ≡ bytes_at ss k u c = ap (λ n. take (size_of u) (drop n c)) (later s ss k size) in
+    rw same (each k u at all a)
 
-single_of : {ls : List (List ℕ)} {ss : List Statement} {c d : List ℕ} (s : Statement) → s.label ≡ None → Lists ls ss c d → AreSingle (s ∷ ss)
-single_of s label lists = record {
-  labels = λ j k u v name at there has other. (let p = all_plain s label lists j u at in let z : None ≡ Some has.0 = sym p.0 ∙ has.1 in absurd (none-some has.0 z));
-  entries = λ j k u v at there here other. (all_plain s label lists j u at).1 here ∙ sym ((all_plain s label lists k v there).1 other);
-}
+-- Lines have statements of this code and these initial bytes. One, the k-th, is a `.entry` with this entry, and none has a label.
+record Entered (entry : ℕ) (lines : List (List ℕ)) (code initial : List ℕ) : Type 0 where
+  statements : List Statement
+  reads : map reading lines ≡ map (λ s. Some s) statements
+  k : ℕ
+  start : Statement
+  stands : slice_get statements k ≡ Some start
+  starts : start.item ≡ item form.Entry (Number (pos entry))
+  plain : (j : ℕ) (u : Statement) → slice_get statements j ≡ Some u → (u.label ≡ None) × (IsEntry u.item.form → j ≡ k)
+  whole : length code ≡ sum_by size_of statements
+  each : (j : ℕ) (u : Statement) → slice_get statements j ≡ Some u → (all : List Statement) (a : ℕ) → IsBytes all a u (bytes_at statements j u code)
+  data_is : initial ≡ flat_map (λ s. data_bytes s.item.form) statements
 
-image_of : {ls : List (List ℕ)} {ss : List Statement} {c d : List ℕ} (s : Statement) (entry : ℕ) → s.item ≡ item form.Entry (Number (pos entry)) → Lists ls ss c d → IsImage (s ∷ ss) (pos entry) c d
-image_of {ss = ss} {c = c} {d = d} s entry is lists =
-    let f : s.item.form ≡ form.Entry = ap (λ i. i.form) is in
-    let o : s.item.operand ≡ Number (pos entry) = ap (λ i. i.operand) is in
+-- a `.entry` before lines that have none
+entered : {ls : List (List ℕ)} {c d : List ℕ} (entry : ℕ) (l : List ℕ) → Reads l form.Entry (Number (pos entry)) → Listed ls c d → Entered entry (l ∷ ls) c d
+entered {ls = ls} {c = c} {d = d} entry l r rest =
+    let s = r.statement in
+    let ss = rest.statements in
+    let f : s.item.form ≡ form.Entry = ap (λ i. i.form) r.item_is in
     let size : size_of s ≡ 0 = ap width_of f in
-    let P : Form → Type 0 = λ g. IsEntry g in
-    let Q : Operand → Type 0 = λ p. IsEntryOf (s ∷ ss) s.operand.text p (pos entry) in
-    let at_each : (k : ℕ) (u : Statement) → slice_get (s ∷ ss) k ≡ Some u → IsBytes (s ∷ ss) (address_of (s ∷ ss) k) u (bytes_at (s ∷ ss) k u c) = each_of s ss c size lists in
-    record {
-      enters = there 0 s refl (subst P (sym f) tt) (subst Q (sym o) refl);
-      whole = omega (arith, whole_of_lists lists, size, sum_by-cons size_of s ss);
-      each = at_each;
-      data_is = data_of_lists lists ∙ ap (λ x. x ++ flat_map (λ u. data_bytes u.item.form) ss) (sym (ap data_bytes f));
-    }
-  where
-    each_of : {ls : List (List ℕ)} {d : List ℕ} (s : Statement) (ss : List Statement) (c : List ℕ) → size_of s ≡ 0 → Lists ls ss c d → (k : ℕ) (u : Statement)
-        → slice_get (s ∷ ss) k ≡ Some u → IsBytes (s ∷ ss) (address_of (s ∷ ss) k) u (bytes_at (s ∷ ss) k u c)
-    each_of s ss c size lists zero u at =
-        let P : Statement → Type 0 = λ v. IsBytes (s ∷ ss) (address_of (s ∷ ss) 0) v (take (size_of v) c) in
-        subst P (same_Some s u at) (no_place size (ap (λ n. take n c) size))
-    each_of s ss c size lists (suc k) u at =
-        let same : bytes_at (s ∷ ss) (suc k) u c ≡ bytes_at ss k u c = ap (λ n. take (size_of u) (drop n c)) (later s ss k size) in
-        rw same (each_of_lists lists k u at (s ∷ ss) (address_of (s ∷ ss) (suc k)))
-
-pub asm_of_listed : (entry : ℕ) (first : List ℕ) (rest : List (List ℕ)) (code initial : List ℕ) → Reads first form.Entry (Number (pos entry)) → Reads [] form.Nothing Nothing
-    → Listed rest code initial → IsProper entry code initial → AsmOf (text_of (first ∷ rest)) entry code initial
-asm_of_listed entry first rest code initial e blank l proper =
-    let s = e.statement in
-    let t = blank.statement in
-    let ss = l.statements ++ t ∷ [] in
-    let P : List ℕ → Type 0 = λ c. Lists (rest ++ [] ∷ []) ss c initial in
-    let Q : List ℕ → Type 0 = λ d. Lists (rest ++ [] ∷ []) ss (code ++ []) d in
-    let lists : Lists (rest ++ [] ∷ []) ss code initial =
-    subst P (append-nil code) (subst Q (append-nil initial) (append_lists l.lists (last_line blank))) in
     record {
       statements = s ∷ ss;
-      form = lines_found (lines_of (text_of (first ∷ rest))) (s ∷ ss) (
-          ap (map reading) (split_text (first ∷ rest) (e.clean, clean_of_lists l.lists))
-          ∙ ap (λ o. o ∷ map reading (rest ++ [] ∷ [])) e.reads ∙ ap (λ x. Some s ∷ x) (form_of_lists lists)
-          );
-      single = single_of s e.unlabelled lists;
-      image = image_of s entry e.item_is lists;
+      reads = ap (λ o. o ∷ map reading ls) r.reads ∙ ap (λ x. Some s ∷ x) (form_of_lists rest.lists);
+      k = 0;
+      start = s;
+      stands = refl;
+      starts = r.item_is;
+      plain = first_only s r.unlabelled rest.lists;
+      whole = omega (arith, whole_of_lists rest.lists, size, sum_by-cons size_of s ss);
+      each = each_after s ss c size (λ j u at. each_of_lists rest.lists j u at);
+      data_is = data_of_lists rest.lists ∙ ap (λ x. x ++ flat_map (λ u. data_bytes u.item.form) ss) (sym (ap data_bytes f));
+    }
+  where
+    first_only : {ls : List (List ℕ)} {ss : List Statement} {c d : List ℕ} (s : Statement) → s.label ≡ None → Lists ls ss c d → (j : ℕ) (u : Statement)
+        → slice_get (s ∷ ss) j ≡ Some u → (u.label ≡ None) × (IsEntry u.item.form → j ≡ 0)
+    first_only s label lists zero u at = let P : Statement → Type 0 = λ v. (v.label ≡ None) × (IsEntry v.item.form → ◌≡◌ {A = ℕ} 0 0) in subst P (same_Some s u at) (label, λ h. refl)
+    first_only s label lists (suc j) u at = let p = plain_of_lists lists j u at in (p.0, λ h. absurd (p.1 h))
+
+-- a line of nothing before such lines
+noted : {entry : ℕ} {ls : List (List ℕ)} {c d : List ℕ} (l : List ℕ) → Reads l form.Nothing Nothing → Entered entry ls c d → Entered entry (l ∷ ls) c d
+noted {ls = ls} {c = c} {d = d} l r e =
+    let s = r.statement in
+    let ss = e.statements in
+    let f : s.item.form ≡ form.Nothing = ap (λ i. i.form) r.item_is in
+    let size : size_of s ≡ 0 = ap width_of f in
+    let P : Form → Type 0 = λ g. IsEntry g → ⊥ in
+    record {
+      statements = s ∷ ss;
+      reads = ap (λ o. o ∷ map reading ls) r.reads ∙ ap (λ x. Some s ∷ x) e.reads;
+      k = suc e.k;
+      start = e.start;
+      stands = e.stands;
+      starts = e.starts;
+      plain = plain_after s ss e.k r.unlabelled (subst P (sym f) (λ h. h)) e.plain;
+      whole = omega (arith, e.whole, size, sum_by-cons size_of s ss);
+      each = each_after s ss c size e.each;
+      data_is = e.data_is ∙ ap (λ x. x ++ flat_map (λ u. data_bytes u.item.form) ss) (sym (ap data_bytes f));
+    }
+  where
+    plain_after : (s : Statement) (ss : List Statement) (k : ℕ) → s.label ≡ None → (IsEntry s.item.form → ⊥)
+        → ((j : ℕ) (u : Statement) → slice_get ss j ≡ Some u → (u.label ≡ None) × (IsEntry u.item.form → j ≡ k))
+        → (j : ℕ) (u : Statement) → slice_get (s ∷ ss) j ≡ Some u → (u.label ≡ None) × (IsEntry u.item.form → j ≡ suc k)
+    plain_after s ss k label none plain zero u at =
+        let P : Statement → Type 0 = λ v. (v.label ≡ None) × (IsEntry v.item.form → ◌≡◌ {A = ℕ} 0 (suc k)) in
+        subst P (same_Some s u at) (label, λ h. absurd (none h))
+    plain_after s ss k label none plain (suc j) u at = let p = plain j u at in (p.0, λ h. ap suc (p.1 h))
+
+-- a text of such lines, each ended by a line feed, so that an empty line follows them
+asm_of_entered : (entry : ℕ) (lines : List (List ℕ)) (code initial : List ℕ) → AllByRecursion (λ l. list_all not_feed l ≡ true) lines
+    → Entered entry (lines ++ [] ∷ []) code initial → IsProper entry code initial → AsmOf (text_of lines) entry code initial
+asm_of_entered entry lines code initial clean e proper =
+    let all = e.statements in
+    let f : e.start.item.form ≡ form.Entry = ap (λ i. i.form) e.starts in
+    let o : e.start.item.operand ≡ Number (pos entry) = ap (λ i. i.operand) e.starts in
+    let P : Form → Type 0 = λ g. IsEntry g in
+    let Q : Operand → Type 0 = λ p. IsEntryOf all e.start.operand.text p (pos entry) in
+    record {
+      statements = all;
+      form = lines_found (lines_of (text_of lines)) all (ap (map reading) (split_text lines clean) ∙ e.reads);
+      single = record {
+        labels = λ i j u v name at there has other. (let p = e.plain i u at in let z : None ≡ Some has.0 = sym p.0 ∙ has.1 in absurd (none-some has.0 z));
+        entries = λ i j u v at there here other. (e.plain i u at).1 here ∙ sym ((e.plain j v there).1 other);
+      };
+      image = record {
+        enters = there e.k e.start e.stands (subst P (sym f) tt) (subst Q (sym o) refl);
+        whole = e.whole;
+        each = λ j u at. e.each j u at all (address_of all j);
+        data_is = e.data_is;
+      };
       proper = proper;
     }
 
@@ -277,18 +324,42 @@ data_pieces initial (suc m) a small h =
     let D : List ℕ → Type 0 = λ d. Listed (map (data_line initial) (range_with_len a (suc m))) [] d in
     subst D (piece 16 a m initial) (append_listed (data_line initial a ∷ []) (map (data_line initial) (range_with_len (a + 1) m)) [] _ [] _ here more)
 
--- a listing is assembly of its parts
-pub listing_reads : (entry : ℕ) (code initial : List ℕ) → entry < 2 ^ 32 → AreBytes code → AreBytes initial → IsProper entry code initial → AsmOf (listing entry code initial) entry code initial
-listing_reads entry code initial he hc hi proper =
+-- the lines after the entry list code and initial bytes
+parts_listed : (code initial : List ℕ) → AreBytes code → AreBytes initial → length code % 4 ≡ 0 → Listed (word_lines code ++ data_lines initial) code initial
+parts_listed code initial hc hi words_whole =
     let n = length code / 4 in
     let m = (length initial + 15) / 16 in
-    let all_code : take (4 * n) (drop (4 * 0) code) ≡ code = take_all (4 * n) code (omega (arith, proper.0.0)) in
+    let all_code : take (4 * n) (drop (4 * 0) code) ≡ code = take_all (4 * n) code (omega (arith, words_whole)) in
     let all_data : take (16 * m) (drop (16 * 0) initial) ≡ initial = take_all (16 * m) initial (omega arith) in
     let words = words_listed code n 0 hc (omega arith) in
     let given = data_pieces initial m 0 hi (omega arith) in
     let C : List ℕ → Type 0 = λ c. Listed (word_lines code ++ data_lines initial) c initial in
     let D : List ℕ → Type 0 = λ d. Listed (word_lines code ++ data_lines initial) (take (4 * n) (drop (4 * 0) code)) d in
     let E : List ℕ → Type 0 = λ c. Listed (word_lines code ++ data_lines initial) c (take (16 * m) (drop (16 * 0) initial)) in
-    let rest : Listed (word_lines code ++ data_lines initial) code initial =
-    subst C all_code (subst D all_data (subst E (append-nil _) (append_listed (word_lines code) (data_lines initial) _ _ _ _ words given))) in
-    asm_of_listed entry (entry_text entry) (word_lines code ++ data_lines initial) code initial (entry_reads entry he) empty_reads rest proper
+    subst C all_code (subst D all_data (subst E (append-nil _) (append_listed (word_lines code) (data_lines initial) _ _ _ _ words given)))
+
+module _ (entry : ℕ) (code initial : List ℕ) (he : entry < 2 ^ 32) (hc : AreBytes code) (hi : AreBytes initial) (proper : IsProper entry code initial) where
+  rest : Listed (word_lines code ++ data_lines initial) code initial
+  rest = parts_listed code initial hc hi proper.0.0
+
+  -- the lines of a listing, and the empty line after them
+  lines_entered : Entered entry (listing_lines entry code initial ++ [] ∷ []) code initial
+  lines_entered =
+      let C : List ℕ → Type 0 = λ c. Listed ((word_lines code ++ data_lines initial) ++ [] ∷ []) c initial in
+      let D : List ℕ → Type 0 = λ d. Listed ((word_lines code ++ data_lines initial) ++ [] ∷ []) (code ++ []) d in
+      let last : Listed ([] ∷ []) [] [] = record { statements = empty_reads.statement ∷ []; lists = last_line empty_reads } in
+      entered entry (entry_text entry) (entry_reads entry he)
+      (subst C (append-nil code) (subst D (append-nil initial) (append_listed (word_lines code ++ data_lines initial) ([] ∷ []) code initial [] [] rest last)))
+
+  lines_clean : AllByRecursion (λ l. list_all not_feed l ≡ true) (listing_lines entry code initial)
+  lines_clean = ((entry_reads entry he).clean, clean_of_lists rest.lists)
+
+  -- a listing is assembly of its parts
+  pub listing_reads : AsmOf (listing entry code initial) entry code initial
+  listing_reads = asm_of_entered entry (listing_lines entry code initial) code initial lines_clean lines_entered proper
+
+  -- so is one after the line of a format
+  pub shown_reads : (format : Format) → AsmOf (shown_image format entry code initial) entry code initial
+  shown_reads format =
+      asm_of_entered entry (shown_lines format entry code initial) code initial ((format_reads format).clean, lines_clean)
+      (noted (format_text format) (format_reads format) lines_entered) proper

@@ -52,6 +52,11 @@ fail_more xs ys r s t one two = record {
   pieces = (length xs + two.pieces.0, omega (arith, length-append xs ys, two.pieces.1), two.pieces.2 ∙ ap (many_more two.pieces.0) one.pieces ∙ sym (many_more-add (length xs) two.pieces.0 r.puts));
 }
 
+-- lines after lines that were put
+pub puts_more : (xs ys : List (List ℕ)) (result : Result (Unit {0}) Failed) (r s t : SeenSink) → HasPut xs r s → PutsLines ys result s t → PutsLines (xs ++ ys) result r t
+puts_more xs ys (Ok done) r s t one two = put_more xs ys r s t one two
+puts_more xs ys (Err failed) r s t one two = fail_more xs ys r s t one two
+
 -- a failure in the first lines
 pub fail_first : (xs ys : List (List ℕ)) (s t : SeenSink) → HasFailed xs s t → HasFailed (xs ++ ys) s t
 fail_first xs ys s t one = record {

@@ -19,9 +19,11 @@ use Rattle.ckc_asm.specs.declared.items.Form.{Form}
 use Rattle.ckc_asm.specs.declared.items.Form.TheVariants as form
 use Rattle.ckc_asm.specs.declared.items.Operand.{Operand}
 use Rattle.ckc_asm.specs.declared.items.Operand.TheVariants.{Nothing, Number, Named}
-use Rattle.ckc_asm.specs.Cut.{goes_on}
+use Rattle.ckc_image.specs.declared.format.Format.{Format}
+use Rattle.ckc_image.specs.declared.format.Format.TheVariants.{First, Elf}
+use Rattle.ckc_asm.specs.Cut.{cut, goes_on}
 use Rattle.ckc_asm.specs.Names.{branch_name, load_name, store_name, imm_name, reg_name, register, hex, hexadecimal}
-use Rattle.ckc_asm_listing.specs.Listing.{two, from_register, named, instr_text, data_text, entry_text}
+use Rattle.ckc_asm_listing.specs.Listing.{two, from_register, named, instr_text, data_text, entry_text, format_text}
 use Rattle.ckc_asm.specs.code.Numerals.{number_of}
 use Rattle.ckc_asm.specs.Spelled.{is_name}
 use Rattle.ckc_asm.specs.Items.{item}
@@ -274,6 +276,12 @@ data_reads bytes low high small =
     reads_item _ (codes ".data" ∷ map (λ b. hex 2 b) bytes) (form.Data bytes) Nothing
     (shows_run (codes ".data") _ _ (plain_run _ (omega arith) refl) (shows_bytes bytes).1 (shows_bytes bytes).0)
     (no_colon bytes) (item_of_kind (codes ".data") _ kind.Data refl ∙ data_item bytes low high small)
+
+-- the line of a format is a comment
+pub format_reads : (format : Format) → Reads (format_text format) form.Nothing Nothing
+unfolding cut item_of
+format_reads First = reads_item (codes "# version 1") [] form.Nothing Nothing (record { clean = refl; cuts = λ col. refl }) refl refl
+format_reads Elf = reads_item (codes "# elf32") [] form.Nothing Nothing (record { clean = refl; cuts = λ col. refl }) refl refl
 
 pub empty_reads : Reads [] form.Nothing Nothing
 unfolding item_of

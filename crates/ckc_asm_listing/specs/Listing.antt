@@ -5,7 +5,9 @@ use Rattle.std.specs.Fmt.{decimal, signed_decimal}
 use Rattle.ckc_rv.specs.declared.instructions.Instr.{Instr}
 use Rattle.ckc_rv.specs.declared.instructions.Instr.TheVariants.{Lui, Auipc, Jal, Jalr, Branch, Load, Store, Imm, Reg, Fence, Ecall, Ebreak}
 use Rattle.ckc_rv.specs.Decoded.{decoded}
+use Rattle.ckc_image.specs.declared.format.Format.{Format}
 use Rattle.ckc_image.specs.Image.{word_at}
+use Rattle.ckc_image.specs.declared.format.Format.TheVariants.{First, Elf}
 use Rattle.ckc_asm.specs.Names.{branch_name, load_name, store_name, imm_name, reg_name, register, hex, hexadecimal}
 
 -- two, three operands: one space after each comma
@@ -87,3 +89,18 @@ text_of lines = flat_map ended lines
 -- the listing of an image: its entry, its code and its initial bytes
 abbrev pub listing : ℕ → List ℕ → List ℕ → List ℕ
 listing entry code initial = text_of (listing_lines entry code initial)
+
+-- ---- what is written of an image
+
+-- the line of the format of an image, a comment
+abbrev pub format_text : Format → List ℕ
+format_text First = codes "# version 1"
+format_text Elf = codes "# elf32"
+
+-- the line of the format, then the lines of the listing
+abbrev pub shown_lines : Format → ℕ → List ℕ → List ℕ → List (List ℕ)
+shown_lines format entry code initial = format_text format ∷ listing_lines entry code initial
+
+-- what is written of an image: the line of its format, then its listing
+abbrev pub shown_image : Format → ℕ → List ℕ → List ℕ → List ℕ
+shown_image format entry code initial = text_of (shown_lines format entry code initial)

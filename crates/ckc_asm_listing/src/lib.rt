@@ -5,5 +5,5 @@ mod lister;
 mod text_line;
 mod texts;
 
-pub use lister::list;
+pub use lister::{list, show};
 pub use text_line::TextLine;

@@ -2,13 +2,14 @@ ghost use Rattle.std.specs.Prelude.{◌≡◌, ℕ, List, ◌∷◌, [], ◌+◌
 ghost use Rattle.ckc_base.specs.MemoryMap.{longest_data};
 ghost use Rattle.ckc_outside.specs.Outside.{Rose, Puts};
 ghost use Rattle.ckc_image.specs.Image.{IsProper, word_at};
-ghost use Rattle.ckc_asm_listing.specs.Listing.{entry_text, word_lines, data_lines, listing_lines, listing, ended};
+ghost use Rattle.ckc_asm_listing.specs.Listing.{word_lines, data_lines, listing_lines, listing, shown_lines, shown_image, ended};
 ghost use Rattle.ckc_asm.specs.Program.{AsmOf};
 ghost use Rattle.ckc_asm_listing.specs.Putting.{PutsPieces};
 ghost use Rattle.ckc_asm_listing.specs.code.Putting.{PutsLines};
 
 use crate::text_line::TextLine;
-use crate::texts::{data_line, entry_line, word_line};
+use crate::texts::{data_line, entry_line, format_line, word_line};
+use ckc_image::Format;
 use ckc_outside::{Failed, Sink};
 
 /// Puts the listing of entry, code and initial bytes, one piece for each line. It takes no memory.
@@ -22,10 +23,40 @@ pub fn list<O: Sink>(entry: u32, code: &[u8], initial: &[u8], out: &mut O) -> Re
         (O.seen out.old).puts (O.seen out.new).puts }
     ensures reads_back { AsmOf (listing entry code.now initial.now) entry code.now initial.now }
 {
+    put_listing(entry, code, initial, out)
+}
+
+/// Puts the line of the format of an image and then the listing of its parts, one piece for each line. It takes no memory.
+pub fn show<O: Sink>(
+    format: Format,
+    entry: u32,
+    code: &[u8],
+    initial: &[u8],
+    out: &mut O,
+) -> Result<(), Failed>
+    requires { IsProper entry code.now initial.now }
+    ensures counts { (O.seen out.old).faults ≤ (O.seen out.new).faults }
+    ensures failed { OnErr result (Rose (O.seen out.old).faults (O.seen out.new).faults) }
+    ensures told { (bytes : List ℕ) → (O.seen out.old).written ≡ Some bytes
+        → Puts bytes (shown_image format entry code.now initial.now) result
+        (O.seen out.new).written }
+    ensures pieces { PutsPieces (length (shown_lines format entry code.now initial.now)) result
+        (O.seen out.old).puts (O.seen out.new).puts }
+    ensures reads_back { AsmOf (shown_image format entry code.now initial.now) entry code.now
+        initial.now }
+{
+    put_line(&format_line(format), out)?;
+    put_listing(entry, code, initial, out)
+}
+
+fn put_listing<O: Sink>(entry: u32, code: &[u8], initial: &[u8], out: &mut O) -> Result<(), Failed>
+    requires { length initial.now ≤ longest_data }
+    ensures { PutsLines (listing_lines entry code.now initial.now) result
+        (O.seen out.old) (O.seen out.new) }
+{
     put_line(&entry_line(entry), out)?;
     put_code(code, out)?;
-    put_data(initial, out)?;
-    Ok(())
+    put_data(initial, out)
 }
 
 fn put_line<O: Sink>(line: &TextLine, out: &mut O) -> Result<(), Failed>

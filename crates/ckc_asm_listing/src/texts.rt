@@ -3,11 +3,33 @@ ghost use Rattle.std.specs.Prelude.{◌≡◌, ◌+◌, ◌<◌, ◌≤◌, ◌+
 ghost use Rattle.std.specs.Fmt.{decimal, signed_decimal};
 ghost use Rattle.ckc_rv.specs.Table.{InRange};
 ghost use Rattle.ckc_asm.specs.Names.{branch_name, load_name, store_name, imm_name, reg_name, register, hexadecimal};
-ghost use Rattle.ckc_asm_listing.specs.Listing.{named, two, three, from_register, instr_text, word_text, entry_text, data_text, ended};
+ghost use Rattle.ckc_asm_listing.specs.Listing.{named, two, three, from_register, instr_text, word_text, entry_text, format_text, data_text, ended};
 
 use crate::text_line::TextLine;
 use ckc_asm::{branch_name, imm_name, load_name, reg_name, store_name};
+use ckc_image::Format;
 use ckc_rv::{BranchOp, ImmOp, Instr, RegOp, decode};
+
+/// The line of a format.
+pub fn format_line(format: Format) -> TextLine
+    ensures { result ≡ ended (format_text format) }
+{
+    match format {
+        Format::First => ended_line(b"# version 1"),
+        Format::Elf => ended_line(b"# elf32"),
+    }
+}
+
+/// A line of this text.
+fn ended_line(text: &[u8]) -> TextLine
+    requires { length text.now ≤ 40 }
+    ensures { result ≡ ended text.now }
+{
+    let mut line = TextLine::new();
+    line.push_text(text);
+    line.push(b'\n');
+    line
+}
 
 /// The line of the entry.
 pub fn entry_line(entry: u32) -> TextLine

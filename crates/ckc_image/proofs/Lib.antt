@@ -1,1 +1,5 @@
 pub mod Agreement
+mod ByFormat
+mod Elf
+mod First
+mod Words

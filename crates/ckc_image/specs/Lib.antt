@@ -1,1 +1,3 @@
+pub mod Elf
 pub mod Image
+pub mod Words

@@ -1,7 +1,8 @@
-ghost use Rattle.std.specs.Prelude.{◌≡◌, ◌++◌, IfOk, OnOk};
-ghost use Rattle.ckc_image.specs.Image.{ImageOf, IsProper, word_bytes};
+ghost use Rattle.std.specs.Prelude.{IfOk};
+ghost use Rattle.ckc_image.specs.declared.format.Format.TheVariants.{Elf};
+ghost use Rattle.ckc_image.specs.Image.{ImageOf, IsProper};
 
-use byteorder::{ByteOrder, LittleEndian};
+use crate::headers::{ELF_HEADER, elf_header};
 use ckc_base::Bytes;
 use std::alloc::{AllocError, Global};
 
@@ -16,26 +17,16 @@ pub struct Parts {
     ghost proper: { IsProper entry code initial },
 }
 
-/// The bytes of the image with these parts.
+/// The bytes of the ELF image with these parts.
 pub fn write(alloc: Global, p: &Parts) -> Result<Vec<u8>, AllocError>
-    ensures { IfOk result (λ image. ImageOf image.items p.now.entry p.now.code p.now.initial) }
+    ensures { IfOk result
+        (λ image. ImageOf Elf image.items p.now.entry p.now.code p.now.initial) }
 {
-    let mut image = Vec::with_capacity(alloc, 20 + p.code.len() + p.initial.len())?;
-    image.extend_from_slice(b"CCIM")?;
-    put_word(&mut image, 1)?;
-    put_word(&mut image, p.entry)?;
-    put_word(&mut image, p.code.len() as u32)?;
-    put_word(&mut image, p.initial.len() as u32)?;
-    image.extend_from_slice(p.code.as_slice())?;
-    image.extend_from_slice(p.initial.as_slice())?;
+    let code = p.code.as_slice();
+    let initial = p.initial.as_slice();
+    let mut image = Vec::with_capacity(alloc, ELF_HEADER + code.len() + initial.len())?;
+    image.extend_from_slice(&elf_header(p.entry, code.len() as u32, initial.len() as u32))?;
+    image.extend_from_slice(code)?;
+    image.extend_from_slice(initial)?;
     Ok(image)
-}
-
-fn put_word(image: &mut Vec<u8>, n: u32) -> Result<(), AllocError>
-    ensures { OnOk result (image.new.items ≡ image.old.items ++ word_bytes n) }
-{
-    let mut word = [0; 4];
-    LittleEndian::write_u32(&mut word, n);
-    image.extend_from_slice(&word)?;
-    Ok(())
 }
