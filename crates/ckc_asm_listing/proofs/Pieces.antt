@@ -1,12 +1,12 @@
 -- Lines put one after another.
-use Rattle.std.proofs.Common.{◌≡◌, ℕ, zero, suc, ◌+◌, ◌≤◌, ◌<◌, min, List, [], ◌∷◌, ◌++◌, length, take, drop, map, Some, Result, Ok, Err, OnErr, subst, refl, sym, ap, ◌∙◌, inl, inr, ⊎_elim, arith, append_assoc, length-append, add-zero, add-suc}
+use Rattle.std.proofs.Common.{◌≡◌, ℕ, zero, suc, ◌+◌, ◌<◌, min, List, [], ◌∷◌, ◌++◌, length, take, drop, map, Some, Result, Ok, Err, subst, refl, sym, ap, ◌∙◌, arith, append_assoc, length-append, add-zero, add-suc}
 use Rattle.std.specs.List.{range_with_len}
 use Rattle.std.proofs.lemmas.List.{append-nil, take-append-le, take_min, take-append-drop}
 use Rattle.std.proofs.lemmas.List.Concat.{flat_map-append}
 use Rattle.std.proofs.lemmas.List.FromFn.{map-range_with_len_more, take-map-range_with_len}
 use Rattle.std.proofs.Math.Seq.{take-append-add}
 use Rattle.ckc_outside.specs.declared.traits.Failed.{Failed}
-use Rattle.ckc_outside.specs.Outside.{Rose, Puts, SeenSink, one_more}
+use Rattle.ckc_outside.specs.Outside.{Puts, SeenSink, one_more, faults_after}
 use Rattle.ckc_asm_listing.specs.Listing.{text_of, ended}
 use Rattle.ckc_asm_listing.specs.Putting.{many_more, PutsPieces}
 use Rattle.ckc_asm_listing.specs.code.Putting.{HasPut, HasFailed, PutsLines}
@@ -22,7 +22,7 @@ many_more-add a (suc b) n = ap (λ k. many_more k n) (add-suc a b) ∙ ap one_mo
 
 pub put_none : (s : SeenSink) → HasPut [] s s
 put_none s = record {
-  counts = omega arith;
+  faults = refl;
   told = λ bytes e. e ∙ ap Some (sym (append-nil bytes));
   pieces = sym (no_more s.puts);
 }
@@ -33,7 +33,7 @@ text_of-append xs ys = flat_map-append ended xs ys
 -- lines after lines
 pub put_more : (xs ys : List (List ℕ)) (r s t : SeenSink) → HasPut xs r s → HasPut ys s t → HasPut (xs ++ ys) r t
 put_more xs ys r s t one two = record {
-  counts = omega (arith, one.counts, two.counts);
+  faults = two.faults ∙ one.faults;
   told = λ bytes e. two.told _ (one.told bytes e) ∙ ap Some (append_assoc bytes (text_of xs) (text_of ys) ∙ ap (λ l. bytes ++ l) (sym (text_of-append xs ys)));
   pieces = two.pieces ∙ ap (many_more (length ys)) one.pieces ∙ (sym (many_more-add (length xs) (length ys) r.puts) ∙ ap (λ k. many_more k r.puts) (sym (length-append xs ys)));
 }
@@ -43,8 +43,7 @@ take_behind k xs ys = (length xs + k, take-append-add xs ys k)
 
 pub fail_more : (xs ys : List (List ℕ)) (r s t : SeenSink) → HasPut xs r s → HasFailed ys s t → HasFailed (xs ++ ys) r t
 fail_more xs ys r s t one two = record {
-  counts = omega (arith, one.counts, two.counts);
-  rose = ⊎_elim (λ h. inl (omega (arith, one.counts))) (λ h. inr h) two.rose;
+  faults = two.faults ∙ ap one_more one.faults;
   told = λ bytes e.
       let w = two.told _ (one.told bytes e) in
       let j = take_behind w.0 (text_of xs) (text_of ys) in
@@ -60,8 +59,7 @@ puts_more xs ys (Err failed) r s t one two = fail_more xs ys r s t one two
 -- a failure in the first lines
 pub fail_first : (xs ys : List (List ℕ)) (s t : SeenSink) → HasFailed xs s t → HasFailed (xs ++ ys) s t
 fail_first xs ys s t one = record {
-  counts = one.counts;
-  rose = one.rose;
+  faults = one.faults;
   told = λ bytes e.
       let w = one.told bytes e in
       let j = front w.0 (text_of xs) (text_of ys) in
@@ -86,29 +84,24 @@ fail_next f n k r s t h one two =
     subst P (sym whole) (fail_first _ _ r t (fail_more _ _ r s t one two))
 
 -- one piece
-pub put_one : (text line : List ℕ) (r : Result (Unit {0}) Failed) (old new : SeenSink) → line ≡ ended text → old.faults ≤ new.faults → OnErr r (Rose old.faults new.faults)
+pub put_one : (text line : List ℕ) (r : Result (Unit {0}) Failed) (old new : SeenSink) → line ≡ ended text → new.faults ≡ faults_after r old.faults
     → ((bytes : List ℕ) → old.written ≡ Some bytes → Puts bytes line r new.written) → new.puts ≡ one_more old.puts → PutsLines (text ∷ []) r old new
 unfolding many_more
-put_one text line (Ok done) old new e counts rose told once = record {
-  counts = counts;
+put_one text line (Ok done) old new e faults told once = record {
+  faults = faults;
   told = λ bytes w. told bytes w ∙ ap (λ l. Some (bytes ++ l)) (e ∙ sym (append-nil (ended text)));
   pieces = once;
 }
-put_one text line (Err failed) old new e counts rose told once = record {
-  counts = counts;
-  rose = rose;
+put_one text line (Err failed) old new e faults told once = record {
+  faults = faults;
   told = λ bytes w. (let t = told bytes w in (t.0, t.1 ∙ ap (λ l. Some (bytes ++ take t.0 l)) (e ∙ sym (append-nil (ended text)))));
   pieces = (1, omega arith, once);
 }
 
 -- what lines leave, part by part
-pub puts_counts : (lines : List (List ℕ)) (r : Result (Unit {0}) Failed) (old new : SeenSink) → PutsLines lines r old new → old.faults ≤ new.faults
-puts_counts lines (Ok done) old new h = h.counts
-puts_counts lines (Err failed) old new h = h.counts
-
-pub puts_rose : (lines : List (List ℕ)) (r : Result (Unit {0}) Failed) (old new : SeenSink) → PutsLines lines r old new → OnErr r (Rose old.faults new.faults)
-puts_rose lines (Ok done) old new h = tt
-puts_rose lines (Err failed) old new h = h.rose
+pub puts_faults : (lines : List (List ℕ)) (r : Result (Unit {0}) Failed) (old new : SeenSink) → PutsLines lines r old new → new.faults ≡ faults_after r old.faults
+puts_faults lines (Ok done) old new h = h.faults
+puts_faults lines (Err failed) old new h = h.faults
 
 pub puts_told : (lines : List (List ℕ)) (r : Result (Unit {0}) Failed) (old new : SeenSink) → PutsLines lines r old new → (bytes : List ℕ) → old.written ≡ Some bytes → Puts bytes (text_of lines) r new.written
 puts_told lines (Ok done) old new h = h.told

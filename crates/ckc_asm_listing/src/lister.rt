@@ -1,6 +1,6 @@
-ghost use Rattle.std.specs.Prelude.{◌≡◌, ℕ, List, ◌∷◌, [], ◌+◌, ◌*◌, ◌/◌, ◌≤◌, Some, OnErr, length, take, drop};
+ghost use Rattle.std.specs.Prelude.{◌≡◌, ℕ, List, ◌∷◌, [], ◌+◌, ◌*◌, ◌/◌, ◌≤◌, Some, length, take, drop};
 ghost use Rattle.ckc_base.specs.MemoryMap.{longest_data};
-ghost use Rattle.ckc_outside.specs.Outside.{Rose, Puts};
+ghost use Rattle.ckc_outside.specs.Outside.{faults_after, Puts};
 ghost use Rattle.ckc_image.specs.Image.{IsProper, word_at};
 ghost use Rattle.ckc_asm_listing.specs.Listing.{word_lines, data_lines, listing_lines, listing, shown_lines, shown_image, ended};
 ghost use Rattle.ckc_asm.specs.Program.{AsmOf};
@@ -15,8 +15,7 @@ use ckc_outside::{Failed, Sink};
 /// Puts the listing of entry, code and initial bytes, one piece for each line. It takes no memory.
 pub fn list<O: Sink>(entry: u32, code: &[u8], initial: &[u8], out: &mut O) -> Result<(), Failed>
     requires { IsProper entry code.now initial.now }
-    ensures counts { (O.seen out.old).faults ≤ (O.seen out.new).faults }
-    ensures failed { OnErr result (Rose (O.seen out.old).faults (O.seen out.new).faults) }
+    ensures faults { (O.seen out.new).faults ≡ faults_after result (O.seen out.old).faults }
     ensures told { (bytes : List ℕ) → (O.seen out.old).written ≡ Some bytes
         → Puts bytes (listing entry code.now initial.now) result (O.seen out.new).written }
     ensures pieces { PutsPieces (length (listing_lines entry code.now initial.now)) result
@@ -35,8 +34,7 @@ pub fn show<O: Sink>(
     out: &mut O,
 ) -> Result<(), Failed>
     requires { IsProper entry code.now initial.now }
-    ensures counts { (O.seen out.old).faults ≤ (O.seen out.new).faults }
-    ensures failed { OnErr result (Rose (O.seen out.old).faults (O.seen out.new).faults) }
+    ensures faults { (O.seen out.new).faults ≡ faults_after result (O.seen out.old).faults }
     ensures told { (bytes : List ℕ) → (O.seen out.old).written ≡ Some bytes
         → Puts bytes (shown_image format entry code.now initial.now) result
         (O.seen out.new).written }

@@ -5,7 +5,7 @@ use Rattle.ckc_outside.specs.declared.traits.Fetched.{Fetched}
 use Rattle.ckc_outside.specs.declared.traits.Fetched.TheVariants.{Whole, Longer}
 use Rattle.ckc_outside.specs.declared.traits.StoreError.{StoreError}
 use Rattle.ckc_outside.specs.declared.traits.StoreError.TheVariants.{Failed, Memory}
-use Rattle.ckc_outside.specs.Outside.{Files, Stored, Rose, GivesFile, IsWithin}
+use Rattle.ckc_outside.specs.Outside.{Files, Stored, GivesFile, IsWithin}
 use Rattle.ckc_cli_calls.specs.Files.{Holds, Gives}
 
 -- there is a list of each length
@@ -20,16 +20,15 @@ longer_file (Some here) name limit told =
     let p = told here refl in
     (p.0, (λ other e. let same : here ≡ other = cc in subst (λ (h : Files). fin.get h name ≡ Some p.0) same p.1), p.2)
 
-found : (f : Fetched) (name : List ℕ) (limit : ℕ) (before after : Stored) → IsWithin limit (Ok f)
-    → ((here : Files) → before.files ≡ Some here → GivesFile (fin.get here name) limit (Ok f)) → Gives name limit before after (Ok f)
-found (Whole bytes) name limit before after within told = ((λ here e. (told here e).0), within)
-found Longer name limit before after within told = longer_file before.files name limit told
+found : (f : Fetched) (name : List ℕ) (limit : ℕ) (before : Stored) → IsWithin limit (Ok f)
+    → ((here : Files) → before.files ≡ Some here → GivesFile (fin.get here name) limit (Ok f)) → Gives name limit before (Ok f)
+found (Whole bytes) name limit before within told = ((λ here e. (told here e).0), within)
+found Longer name limit before within told = longer_file before.files name limit told
 
-pub given : (r : Result Fetched StoreError) (name : List ℕ) (limit : ℕ) (before after : Stored) → IsWithin limit r
+pub given : (r : Result Fetched StoreError) (name : List ℕ) (limit : ℕ) (before : Stored) → IsWithin limit r
     → ((here : Files) → before.files ≡ Some here → GivesFile (fin.get here name) limit r)
-    → (IsErrOf r Failed → Rose before.faults after.faults)
     → ((here : Files) → IsTrue before.steady → before.files ≡ Some here → IsErrOf r Failed → fin.get here name ≡ None)
-    → Gives name limit before after r
-given (Ok f) name limit before after within told failed lacks = found f name limit before after within told
-given (Err Failed) name limit before after within told failed lacks = (failed refl, λ here t e. lacks here t e refl)
-given (Err Memory) name limit before after within told failed lacks = tt
+    → Gives name limit before r
+given (Ok f) name limit before within told lacks = found f name limit before within told
+given (Err Failed) name limit before within told lacks = λ here t e. lacks here t e refl
+given (Err Memory) name limit before within told lacks = tt

@@ -6,7 +6,7 @@ use Rattle.ckc_outside.specs.declared.traits.Fetched.TheVariants.{Whole, Longer}
 use Rattle.ckc_outside.specs.declared.traits.StoreError.{StoreError}
 use Rattle.ckc_outside.specs.declared.traits.StoreError.TheVariants.{Failed, Memory}
 use Rattle.ckc_outside.specs.Outside as outside
-use Rattle.ckc_outside.specs.Outside.{Files, Stored, Rose, one_more, after_keep}
+use Rattle.ckc_outside.specs.Outside.{Files, Stored, one_more, after_keep}
 
 -- The store tells these bytes under the name, or tells nothing.
 abbrev pub Holds : Option Files → List ℕ → List ℕ → Type 0
@@ -22,10 +22,9 @@ pub record Unkept (before after : Stored) : Type 0 where
   pub keeps : after.keeps ≡ before.keeps
   pub kept : after.kept ≡ before.kept
 
--- Nothing was kept; faults may have come, and a steady store stays so.
+-- Nothing was kept, and a steady store stays so.
 pub record OnlyFetched (before after : Stored) : Type 0 where
   pub unkept : Unkept before after
-  pub faults : before.faults ≤ after.faults
   pub steady : IsTrue before.steady → IsTrue after.steady
 
 -- the bytes were kept in one call, with this answer
@@ -38,9 +37,9 @@ pub record KeptOnce (before after : Stored) (name bytes : List ℕ) (result : Re
 abbrev pub IsLacking : Stored → List ℕ → Type 0
 IsLacking before name = (here : Files) → IsTrue before.steady → before.files ≡ Some here → fin.get here name ≡ None
 
--- the bytes under the name, or that there are more than the limit; a failure is counted
-abbrev pub Gives : List ℕ → ℕ → Stored → Stored → Result Fetched StoreError → Type 0
-Gives name limit before after (Ok (Whole bytes)) = Holds before.files name bytes × (length bytes ≤ limit)
-Gives name limit before after (Ok Longer) = (bytes : List ℕ) × Holds before.files name bytes × (limit < length bytes)
-Gives name limit before after (Err Failed) = Rose before.faults after.faults × IsLacking before name
-Gives name limit before after (Err Memory) = Unit {0}
+-- the bytes under the name, or that there are more than the limit
+abbrev pub Gives : List ℕ → ℕ → Stored → Result Fetched StoreError → Type 0
+Gives name limit before (Ok (Whole bytes)) = Holds before.files name bytes × (length bytes ≤ limit)
+Gives name limit before (Ok Longer) = (bytes : List ℕ) × Holds before.files name bytes × (limit < length bytes)
+Gives name limit before (Err Failed) = IsLacking before name
+Gives name limit before (Err Memory) = Unit {0}

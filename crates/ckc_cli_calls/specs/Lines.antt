@@ -9,6 +9,11 @@ Reported [] old new rose = new ≡ old
 Reported (c ∷ line) old new rose =
     (before : List ℕ) → old ≡ Some before → (new ≡ Some (before ++ c ∷ line)) ⊎ (rose × (k : ℕ) × (new ≡ Some (before ++ take k (c ∷ line))))
 
+-- A count of faults after a line was put: one more, or the same; an empty line is not put.
+abbrev pub MayFail : List ℕ → ℕ → ℕ → Type 0
+MayFail [] old new = new ≡ old
+MayFail (c ∷ line) old new = (new ≡ old) ⊎ (new ≡ one_more old)
+
 -- how many pieces were put; an empty line is not put
 abbrev pub puts_after : List ℕ → ℕ → ℕ
 puts_after [] n = n
