@@ -13,12 +13,13 @@ use Rattle.ckc_cli_commands.specs.Outcomes.{Outcome, Refuses, IsBad, Keeps, Puts
 use Rattle.ckc_cli_commands.specs.Commands.{Fetch, fetches_of, Reads, Makes}
 use Rattle.ckc_cli_commands.specs.Running.{Ran, Listed, whole, front, status_of}
 use Rattle.ckc_cli_commands.specs.Interpreting.{ShowsAs}
-use Rattle.ckc_cli_commands.specs.Causes.{Each, Holds, HoldsEach, LacksFirst, IsLacking, Keeping, kept, failed, no_memory, Comes, made, not_fetched, fetched, Caused, usage, obeyed}
+use Rattle.ckc_cli_commands.specs.Causes.{Each, Holds, HoldsEach, LacksFirst, IsLacking, Keeping, kept, failed, no_memory, Comes, made, not_fetched, fetched, Caused, usage, obeyed, FailsOnce}
 use Rattle.ckc_cli.specs.Objects.{Tells, StoreIsFine}
 use Rattle.ckc_cli.specs.Laws.{Given, Agrees, PutsText}
 use Rattle.ckc_cli.proofs.OneOutcome.{one_outcome}
 use Rattle.ckc_cli.proofs.OneCommand.{reads_once}
 use Rattle.ckc_cli.proofs.Statuses.{not_shown, not_meant}
+use Rattle.ckc_cli.proofs.Failing.{store_rose}
 
 -- ---- what was fetched
 
@@ -60,12 +61,12 @@ module _ (words : List (List ℕ)) (before after : World) (same : Untouched) (co
       by_fine (inl not_risen) = not_risen rose
       by_fine (inr steady) = never_lacks before.store (fetches_of command) bytes steady g.told (subst (λ (c : Command). LacksFirst before.store (fetches_of c)) (reads_once words other command r g.reads) lacks)
 
-  pub result_of : (s : Status) → Caused words before after same s → Result s
-  result_of s (usage none e i k) = absurd (none command g.reads)
-  result_of s (obeyed other r (not_fetched (failed e rose lacks) i)) = absurd (no_store other r rose lacks)
-  result_of s (obeyed other r (not_fetched (no_memory e) i)) = inr e
-  result_of s (obeyed other r (fetched found h (no_memory e i))) = inr e
-  result_of s (obeyed other r (fetched found h (made o x c))) =
+  pub result_of : (s : Status) → Caused words before after same s → FailsOnce before after s → Result s
+  result_of s (usage none e i k) fails = absurd (none command g.reads)
+  result_of s (obeyed other r (not_fetched part others both a (failed e lacks) i)) fails = absurd (no_store other r (store_rose before after s fails e) lacks)
+  result_of s (obeyed other r (not_fetched part others both a (no_memory e) i)) fails = inr e
+  result_of s (obeyed other r (fetched found a h (no_memory e i))) fails = inr e
+  result_of s (obeyed other r (fetched found a h (made o x c))) fails =
       let is = reads_once words other command r g.reads in
       let here = same_files before.store.files (fetches_of command) found bytes (subst (λ (c : Command). HoldsEach before.store.files (fetches_of c) found) is h) g.told in
       inl (o, subst (λ (l : List (List ℕ)). Makes command l o) here (subst (λ (c : Command). Makes c found o) is x), c)
@@ -77,20 +78,20 @@ module _ (words : List (List ℕ)) (before after : World) (same : Untouched) (co
       by_fine (inl not_risen) = not_risen rose
       by_fine (inr steady) = unsteady steady
 
-  pub kept_fine : (s : Status) (name image : List ℕ) → Keeping name image before.store after.store s → (s ≡ status.Done) ⊎ (s ≡ status.Memory)
-  kept_fine s name image (kept e k) = inl e
-  kept_fine s name image (failed e k rose unsteady) = absurd (no_keep_fault rose unsteady)
-  kept_fine s name image (no_memory e k) = inr e
+  pub kept_fine : (s : Status) → FailsOnce before after s → (name image : List ℕ) → Keeping name image before.store after.store s → (s ≡ status.Done) ⊎ (s ≡ status.Memory)
+  kept_fine s fails name image (kept e k) = inl e
+  kept_fine s fails name image (failed e k unsteady) = absurd (no_keep_fault (store_rose before after s fails e) unsteady)
+  kept_fine s fails name image (no_memory e k) = inr e
 
   listed_fine : (s : Status) (text : List ℕ) → Listed text before.output.written after.output.written before.output.faults after.output.faults s → ¬ Rose before.output.faults after.output.faults → s ≡ status.Done
   listed_fine s text (whole e p) n = e
   listed_fine s text (front e rose p) n = absurd (n rose)
 
-  module _ (s : Status) (c : Caused words before after same s) where
+  module _ (s : Status) (c : Caused words before after same s) (fails : FailsOnce before after s) where
     -- what comes of an outcome that agrees with one that the command makes of the bytes
     by_outcome : (wanted : Outcome) → Makes command bytes wanted → (Holds : Type 0) → ((o : Outcome) → Makes command bytes o → Agrees wanted o → Comes o before after same s → Holds ⊎ (s ≡ status.Memory))
         → Holds ⊎ (s ≡ status.Memory)
-    by_outcome wanted x Holds h = by_result (result_of s c)
+    by_outcome wanted x Holds h = by_result (result_of s c fails)
       where
         by_result : Result s → Holds ⊎ (s ≡ status.Memory)
         by_result (inl r) = h r.0 r.1 (one_outcome command bytes wanted r.0 x r.1) r.2
@@ -130,7 +131,7 @@ module _ (words : List (List ℕ)) (before after : World) (same : Untouched) (co
         by_case : (o : Outcome) → Makes command bytes o → Agrees (Keeps name image) o → Comes o before after same s → (s ≡ status.Done) ⊎ (s ≡ status.Memory)
         by_case (Refuses fault) y a comes = absurd a
         by_case (IsBad part) y a comes = absurd a
-        by_case (Keeps other bytes) y a comes = kept_fine s other bytes comes.0
+        by_case (Keeps other bytes) y a comes = kept_fine s fails other bytes comes.0
         by_case (Puts text) y a comes = absurd a
         by_case (PutsLine line) y a comes = absurd a
         by_case (Executes parts limit) y a comes = absurd a
@@ -188,7 +189,7 @@ module _ (words : List (List ℕ)) (before after : World) (same : Untouched) (co
 
     -- no fault of the store comes
     pub never_store_fault : s ≡ status.StoreFault → ⊥
-    never_store_fault q = by_result (result_of s c)
+    never_store_fault q = by_result (result_of s c fails)
       where
         done_or_memory : (s ≡ status.Done) ⊎ (s ≡ status.Memory) → ⊥
         done_or_memory (inl e) = let z : status.Done ≡ status.StoreFault = sym e ∙ q in cc
@@ -201,7 +202,7 @@ module _ (words : List (List ℕ)) (before after : World) (same : Untouched) (co
         by_case : (o : Outcome) → Comes o before after same s → ⊥
         by_case (Refuses fault) comes = let z : status.Refused fault ≡ status.StoreFault = sym comes.0 ∙ q in cc
         by_case (IsBad part) comes = let z : status.BadImage part ≡ status.StoreFault = sym comes.0 ∙ q in cc
-        by_case (Keeps name image) comes = done_or_memory (kept_fine s name image comes.0)
+        by_case (Keeps name image) comes = done_or_memory (kept_fine s fails name image comes.0)
         by_case (Puts text) comes = by_listing text comes.0
         by_case (PutsLine line) comes = by_listing line comes.0
         by_case (Executes parts limit) comes = not_shown comes.0.0 status.StoreFault (sym comes.0.1 ∙ q) refl

@@ -17,7 +17,7 @@ use Rattle.ckc_cli_commands.specs.Commands.{a_text, fetches_of, Reads, Makes}
 use Rattle.ckc_cli_commands.specs.Checking.{checked_line}
 use Rattle.ckc_cli_commands.specs.Running.{Listed, whole, front}
 use Rattle.ckc_cli_commands.specs.Causes as causes
-use Rattle.ckc_cli_commands.specs.Causes.{HoldsEach, Comes, Caused, usage, obeyed, not_fetched, fetched, made}
+use Rattle.ckc_cli_commands.specs.Causes.{HoldsEach, Comes, Caused, FailsOnce, usage, obeyed, not_fetched, fetched, made}
 use Rattle.ckc_cli.specs.Objects.{Tells, OfFile}
 use Rattle.ckc_cli.specs.Laws.{Over, Given}
 use Rattle.ckc_cli.specs.Checking.{IsSaid, Checking}
@@ -30,7 +30,7 @@ same_line : (line other : List ℕ) → outcome.PutsLine line ≡ outcome.PutsLi
 same_line line other e = cc
 
 module _ (never_stuck : (text : List ℕ) (p : Typed) → judging.Makes text p → WhollyChecked p → IsNeverStuck (elaborated p))
-    (words : List (List ℕ)) (before after : World) (same : Untouched) (name : List ℕ) (asked : Reads words (Judge name)) (s : Status) (cause : Caused words before after same s) where
+    (words : List (List ℕ)) (before after : World) (same : Untouched) (name : List ℕ) (asked : Reads words (Judge name)) (s : Status) (cause : Caused words before after same s) (fails : FailsOnce before after s) where
   printed_of : (line : List ℕ) → Listed line before.output.written after.output.written before.output.faults after.output.faults s → s ≡ status.Done → Printed before.output.written after.output.written line
   printed_of line (whole e p) q = p
   printed_of line (front e rose p) q = absurd (let z : status.Done ≡ status.WriteFault = sym q ∙ e in cc)
@@ -77,10 +77,10 @@ module _ (never_stuck : (text : List ℕ) (p : Typed) → judging.Makes text p �
     where
       by_cause : Caused words before after same s → Said
       by_cause (usage none e i k) = absurd (none (Judge name) asked)
-      by_cause (obeyed command r (not_fetched (causes.failed e rose lacks) i)) = absurd (let z : status.Done ≡ status.StoreFault = sym q ∙ e in cc)
-      by_cause (obeyed command r (not_fetched (causes.no_memory e) i)) = absurd (let z : status.Done ≡ status.Memory = sym q ∙ e in cc)
-      by_cause (obeyed command r (fetched bytes h (causes.no_memory e i))) = absurd (let z : status.Done ≡ status.Memory = sym q ∙ e in cc)
-      by_cause (obeyed command r (fetched bytes h (made o x c))) = said_comes command r bytes h o x c q
+      by_cause (obeyed command r (not_fetched part others both a (causes.failed e lacks) i)) = absurd (let z : status.Done ≡ status.StoreFault = sym q ∙ e in cc)
+      by_cause (obeyed command r (not_fetched part others both a (causes.no_memory e) i)) = absurd (let z : status.Done ≡ status.Memory = sym q ∙ e in cc)
+      by_cause (obeyed command r (fetched bytes a h (causes.no_memory e i))) = absurd (let z : status.Done ≡ status.Memory = sym q ∙ e in cc)
+      by_cause (obeyed command r (fetched bytes a h (made o x c))) = said_comes command r bytes h o x c q
 
   -- ---- refusals
 
@@ -102,7 +102,7 @@ module _ (never_stuck : (text : List ℕ) (p : Typed) → judging.Makes text p �
   pub checking : Checking name before after s
   checking = record {
     said = said_by;
-    said_always = λ text typed t fine n m. always.listed_always words before after same (Judge name) (text ∷ []) (given text t) fine s cause (checked_line typed) (inr (typed, m, refl)) n;
+    said_always = λ text typed t fine n m. always.listed_always words before after same (Judge name) (text ∷ []) (given text t) fine s cause fails (checked_line typed) (inr (typed, m, refl)) n;
     refused = refused_by;
-    refused_always = λ text fault t fine f. always.refused_always words before after same (Judge name) (text ∷ []) (given text t) fine s cause fault f;
+    refused_always = λ text fault t fine f. always.refused_always words before after same (Judge name) (text ∷ []) (given text t) fine s cause fails fault f;
   }

@@ -19,7 +19,7 @@ use Rattle.ckc_cli_commands.specs.Words.{Command, Build, Exec}
 use Rattle.ckc_cli_commands.specs.Outcomes.{Outcome, Refuses, IsBad, Keeps, Puts, PutsLine, Executes, Interprets}
 use Rattle.ckc_cli_commands.specs.Commands.{a_text, fetches_of, Reads, Makes}
 use Rattle.ckc_cli_commands.specs.Running.{Ran, status_of}
-use Rattle.ckc_cli_commands.specs.Causes.{HoldsEach, Comes, Caused}
+use Rattle.ckc_cli_commands.specs.Causes.{HoldsEach, Comes, Caused, FailsOnce}
 use Rattle.ckc_cli.specs.Objects.{Tells, OfFile, StoreIsFine, AllIsFine}
 use Rattle.ckc_cli.specs.Laws.{Over, Given, IsRun, RanBuilt}
 use Rattle.ckc_cli.specs.Agreeing.{Headline, OfInput, PrintedFirst, StandsAsMeant, GoesAsMeant, IsStuckAsMeant, StandsInTime, PutsInTime}
@@ -28,6 +28,7 @@ use Rattle.ckc_cli.proofs.OneOutcome.{Form, formed, built_by}
 use Rattle.ckc_cli.proofs.Headline.{ran_ended, ran_stopped, ran_going, ran_faulty, says_ended, says_stopped, ran_in_time, ran_put}
 use Rattle.ckc_cli.proofs.Always as always
 use Rattle.ckc_cli.proofs.Statuses as by
+use Rattle.ckc_cli.proofs.Failing.{input_rose, output_rose}
 
 bad_is_kept : (part : ℕ) (name image : List ℕ) → IsBad part ≡ Keeps name image → ⊥
 bad_is_kept part name image e = cc
@@ -35,16 +36,16 @@ bad_is_kept part name image e = cc
 bad_is_run : (part : ℕ) (parts : Parts) (limit : ℕ) → IsBad part ≡ Executes parts limit → ⊥
 bad_is_run part parts limit e = cc
 
-module _ (words : List (List ℕ)) (before after : World) (same : Untouched) (s : Status) (cause : Caused words before after same s) where
+module _ (words : List (List ℕ)) (before after : World) (same : Untouched) (s : Status) (cause : Caused words before after same s) (fails : FailsOnce before after s) where
   -- `build` of a text that has a meaning
   pub built_always : (source name text : List ℕ) (p : Program) → Given words before.store.files (Build source name) (text ∷ []) → StoreIsFine before.store after.store → HasMeaning text p
       → (s ≡ status.Done) ⊎ (s ≡ status.Memory)
-  built_always source name text p g fine m = by_result (always.result_of words before after same (Build source name) (text ∷ []) g fine s cause)
+  built_always source name text p g fine m = by_result (always.result_of words before after same (Build source name) (text ∷ []) g fine s cause fails)
     where
       by_outcome : (o : Outcome) → Makes (Build source name) (text ∷ []) o → Comes o before after same s → (s ≡ status.Done) ⊎ (s ≡ status.Memory)
       by_outcome (Refuses fault) x c = absurd (meanings_exact.never_both text p fault m x)
       by_outcome (IsBad part) x c = absurd (bad_is_kept part name x.0 x.2)
-      by_outcome (Keeps place image) x c = always.kept_fine words before after same (Build source name) (text ∷ []) g fine s place image c.0
+      by_outcome (Keeps place image) x c = always.kept_fine words before after same (Build source name) (text ∷ []) g fine s fails place image c.0
       by_outcome (Puts listing) x c = absurd (formed (Build source name) (text ∷ []) (Puts listing) x)
       by_outcome (PutsLine line) x c = absurd (formed (Build source name) (text ∷ []) (PutsLine line) x)
       by_outcome (Executes parts most) x c = absurd (formed (Build source name) (text ∷ []) (Executes parts most) x)
@@ -57,7 +58,7 @@ module _ (words : List (List ℕ)) (before after : World) (same : Untouched) (s 
   -- `exec` of a text that has a meaning
   module _ (name text : List ℕ) (limit : ℕ) (p : Program) (g : Given words before.store.files (Exec name limit) (text ∷ [])) (m : HasMeaning text p) where
     pub run_always : StoreIsFine before.store after.store → RanBuilt text limit before after same s ⊎ (s ≡ status.Memory)
-    run_always fine = by_result (always.result_of words before after same (Exec name limit) (text ∷ []) g fine s cause)
+    run_always fine = by_result (always.result_of words before after same (Exec name limit) (text ∷ []) g fine s cause fails)
       where
         by_outcome : (o : Outcome) → Makes (Exec name limit) (text ∷ []) o → Comes o before after same s → RanBuilt text limit before after same s ⊎ (s ≡ status.Memory)
         by_outcome (Refuses fault) x c = absurd (meanings_exact.never_both text p fault m x)
@@ -84,7 +85,7 @@ module _ (words : List (List ℕ)) (before after : World) (same : Untouched) (s 
       by_run Shows h = at (run_always fine.store)
         where
           at : RanBuilt text limit before after same s ⊎ (s ≡ status.Memory) → ((o : Observed) × (s ≡ status_of o) × Shows o) ⊎ (s ≡ status.Memory)
-          at (inl x) = inl (x.1, x.3, h x (λ q. fine.input (x.4.read_fault q)) (λ q. fine.output (x.4.write_fault q)) (meanings_exact.made_once text p x.2.program m x.2.means))
+          at (inl x) = inl (x.1, x.3, h x (λ q. fine.input (input_rose before after s fails (x.3 ∙ ap status_of q))) (λ q. fine.output (output_rose before after s fails (x.3 ∙ ap status_of q))) (meanings_exact.made_once text p x.2.program m x.2.means))
           at (inr e) = inr e
 
       stands_always : (stands : Standing) → IsOver stands → OfInput before.input.left (StandsInTime p limit stands) → ((o : Observed) × (s ≡ status_of o) × Says o stands) ⊎ (s ≡ status.Memory)

@@ -1,5 +1,5 @@
 -- What a call leaves: what it put and took, what it kept, and the files.
-use Rattle.std.proofs.Common.{◌≡◌, ◌≢◌, ◌⊎◌, inl, inr, ℕ, Bool, true, false, cond, List, Some, Result, Ok, Err, refl, sym, ap, subst, ◌∙◌, arith}
+use Rattle.std.proofs.Common.{◌≡◌, ◌≢◌, ◌⊎◌, inl, inr, ℕ, Bool, true, false, cond, List, Some, Result, Ok, Err, refl, sym, ap, subst, ◌∙◌}
 use Rattle.std.specs.FinMap as fin
 use Rattle.std.specs.Str.{bytes_eq}
 use Rattle.std.specs.Ordering.{nat_cmp, eq_by_cmp}
@@ -11,6 +11,7 @@ use Rattle.std.proofs.lemmas.Slice.Eq.{bytes_eq-Decides}
 use Rattle.ckc_outside.specs.declared.traits.StoreError as errors
 use Rattle.ckc_outside.specs.declared.traits.StoreError.TheVariants as error
 use Rattle.ckc_outside.specs.Outside.{Files, Rose, one_more}
+use Rattle.ckc_cli_calls.proofs.Reports.{rose_by_one}
 use Rattle.ckc_cli_commands.specs.declared.status.Status.{Status}
 use Rattle.ckc_cli_commands.specs.declared.status.Status.TheVariants as status
 use Rattle.ckc_cli_commands.specs.World.{World, Untouched}
@@ -39,10 +40,6 @@ others_same : (here : Files) (name bytes other : List ℕ) → other ≢ name �
 others_same here name bytes other n =
     fin.get-insert nat_list_cmp_total here name bytes other ∙ ap (λ b. cond b (Some bytes) (fin.get here other)) (apart name other n)
 
--- one more is a rise
-rose_by_one : (n m : ℕ) → m ≡ one_more n → Rose n m
-rose_by_one n m e = grind (arith, e)
-
 module _ (words : List (List ℕ)) (before after : World) (same : Untouched) where
   -- no meaning is asked for if memory ran out
   abbrev pub NoneAsked : Status → Type 0
@@ -69,9 +66,9 @@ module _ (words : List (List ℕ)) (before after : World) (same : Untouched) whe
   -- under these statuses nothing was put or taken
   pub idle_by : (s : Status) → Caused words before after same s → shows_run s ≡ false → s ≢ status.Done → NoneAsked s → same.output × same.input
   idle_by s (usage none e i k) w d n = (i.put, i.took)
-  idle_by s (obeyed command r (not_fetched u i)) w d n = (i.put, i.took)
-  idle_by s (obeyed command r (fetched bytes h (no_memory e i))) w d n = (i.put, i.took)
-  idle_by s (obeyed command r (fetched bytes h (made o x c))) w d n = idle_comes command r bytes s o x c w d n
+  idle_by s (obeyed command r (not_fetched part others both a u i)) w d n = (i.put, i.took)
+  idle_by s (obeyed command r (fetched bytes a h (no_memory e i))) w d n = (i.put, i.took)
+  idle_by s (obeyed command r (fetched bytes a h (made o x c))) w d n = idle_comes command r bytes s o x c w d n
 
   -- a command that keeps an image puts and takes nothing
   keeper_comes : (s : Status) (o : Outcome) (command : Command) (text target : List ℕ) → (command ≡ Build text target) ⊎ (command ≡ Assemble text target) → Form o command → Comes o before after same s → same.output × same.input
@@ -97,9 +94,9 @@ module _ (words : List (List ℕ)) (before after : World) (same : Untouched) whe
 
   pub keeper_touches : (s : Status) → Caused words before after same s → (target : List ℕ) → AsksToKeep words target → same.output × same.input
   keeper_touches s (usage none e i k) target w = (i.put, i.took)
-  keeper_touches s (obeyed command r (not_fetched u i)) target w = (i.put, i.took)
-  keeper_touches s (obeyed command r (fetched bytes h (no_memory e i))) target w = (i.put, i.took)
-  keeper_touches s (obeyed command r (fetched bytes h (made o x c))) target w = keeper_comes s o command w.0 target (asks_of command target r w) (formed command bytes o x) c
+  keeper_touches s (obeyed command r (not_fetched part others both a u i)) target w = (i.put, i.took)
+  keeper_touches s (obeyed command r (fetched bytes a h (no_memory e i))) target w = (i.put, i.took)
+  keeper_touches s (obeyed command r (fetched bytes a h (made o x c))) target w = keeper_comes s o command w.0 target (asks_of command target r w) (formed command bytes o x) c
 
   list_comes : (s : Status) (o : Outcome) (target : List ℕ) → Form o (Show target) → Comes o before after same s → same.input
   list_comes s (Refuses fault) target f c = c.1.took
@@ -112,9 +109,9 @@ module _ (words : List (List ℕ)) (before after : World) (same : Untouched) whe
 
   pub list_takes_nothing : (s : Status) → Caused words before after same s → (target : List ℕ) → Reads words (Show target) → same.input
   list_takes_nothing s (usage none e i k) target w = i.took
-  list_takes_nothing s (obeyed command r (not_fetched u i)) target w = i.took
-  list_takes_nothing s (obeyed command r (fetched bytes h (no_memory e i))) target w = i.took
-  list_takes_nothing s (obeyed command r (fetched bytes h (made o x c))) target w =
+  list_takes_nothing s (obeyed command r (not_fetched part others both a u i)) target w = i.took
+  list_takes_nothing s (obeyed command r (fetched bytes a h (no_memory e i))) target w = i.took
+  list_takes_nothing s (obeyed command r (fetched bytes a h (made o x c))) target w =
       list_comes s o target (subst (Form o) (reads_once words command (Show target) r w) (formed command bytes o x)) c
 
   check_comes : (s : Status) (o : Outcome) (target : List ℕ) → Form o (Judge target) → Comes o before after same s → same.input
@@ -128,9 +125,9 @@ module _ (words : List (List ℕ)) (before after : World) (same : Untouched) whe
 
   pub check_takes_nothing : (s : Status) → Caused words before after same s → (target : List ℕ) → Reads words (Judge target) → same.input
   check_takes_nothing s (usage none e i k) target w = i.took
-  check_takes_nothing s (obeyed command r (not_fetched u i)) target w = i.took
-  check_takes_nothing s (obeyed command r (fetched bytes h (no_memory e i))) target w = i.took
-  check_takes_nothing s (obeyed command r (fetched bytes h (made o x c))) target w =
+  check_takes_nothing s (obeyed command r (not_fetched part others both a u i)) target w = i.took
+  check_takes_nothing s (obeyed command r (fetched bytes a h (no_memory e i))) target w = i.took
+  check_takes_nothing s (obeyed command r (fetched bytes a h (made o x c))) target w =
       check_comes s o target (subst (Form o) (reads_once words command (Judge target) r w) (formed command bytes o x)) c
 
   -- ---- what was kept
@@ -153,18 +150,18 @@ module _ (words : List (List ℕ)) (before after : World) (same : Untouched) whe
 
   left : (s : Status) → Caused words before after same s → Left s
   left s (usage none e i k) = nothing i.unkept
-  left s (obeyed command r (not_fetched u i)) = nothing i.unkept
-  left s (obeyed command r (fetched bytes h (no_memory e i))) = nothing i.unkept
-  left s (obeyed command r (fetched bytes h (made o x c))) = left_comes s command r bytes h o x c
+  left s (obeyed command r (not_fetched part others both a u i)) = nothing i.unkept
+  left s (obeyed command r (fetched bytes a h (no_memory e i))) = nothing i.unkept
+  left s (obeyed command r (fetched bytes a h (made o x c))) = left_comes s command r bytes h o x c
 
   keeps_of : (s : Status) (name image : List ℕ) → Keeping name image before.store after.store s → after.store.keeps ≡ one_more before.store.keeps
   keeps_of s name image (kept e k) = k.keeps
-  keeps_of s name image (failed e k rose t) = k.keeps
+  keeps_of s name image (failed e k t) = k.keeps
   keeps_of s name image (no_memory e k) = k.keeps
 
   kept_of : (s : Status) (name image : List ℕ) → Keeping name image before.store after.store s → s ≢ status.Done → after.store.kept ≡ before.store.kept
   kept_of s name image (kept e k) n = absurd (n e)
-  kept_of s name image (failed e k rose t) n = k.kept
+  kept_of s name image (failed e k t) n = k.kept
   kept_of s name image (no_memory e k) n = k.kept
 
   once_by : (s : Status) → Left s → (after.store.keeps ≡ before.store.keeps) ⊎ (after.store.keeps ≡ one_more before.store.keeps)
@@ -220,7 +217,7 @@ module _ (words : List (List ℕ)) (before after : World) (same : Untouched) whe
 
   refused_by : (s : Status) (name image : List ℕ) → Keeping name image before.store after.store s → s ≢ status.Done → s ≢ status.StoreFault → s ≢ status.Memory → ⊥
   refused_by s name image (kept e k) d t m = d e
-  refused_by s name image (failed e k rose w) d t m = t e
+  refused_by s name image (failed e k w) d t m = t e
   refused_by s name image (no_memory e k) d t m = m e
 
   same_by : (s : Status) → Left s → s ≢ status.Done → s ≢ status.StoreFault → s ≢ status.Memory → after.store.files ≡ before.store.files
@@ -237,7 +234,7 @@ module _ (words : List (List ℕ)) (before after : World) (same : Untouched) whe
 
   kept_others : (s : Status) (target name image : List ℕ) → name ≡ target → Keeping name image before.store after.store s → KeepsOthers target before.store.files after.store.files
   kept_others s target name image e (kept d k) = kept_one target name image (Ok tt) e k.files
-  kept_others s target name image e (failed d k rose w) = kept_one target name image (Err error.Failed) e k.files
+  kept_others s target name image e (failed d k w) = kept_one target name image (Err error.Failed) e k.files
   kept_others s target name image e (no_memory d k) = kept_one target name image (Err error.Memory) e k.files
 
   target_is : (command : Command) (name image text target : List ℕ) → Form (Keeps name image) command → (command ≡ Build text target) ⊎ (command ≡ Assemble text target) → name ≡ target

@@ -1,5 +1,5 @@
 -- What comes of `interp`.
-use Rattle.std.proofs.Common.{◌≡◌, ◌≢◌, ◌⊎◌, inl, inr, ℕ, ◌≤◌, ◌<◌, List, [], ◌∷◌, Option, Some, refl, sym, ap, subst, ◌∙◌, arith}
+use Rattle.std.proofs.Common.{◌≡◌, ◌≢◌, ◌⊎◌, inl, inr, ℕ, ◌≤◌, ◌<◌, List, [], ◌∷◌, Some, refl, sym, ap, subst, ◌∙◌, arith}
 use Rattle.std.proofs.lemmas.Bool.{cases_lt}
 use Rattle.ckc_base.specs.declared.places.Pos.{Pos}
 use Rattle.ckc_base.specs.declared.runtime_checks.Check.{Check}
@@ -7,6 +7,7 @@ use Rattle.ckc_base.specs.Traces.{Event, Standing, Going, Ended, Stopped, Stuck,
 use Rattle.ckc_base.proofs.Runs.{shown-later}
 use Rattle.ckc_source.specs.Code.{Program}
 use Rattle.ckc_source.specs.Source.{source_system, first_state, place_after, unchecked_since}
+use Rattle.ckc_outside.specs.Given.{Streams}
 use Rattle.ckc_interp.specs.declared.seen.Seen as seens
 use Rattle.ckc_interp.specs.declared.seen.Seen.TheVariants as seen
 use Rattle.ckc_interp.specs.Runs.{Interprets, Comes}
@@ -18,15 +19,16 @@ use Rattle.ckc_cli_commands.specs.Words.{Command, Interp}
 use Rattle.ckc_cli_commands.specs.Outcomes as outcome
 use Rattle.ckc_cli_commands.specs.Outcomes.{Outcome}
 use Rattle.ckc_cli_commands.specs.Commands.{a_text, fetches_of, Reads, Makes}
-use Rattle.ckc_cli_commands.specs.Interpreting.{Interpreted, ShowsAs, meant_status}
+use Rattle.ckc_cli_commands.specs.Interpreting.{Interpreted, ShowsAs, meant_status, streams_of}
 use Rattle.ckc_cli_commands.specs.Causes as causes
-use Rattle.ckc_cli_commands.specs.Causes.{HoldsEach, Caused, usage, obeyed, not_fetched, fetched, made}
+use Rattle.ckc_cli_commands.specs.Causes.{HoldsEach, Caused, FailsOnce, usage, obeyed, not_fetched, fetched, made}
 use Rattle.ckc_cli.specs.Objects.{Tells, OfFile, StoreIsFine, AllIsFine}
 use Rattle.ckc_cli.specs.Meaning.{Meaning, ShowsMeaning, IsStuckFirst, standing_after}
 use Rattle.ckc_cli.proofs.OneCommand.{reads_once}
 use Rattle.ckc_cli.proofs.OneOutcome.{Form, formed, meant_by}
 use Rattle.ckc_cli.proofs.Always as always
 use Rattle.ckc_cli.proofs.Statuses.{same_meant, not_meant}
+use Rattle.ckc_cli.proofs.Failing.{input_rose, output_rose}
 
 -- ---- how a program stands at the limit
 
@@ -37,9 +39,9 @@ module _ (p : Program) (given : List ℕ) where
       let later = shown-later (source_system p) n k 0 [] (first_state p given) le in
       ap (λ (a : Showing Event). a.standing) (later.stays (λ going. h (sym e ∙ going))) ∙ e
 
-  module _ (limit : ℕ) (written written' : Option (List ℕ)) (left : List ℕ) where
+  module _ (limit : ℕ) (old new : Streams) (left : List ℕ) where
     abbrev Shows : seens.Seen → Type 0
-    Shows o = Interprets p limit written written' o given left
+    Shows o = Interprets p limit old new o given left
 
     abbrev AtLimit : seens.Seen → Type 0
     AtLimit (seen.Ended value) = standing_after p given limit ≡ Ended value
@@ -90,7 +92,7 @@ module _ (p : Program) (given : List ℕ) where
     going_at e seen.WriteFault a r w = absurd (w refl)
     going_at e seen.Memory a r w = inr refl
 
-    same_first : (n m : ℕ) → IsStuckFirst p given n → Comes p given left limit m written written' Stuck → m ≡ n
+    same_first : (n m : ℕ) → IsStuckFirst p given n → Comes p given left limit m old new Stuck → m ≡ n
     same_first n m f c = by_order (cases_lt n m) (cases_lt m n)
       where
         by_order : (n < m) ⊎ (m ≤ n) → (m < n) ⊎ (n ≤ m) → m ≡ n
@@ -112,7 +114,7 @@ module _ (p : Program) (given : List ℕ) where
 
 -- ---- at the top
 
-module _ (words : List (List ℕ)) (before after : World) (same : Untouched) (name : List ℕ) (limit : ℕ) (asked : Reads words (Interp name limit)) (s : Status) (cause : Caused words before after same s) where
+module _ (words : List (List ℕ)) (before after : World) (same : Untouched) (name : List ℕ) (limit : ℕ) (asked : Reads words (Interp name limit)) (s : Status) (cause : Caused words before after same s) (fails : FailsOnce before after s) where
   -- what the command makes of the bytes, it makes of the one text
   over_meant : (bytes : List (List ℕ)) → HoldsEach before.store.files (a_text name ∷ []) bytes → (p : Program) (most : ℕ) → Makes (Interp name limit) bytes (outcome.Interprets p most)
       → (o : seens.Seen) → Interpreted p most before after o → OfFile before.store.files name (ShowsMeaning limit before after o)
@@ -149,33 +151,39 @@ module _ (words : List (List ℕ)) (before after : World) (same : Untouched) (na
     where
       by_cause : Caused words before after same s → OfFile before.store.files name (ShowsMeaning limit before after wanted)
       by_cause (usage none e i k) = absurd (none (Interp name limit) asked)
-      by_cause (obeyed command r (not_fetched (causes.failed e rose lacks) i)) = absurd (not_meant wanted status.StoreFault (sym q ∙ e) refl)
-      by_cause (obeyed command r (not_fetched (causes.no_memory e) i)) = absurd (m (same_meant wanted seen.Memory (sym q ∙ e)))
-      by_cause (obeyed command r (fetched bytes h (causes.no_memory e i))) = absurd (m (same_meant wanted seen.Memory (sym q ∙ e)))
-      by_cause (obeyed command r (fetched bytes h (made o x c))) = shown_comes command r bytes h o x c wanted q
+      by_cause (obeyed command r (not_fetched part others both a (causes.failed e lacks) i)) = absurd (not_meant wanted status.StoreFault (sym q ∙ e) refl)
+      by_cause (obeyed command r (not_fetched part others both a (causes.no_memory e) i)) = absurd (m (same_meant wanted seen.Memory (sym q ∙ e)))
+      by_cause (obeyed command r (fetched bytes a h (causes.no_memory e i))) = absurd (m (same_meant wanted seen.Memory (sym q ∙ e)))
+      by_cause (obeyed command r (fetched bytes a h (made o x c))) = shown_comes command r bytes h o x c wanted q
 
   memory_by : s ≡ status.Memory → (same.output × same.input) ⊎ OfFile before.store.files name (ShowsMeaning limit before after seen.Memory)
   memory_by q = by_cause cause
     where
       by_cause : Caused words before after same s → (same.output × same.input) ⊎ OfFile before.store.files name (ShowsMeaning limit before after seen.Memory)
       by_cause (usage none e i k) = inl (i.put, i.took)
-      by_cause (obeyed command r (not_fetched u i)) = inl (i.put, i.took)
-      by_cause (obeyed command r (fetched bytes h (causes.no_memory e i))) = inl (i.put, i.took)
-      by_cause (obeyed command r (fetched bytes h (made o x c))) = inr (shown_comes command r bytes h o x c seen.Memory q)
+      by_cause (obeyed command r (not_fetched part others both a u i)) = inl (i.put, i.took)
+      by_cause (obeyed command r (fetched bytes a h (causes.no_memory e i))) = inl (i.put, i.took)
+      by_cause (obeyed command r (fetched bytes a h (made o x c))) = inr (shown_comes command r bytes h o x c seen.Memory q)
 
   always_by : (text : List ℕ) (p : Program) → Tells before.store.files name text → StoreIsFine before.store after.store → HasMeaning text p → ShowsAs p limit before after s ⊎ (s ≡ status.Memory)
-  always_by text p t fine m = always.meant_always words before after same (Interp name limit) (text ∷ []) (record { reads = asked; told = (t, tt) }) fine s cause p limit (p, m, refl)
+  always_by text p t fine m = always.meant_always words before after same (Interp name limit) (text ∷ []) (record { reads = asked; told = (t, tt) }) fine s cause fails p limit (p, m, refl)
 
   pub meaning : Meaning name limit before after same s
   meaning = record { shown = shown_by; memory = memory_by; always = always_by }
 
 -- ---- if no object fails
 
-module _ (name : List ℕ) (limit : ℕ) (before after : World) (same : Untouched) (s : Status) (meaning : Meaning name limit before after same s)
+module _ (name : List ℕ) (limit : ℕ) (before after : World) (same : Untouched) (s : Status) (fails : FailsOnce before after s) (meaning : Meaning name limit before after same s)
     (text : List ℕ) (p : Program) (there : Tells before.store.files name text) (m : HasMeaning text p) where
   module _ (given : List ℕ) (told : before.input.left ≡ Some given) (fine : AllIsFine before after) where
+    abbrev old : Streams
+    old = streams_of before
+
+    abbrev new : Streams
+    new = streams_of after
+
     -- what every run that no object cuts short shows
-    by_told : (t : Status) → ((o : seens.Seen) (left : List ℕ) → Interprets p limit before.output.written after.output.written o given left → o ≢ seen.ReadFault → o ≢ seen.WriteFault
+    by_told : (t : Status) → ((o : seens.Seen) (left : List ℕ) → Interprets p limit old new o given left → o ≢ seen.ReadFault → o ≢ seen.WriteFault
         → (meant_status o ≡ t) ⊎ (meant_status o ≡ status.Memory)) → (s ≡ t) ⊎ (s ≡ status.Memory)
     by_told t h = shown_as (meaning.always text p there fine.store m)
       where
@@ -186,24 +194,24 @@ module _ (name : List ℕ) (limit : ℕ) (before after : World) (same : Untouche
         shown_as : ShowsAs p limit before after s ⊎ (s ≡ status.Memory) → (s ≡ t) ⊎ (s ≡ status.Memory)
         shown_as (inl x) =
             let run = x.2.told given told in
-            as_status x.0 x.1 (h x.0 run.0 run.2 (λ q. fine.input (x.2.read_fault q)) (λ q. fine.output (x.2.write_fault q)))
+            as_status x.0 x.1 (h x.0 run.0 run.2 (λ q. fine.input (input_rose before after s fails (x.1 ∙ ap meant_status q))) (λ q. fine.output (output_rose before after s fails (x.1 ∙ ap meant_status q))))
         shown_as (inr e) = inr e
 
     pub ended_always : (n value : ℕ) → n ≤ limit → standing_after p given n ≡ Ended value → (s ≡ status.Ended value) ⊎ (s ≡ status.Memory)
     ended_always n value le e =
         let final = stays p given n limit (Ended value) e (λ q. cc) le in
-        by_told (status.Ended value) (λ o left x r w. ended_at p given limit before.output.written after.output.written left value final o (at_limit p given limit before.output.written after.output.written left o x) r w)
+        by_told (status.Ended value) (λ o left x r w. ended_at p given limit old new left value final o (at_limit p given limit old new left o x) r w)
 
     pub stopped_always : (n : ℕ) (check : Check) (at : Pos) → n ≤ limit → standing_after p given n ≡ Stopped check at → (s ≡ status.Stopped check at) ⊎ (s ≡ status.Memory)
     stopped_always n check at le e =
         let final = stays p given n limit (Stopped check at) e (λ q. cc) le in
-        by_told (status.Stopped check at) (λ o left x r w. stopped_at p given limit before.output.written after.output.written left check at final o (at_limit p given limit before.output.written after.output.written left o x) r w)
+        by_told (status.Stopped check at) (λ o left x r w. stopped_at p given limit old new left check at final o (at_limit p given limit old new left o x) r w)
 
     pub going_always : standing_after p given limit ≡ Going → (s ≡ status.Going) ⊎ (s ≡ status.Memory)
-    going_always e = by_told status.Going (λ o left x r w. going_at p given limit before.output.written after.output.written left e o (at_limit p given limit before.output.written after.output.written left o x) r w)
+    going_always e = by_told status.Going (λ o left x r w. going_at p given limit old new left e o (at_limit p given limit old new left o x) r w)
 
     pub stuck_always : (n : ℕ) → n ≤ limit → IsStuckFirst p given n → (s ≡ status.Stuck (place_after p given n) (unchecked_since p given n)) ⊎ (s ≡ status.Memory)
     stuck_always n le f =
         let final = stays p given n limit Stuck f.stuck (λ q. cc) le in
         by_told (status.Stuck (place_after p given n) (unchecked_since p given n))
-        (λ o left x r w. stuck_at p given limit before.output.written after.output.written left n f final o x (at_limit p given limit before.output.written after.output.written left o x) r w)
+        (λ o left x r w. stuck_at p given limit old new left n f final o x (at_limit p given limit old new left o x) r w)

@@ -1,7 +1,6 @@
 -- What each status says.
 use Rattle.std.proofs.Common.{◌≡◌, ◌≢◌, ◌↔◌, inl, inr, ℕ, Bool, true, false, List, Option, refl, sym, ap, subst, ◌∙◌}
 use Rattle.ckc_base.specs.declared.places.Pos.{Pos}
-use Rattle.ckc_outside.specs.Outside.{Rose}
 use Rattle.ckc_rv.specs.Machine.{Parts}
 use Rattle.ckc_source.specs.Code.{Program}
 use Rattle.ckc_machine.specs.declared.observed.Observed.{Observed}
@@ -117,9 +116,9 @@ module _ (words : List (List ℕ)) (before after : World) (same : Untouched) whe
   Says status.Going = Over words before.store.files (IsRun before after same observed.Going)
   Says (status.MachineFault kind pc) = Over words before.store.files (IsRun before after same (observed.Fault kind pc))
   Says (status.Stuck at since) = Over words before.store.files (IsMeant before after (status.Stuck at since))
-  Says status.ReadFault = Rose before.input.faults after.input.faults × Over words before.store.files (IsRun before after same observed.ReadFault)
-  Says status.WriteFault = Rose before.output.faults after.output.faults × Over words before.store.files (IsCutShort before after same)
-  Says status.StoreFault = Rose before.store.faults after.store.faults
+  Says status.ReadFault = Over words before.store.files (IsRun before after same observed.ReadFault)
+  Says status.WriteFault = Over words before.store.files (IsCutShort before after same)
+  Says status.StoreFault = Unit {0}
   Says status.Memory = Unit {0}
 
   module _ (command : Command) (reads : Reads words command) (bytes : List (List ℕ)) (holds : HoldsEach before.store.files (fetches_of command) bytes) where
@@ -131,26 +130,26 @@ module _ (words : List (List ℕ)) (before after : World) (same : Untouched) whe
     ran_says parts limit x (observed.Stopped check at) r = over (IsRun before after same (observed.Stopped check at)) (inl (parts, limit, x, r))
     ran_says parts limit x observed.Going r = over (IsRun before after same observed.Going) (inl (parts, limit, x, r))
     ran_says parts limit x (observed.Fault kind pc) r = over (IsRun before after same (observed.Fault kind pc)) (inl (parts, limit, x, r))
-    ran_says parts limit x observed.ReadFault r = (r.read_fault refl, over (IsRun before after same observed.ReadFault) (inl (parts, limit, x, r)))
-    ran_says parts limit x observed.WriteFault r = (r.write_fault refl, over (IsCutShort before after same) (inl (inl (parts, limit, x, r))))
+    ran_says parts limit x observed.ReadFault r = over (IsRun before after same observed.ReadFault) (inl (parts, limit, x, r))
+    ran_says parts limit x observed.WriteFault r = over (IsCutShort before after same) (inl (inl (parts, limit, x, r)))
 
     meant_says : (p : Program) (limit : ℕ) → Makes command bytes (Interprets p limit) → (o : seens.Seen) → Interpreted p limit before after o → Says (meant_status o)
     meant_says p limit x (seen.Ended value) r = over (IsRun before after same (observed.Ended value)) (inr (p, limit, x, (seen.Ended value, refl, r)))
     meant_says p limit x (seen.Stopped check at) r = over (IsRun before after same (observed.Stopped check at)) (inr (p, limit, x, (seen.Stopped check at, refl, r)))
     meant_says p limit x seen.Going r = over (IsRun before after same observed.Going) (inr (p, limit, x, (seen.Going, refl, r)))
     meant_says p limit x (seen.Stuck at since) r = over (IsMeant before after (status.Stuck at since)) (p, limit, x, (seen.Stuck at since, refl, r))
-    meant_says p limit x seen.ReadFault r = (r.read_fault refl, over (IsRun before after same observed.ReadFault) (inr (p, limit, x, (seen.ReadFault, refl, r))))
-    meant_says p limit x seen.WriteFault r = (r.write_fault refl, over (IsCutShort before after same) (inl (inr (p, limit, x, (seen.WriteFault, refl, r)))))
+    meant_says p limit x seen.ReadFault r = over (IsRun before after same observed.ReadFault) (inr (p, limit, x, (seen.ReadFault, refl, r)))
+    meant_says p limit x seen.WriteFault r = over (IsCutShort before after same) (inl (inr (p, limit, x, (seen.WriteFault, refl, r))))
     meant_says p limit x seen.Memory r = tt
 
     keeping_says : (s : Status) (name image : List ℕ) → Makes command bytes (Keeps name image) → Keeping name image before.store after.store s → Says s
     keeping_says s name image x (kept e k) = subst Says (sym e) (over (IsDone before after) (inl (name, image, x, k.files)))
-    keeping_says s name image x (failed e k rose t) = subst Says (sym e) rose
+    keeping_says s name image x (failed e k t) = subst Says (sym e) tt
     keeping_says s name image x (no_memory e k) = subst Says (sym e) tt
 
     listed_says : (s : Status) (text : List ℕ) → PutsText command bytes text → Listed text before.output.written after.output.written before.output.faults after.output.faults s → Says s
     listed_says s text x (whole e p) = subst Says (sym e) (over (IsDone before after) (inr (text, x, p)))
-    listed_says s text x (front e rose p) = subst Says (sym e) (rose, over (IsCutShort before after same) (inr (text, x, p)))
+    listed_says s text x (front e rose p) = subst Says (sym e) (over (IsCutShort before after same) (inr (text, x, p)))
 
     comes_says : (s : Status) (o : Outcome) → Makes command bytes o → Comes o before after same s → Says s
     comes_says s (Refuses fault) x c = subst Says (sym c.0) (over (λ command bytes. Makes command bytes (Refuses fault)) x)
@@ -163,10 +162,10 @@ module _ (words : List (List ℕ)) (before after : World) (same : Untouched) whe
 
   says : (s : Status) → Caused words before after same s → Says s
   says s (usage none e i k) = subst Says (sym e) (none, i, k)
-  says s (obeyed command r (not_fetched (failed e rose lacks) i)) = subst Says (sym e) rose
-  says s (obeyed command r (not_fetched (no_memory e) i)) = subst Says (sym e) tt
-  says s (obeyed command r (fetched bytes h (made o x c))) = comes_says command r bytes h s o x c
-  says s (obeyed command r (fetched bytes h (no_memory e i))) = subst Says (sym e) tt
+  says s (obeyed command r (not_fetched part others both a (failed e lacks) i)) = subst Says (sym e) tt
+  says s (obeyed command r (not_fetched part others both a (no_memory e) i)) = subst Says (sym e) tt
+  says s (obeyed command r (fetched bytes a h (made o x c))) = comes_says command r bytes h s o x c
+  says s (obeyed command r (fetched bytes a h (no_memory e i))) = subst Says (sym e) tt
 
   -- what the cause of a status that is known says
   pub says_of : (s wanted : Status) → Caused words before after same s → s ≡ wanted → Says wanted
@@ -177,7 +176,7 @@ module _ (words : List (List ℕ)) (before after : World) (same : Untouched) whe
   shown_of (observed.Stopped check at) n x = x
   shown_of observed.Going n x = x
   shown_of (observed.Fault kind pc) n x = x
-  shown_of observed.ReadFault n x = x.1
+  shown_of observed.ReadFault n x = x
   shown_of observed.WriteFault n x = absurd (n refl)
 
   pub shown_by : (s : Status) → Caused words before after same s → (o : Observed) → o ≢ observed.WriteFault → s ≡ status_of o → Over words before.store.files (IsRun before after same o)

@@ -1,5 +1,5 @@
 -- What the store has under a name, and when no object fails.
-use Rattle.std.specs.Prelude.{◌≡◌, ◌⊎◌, ◌≤◌, List, ℕ, IsTrue, Option, Some}
+use Rattle.std.specs.Prelude.{◌≡◌, ◌⊎◌, List, ℕ, IsTrue, Option, Some}
 use Rattle.std.specs.FinMap as fin
 use Rattle.ckc_outside.specs.Outside.{Files, Stored, Rose}
 use Rattle.ckc_cli_commands.specs.World.{World}
@@ -22,10 +22,3 @@ pub record AllIsFine (before after : World) : Type 0 where
   pub store : StoreIsFine before.store after.store
   pub input : ¬ Rose before.input.faults after.input.faults
   pub output : ¬ Rose before.output.faults after.output.faults
-
--- the counts of faults did not fall
-pub record Counts (before after : World) : Type 0 where
-  pub input : before.input.faults ≤ after.input.faults
-  pub output : before.output.faults ≤ after.output.faults
-  pub error : before.error.faults ≤ after.error.faults
-  pub store : before.store.faults ≤ after.store.faults

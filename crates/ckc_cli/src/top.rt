@@ -1,15 +1,14 @@
-ghost use Rattle.std.specs.Prelude.{ℕ, List, ◌≡◌, ◌≤◌};
+ghost use Rattle.std.specs.Prelude.{ℕ, List, ◌≡◌};
 ghost use Rattle.ckc_outside.specs.Outside.{Rose};
 ghost use Rattle.ckc_cli_commands.specs.Words.{Exec, Interp, Judge, bytes_of};
 ghost use Rattle.ckc_cli_commands.specs.Commands.{Reads};
 ghost use Rattle.ckc_cli_commands.specs.World.{world, untouched};
-ghost use Rattle.ckc_cli_commands.specs.Causes.{Caused, Reported, puts_after};
+ghost use Rattle.ckc_cli_commands.specs.Causes.{Caused, FailsOnce, Reported, MayFail, puts_after};
 ghost use Rattle.ckc_cli_commands.specs.Report.{report_of};
 ghost use Rattle.ckc_cli.specs.Agreeing.{Headline};
 ghost use Rattle.ckc_cli.specs.Meaning.{Meaning};
 ghost use Rattle.ckc_cli.specs.Blame.{Blame};
 ghost use Rattle.ckc_cli.specs.Checking.{Checking};
-ghost use Rattle.ckc_cli.specs.Objects.{Counts};
 
 use ckc_build::unchecked_code_is_to_blame;
 use ckc_cli_calls::put_line;
@@ -63,10 +62,13 @@ pub fn ccc<S: Source, O: Sink, E: Sink, F: Store>(
         (Rose (E.seen err.old).faults (E.seen err.new).faults) }
     ensures once { (E.seen err.new).puts ≡ puts_after (report_of result) (E.seen err.old).puts }
 
-    // Counts of faults do not fall.
-    ensures counts { Counts
+    // What fails first ends the call: the input, the output and the store fail at most once, exactly if the status says
+    // so, and err at most once.
+    ensures fails { FailsOnce
         (world (S.seen input.old) (O.seen out.old) (E.seen err.old) (F.seen store.old))
-        (world (S.seen input.new) (O.seen out.new) (E.seen err.new) (F.seen store.new)) }
+        (world (S.seen input.new) (O.seen out.new) (E.seen err.new) (F.seen store.new)) result }
+    ensures err_fails { MayFail (report_of result)
+        (E.seen err.old).faults (E.seen err.new).faults }
 {
     unchecked_code_is_to_blame();
     let status = asked(alloc, words, input, out, store);
@@ -80,7 +82,8 @@ fn tell<E: Sink>(status: &Status, err: &mut E)
         (E.seen err.old).written (E.seen err.new).written
         (Rose (E.seen err.old).faults (E.seen err.new).faults) }
     ensures once { (E.seen err.new).puts ≡ puts_after (report_of status.now) (E.seen err.old).puts }
-    ensures counts { (E.seen err.old).faults ≤ (E.seen err.new).faults }
+    ensures faults { MayFail (report_of status.now)
+        (E.seen err.old).faults (E.seen err.new).faults }
 {
     let line = report(status);
     put_line(line.as_bytes(), err);

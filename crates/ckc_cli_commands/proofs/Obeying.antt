@@ -1,10 +1,10 @@
 -- What comes of each command, from what its parts gave.
-use Rattle.std.proofs.Common.{◌≡◌, inl, inr, ℕ, ◌<◌, ◌≤◌, List, [], ◌∷◌, length, Some, Result, Ok, Err, refl, ap, subst, ◌∙◌, arith}
+use Rattle.std.proofs.Common.{◌≡◌, inr, ℕ, ◌<◌, ◌≤◌, List, [], ◌∷◌, length, Some, Result, Ok, Err, refl, ap, subst, ◌∙◌}
 use Rattle.ckc_outside.specs.declared.traits.Fetched.{Fetched}
 use Rattle.ckc_outside.specs.declared.traits.Fetched.TheVariants.{Whole, Longer}
 use Rattle.ckc_outside.specs.declared.traits.StoreError as errors
 use Rattle.ckc_outside.specs.Outside as outside
-use Rattle.ckc_outside.specs.Outside.{Files, Rose, one_more, after_keep}
+use Rattle.ckc_outside.specs.Outside.{Files, one_more, after_keep, store_faults_after}
 use Rattle.ckc_rv.specs.Machine.{Parts}
 use Rattle.ckc_image.proofs.Agreement.{never_bad, same_parts}
 use Rattle.ckc_asm_listing.specs.Listing.{listing}
@@ -28,11 +28,11 @@ use Rattle.ckc_cli_commands.specs.code.Fetching.{Fetches}
 
 -- ---- what was fetched
 
-pub over_limit : (f : Fetched) (name : List ℕ) (limit : ℕ) (before after : Stored) → f ≡ Longer → Fetches name limit before after (Ok f) → (bytes : List ℕ) × Holds before.files name bytes × (limit < length bytes)
-over_limit f name limit before after e h = subst (λ (f : Fetched). Fetches name limit before after (Ok f)) e h
+pub over_limit : (f : Fetched) (name : List ℕ) (limit : ℕ) (before : Stored) → f ≡ Longer → Fetches name limit before (Ok f) → (bytes : List ℕ) × Holds before.files name bytes × (limit < length bytes)
+over_limit f name limit before e h = subst (λ (f : Fetched). Fetches name limit before (Ok f)) e h
 
-pub whole_of : (f : Fetched) (bytes name : List ℕ) (limit : ℕ) (before after : Stored) → f ≡ Whole bytes → Fetches name limit before after (Ok f) → Holds before.files name bytes × (length bytes ≤ limit)
-whole_of f bytes name limit before after e h = subst (λ (f : Fetched). Fetches name limit before after (Ok f)) e h
+pub whole_of : (f : Fetched) (bytes name : List ℕ) (limit : ℕ) (before : Stored) → f ≡ Whole bytes → Fetches name limit before (Ok f) → Holds before.files name bytes × (length bytes ≤ limit)
+whole_of f bytes name limit before e h = subst (λ (f : Fetched). Fetches name limit before (Ok f)) e h
 
 same_image : (bytes : List ℕ) (p q : Parts) → IsImage bytes p → IsImage bytes q → p ≡ q
 same_image bytes p q i j =
@@ -76,11 +76,6 @@ module _ (before after : World) (same : Untouched) (s : Status) where
 
 -- ---- what is kept
 
--- a count that rose later rose from before, too
-pub rose_from : (a b c : ℕ) → a ≤ b → Rose b c → Rose a c
-rose_from a b c h (inl r) = inl (omega (arith, h, r))
-rose_from a b c h (inr r) = inr r
-
 -- what one call of keep leaves, if nothing was kept before it
 pub kept_once : (before middle after : Stored) (name bytes : List ℕ) (given result : Result (Unit {0}) errors.StoreError) → given ≡ result → Unkept before middle
     → ((here : Files) → middle.files ≡ Some here → outside.Keeps here name bytes given after.files)
@@ -90,3 +85,7 @@ kept_once before middle after name bytes given result is u told once done = reco
   keeps = once ∙ ap one_more u.keeps;
   kept = subst (λ (r : Result (Unit {0}) errors.StoreError). after.kept ≡ after_keep r before.kept) is (done ∙ ap (after_keep given) u.kept);
 }
+
+-- a count of faults after a call that came out so
+pub faults_by : (A : Type 0) (n m : ℕ) (given : errors.StoreError) (e : errors.StoreError) → given ≡ e → m ≡ store_faults_after {A = A} (Err given) n → m ≡ store_faults_after {A = A} (Err e) n
+faults_by A n m given e is faults = faults ∙ ap (λ (f : errors.StoreError). store_faults_after {A = A} (Err f) n) is

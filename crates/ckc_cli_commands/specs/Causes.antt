@@ -1,10 +1,11 @@
 -- When each status of a call comes, and what it leaves.
-use Rattle.std.specs.Prelude.{◌≡◌, ◌⊎◌, ℕ, List, [], ◌∷◌, IsTrue, Option, Ok, Err}
+use Rattle.std.specs.Prelude.{◌≡◌, ◌⊎◌, ℕ, List, [], ◌∷◌, ◌++◌, IsTrue, Option, Ok, Err}
 use Rattle.ckc_outside.specs.declared.traits.StoreError.TheVariants as error
-use Rattle.ckc_outside.specs.Outside.{Files, Stored, Rose, one_more}
+use Rattle.ckc_outside.specs.Outside.{Files, Stored, one_more}
+use Rattle.ckc_outside.specs.Given.{after_each}
 use Rattle.ckc_machine.specs.declared.observed.Observed.{Observed}
 pub use Rattle.ckc_cli_calls.specs.Files.{Holds, Kept, Unkept, OnlyFetched, KeptOnce, IsLacking}
-pub use Rattle.ckc_cli_calls.specs.Lines.{Reported, puts_after}
+pub use Rattle.ckc_cli_calls.specs.Lines.{Reported, MayFail, puts_after}
 use Rattle.ckc_cli_commands.specs.declared.status.Status.{Status}
 use Rattle.ckc_cli_commands.specs.declared.status.Status.TheVariants as status
 use Rattle.ckc_cli_commands.specs.World.{World, Untouched}
@@ -13,6 +14,29 @@ use Rattle.ckc_cli_commands.specs.Outcomes.{Outcome, Refuses, IsBad, Keeps, Puts
 use Rattle.ckc_cli_commands.specs.Commands.{Fetch, fetches_of, Reads, Makes}
 use Rattle.ckc_cli_commands.specs.Running.{Ran, Listed, status_of}
 use Rattle.ckc_cli_commands.specs.Interpreting.{ShowsAs}
+
+-- ---- faults
+
+-- a count of the faults of the input after a call with this status
+abbrev pub input_faults : Status → ℕ → ℕ
+input_faults status.ReadFault n = one_more n
+input_faults s n = n
+
+-- the same of the output
+abbrev pub output_faults : Status → ℕ → ℕ
+output_faults status.WriteFault n = one_more n
+output_faults s n = n
+
+-- the same of the store
+abbrev pub store_faults : Status → ℕ → ℕ
+store_faults status.StoreFault n = one_more n
+store_faults s n = n
+
+-- Each object fails at most once, and exactly if the status says so: what fails first ends the call.
+pub record FailsOnce (before after : World) (s : Status) : Type 0 where
+  pub input : after.input.faults ≡ input_faults s before.input.faults
+  pub output : after.output.faults ≡ output_faults s before.output.faults
+  pub store : after.store.faults ≡ store_faults s before.store.faults
 
 -- ---- outcomes
 
@@ -25,8 +49,8 @@ pub record Idle (before after : World) (same : Untouched) : Type 0 where
 -- Bytes were kept under a name in one call, or it failed: the store did, which is not steady then, or memory ran out.
 pub data Keeping (name bytes : List ℕ) (before after : Stored) (s : Status) : Type 0 where
   kept : s ≡ status.Done → KeptOnce before after name bytes (Ok tt) → Keeping name bytes before after s
-  failed : s ≡ status.StoreFault → KeptOnce before after name bytes (Err error.Failed) → Rose before.faults after.faults
-      → ¬ IsTrue before.steady → Keeping name bytes before after s
+  failed : s ≡ status.StoreFault → KeptOnce before after name bytes (Err error.Failed) → ¬ IsTrue before.steady
+      → Keeping name bytes before after s
   no_memory : s ≡ status.Memory → KeptOnce before after name bytes (Err error.Memory) → Keeping name bytes before after s
 
 -- What comes of an outcome: the status, and what was kept, put and taken.
@@ -61,19 +85,31 @@ LacksFirst before [] = ⊥
 LacksFirst before (f ∷ more) = IsLacking before f.name ⊎ ((bytes : List ℕ) × Holds before.files f.name bytes × LacksFirst before more)
 
 -- Not all was fetched: the store failed, or there was not enough memory.
-pub data Unfetched (fetches : List Fetch) (before after : Stored) (s : Status) : Type 0 where
-  failed : s ≡ status.StoreFault → Rose before.faults after.faults → LacksFirst before fetches → Unfetched fetches before after s
-  no_memory : s ≡ status.Memory → Unfetched fetches before after s
+pub data Unfetched (fetches : List Fetch) (before : Stored) (s : Status) : Type 0 where
+  failed : s ≡ status.StoreFault → LacksFirst before fetches → Unfetched fetches before s
+  no_memory : s ≡ status.Memory → Unfetched fetches before s
+
+-- the limit of the last of some calls of fetch, or what it was before
+abbrev pub last_limit : List Fetch → ℕ → ℕ
+last_limit [] limit = limit
+last_limit (f ∷ more) limit = last_limit more f.most
+
+-- The store was asked once for each of the files and no more, the last time with the limit of the last of them.
+pub record Asked (fetches : List Fetch) (before after : Stored) : Type 0 where
+  pub count : after.fetches ≡ after_each before.fetches fetches
+  pub limit : after.limit ≡ last_limit fetches before.limit
 
 -- What comes of a command over the bytes that it fetched: what comes of an outcome, or memory ran out before it.
 pub data Came (command : Command) (fetched : List (List ℕ)) (before after : World) (same : Untouched) (s : Status) : Type 0 where
   made : (o : Outcome) → Makes command fetched o → Comes o before after same s → Came command fetched before after same s
   no_memory : s ≡ status.Memory → Idle before after same → Came command fetched before after same s
 
--- what comes of a command
+-- What comes of a command. The store is asked for each file that it fetches, or for a front of them.
 pub data Obeyed (command : Command) (before after : World) (same : Untouched) (s : Status) : Type 0 where
-  not_fetched : Unfetched (fetches_of command) before.store after.store s → Idle before after same → Obeyed command before after same s
-  fetched : (bytes : List (List ℕ)) → HoldsEach before.store.files (fetches_of command) bytes → Came command bytes before after same s
+  not_fetched : (front later : List Fetch) → fetches_of command ≡ front ++ later → Asked front before.store after.store
+      → Unfetched (fetches_of command) before.store s → Idle before after same → Obeyed command before after same s
+  fetched : (bytes : List (List ℕ)) → Asked (fetches_of command) before.store after.store
+      → HoldsEach before.store.files (fetches_of command) bytes → Came command bytes before after same s
       → Obeyed command before after same s
 
 -- what comes of words

@@ -1,22 +1,23 @@
 -- What running the meaning of a text shows.
 use Rattle.std.specs.Prelude.{◌≡◌, ℕ}
-use Rattle.ckc_outside.specs.Outside.{Rose}
 use Rattle.ckc_source.specs.Code.{Program}
 use Rattle.ckc_interp.specs.declared.seen.Seen as seens
 use Rattle.ckc_interp.specs.declared.seen.Seen.TheVariants as seen
-use Rattle.ckc_outside.specs.Given.{OverAny, WhereTold}
+use Rattle.ckc_outside.specs.Given.{OverAny, WhereTold, Streams, streams}
 use Rattle.ckc_interp.specs.Runs.{Interprets}
 use Rattle.ckc_cli_commands.specs.declared.status.Status.{Status}
 use Rattle.ckc_cli_commands.specs.declared.status.Status.TheVariants as status
 use Rattle.ckc_cli_commands.specs.World.{World}
 
+-- what is seen of the output of a world, and how often its input and its output were called
+abbrev pub streams_of : World → Streams
+streams_of w = streams w.input w.output
+
 -- A run of the meaning of a program within a limit of steps shows this: over what the input tells to be left, and over
--- any input, whatever may come after the bytes that it gave. A fault of an object comes only if its count rose.
+-- any input, whatever may come after the bytes that it gave.
 pub record Interpreted (p : Program) (limit : ℕ) (before after : World) (o : seens.Seen) : Type 0 where
-  pub told : WhereTold before.input.left after.input.left (Interprets p limit before.output.written after.output.written o)
-  pub any : OverAny before.input after.input (Interprets p limit before.output.written after.output.written o)
-  pub read_fault : o ≡ seen.ReadFault → Rose before.input.faults after.input.faults
-  pub write_fault : o ≡ seen.WriteFault → Rose before.output.faults after.output.faults
+  pub told : WhereTold before.input.left after.input.left (Interprets p limit (streams_of before) (streams_of after) o)
+  pub any : OverAny before.input after.input (Interprets p limit (streams_of before) (streams_of after) o)
 
 -- the status of what a run of a meaning shows
 abbrev pub meant_status : seens.Seen → Status

@@ -1,14 +1,14 @@
 //! The commands, one function for each.
-ghost use Rattle.std.specs.Prelude.{◌≡◌, ℕ, ◌≤◌, List, [], ◌∷◌};
+ghost use Rattle.std.specs.Prelude.{◌≡◌, ℕ, List, [], ◌∷◌};
 ghost use Rattle.ckc_base.specs.Places.{at_start, long_text};
 ghost use Rattle.ckc_cli_commands.specs.Words as w;
 ghost use Rattle.ckc_cli_commands.specs.Outcomes as outcome;
 ghost use Rattle.ckc_cli_commands.specs.Commands.{Makes};
 ghost use Rattle.ckc_cli_commands.specs.World.{world, streams, not_given, output_alone};
 ghost use Rattle.ckc_outside.specs.Outside.{SeenSource, SeenSink, Stored};
-ghost use Rattle.ckc_cli_commands.specs.Causes.{OnlyFetched, Unkept, Came, Obeyed};
-ghost use Rattle.ckc_cli_commands.specs.code.Judging.{fault_status};
-ghost use Rattle.ckc_cli_commands.specs.code.Fetching.{Fetches};
+ghost use Rattle.ckc_cli_commands.specs.Causes.{OnlyFetched, Unkept, Asked, Came, Obeyed, input_faults, output_faults, store_faults};
+ghost use Rattle.ckc_cli_commands.specs.code.Judging.{fault_status, NoFault};
+ghost use Rattle.ckc_cli_commands.specs.code.Fetching.{Fetches, reads_after, writes_after, stores_after};
 
 use crate::assembly::assemble;
 use crate::checking::say_checked;
@@ -37,7 +37,10 @@ pub fn build_text<F: Store>(alloc: Global, text: &str, image: &str, store: &mut 
         → Obeyed (w.Build text.now image.now)
         (world input output error (F.seen store.old))
         (world input output error' (F.seen store.new)) not_given result }
-    ensures counts { (F.seen store.old).faults ≤ (F.seen store.new).faults }
+    ensures reads { (n : ℕ) → n ≡ input_faults result n }
+    ensures writes { (n : ℕ) → n ≡ output_faults result n }
+    ensures stores { (F.seen store.new).faults
+        ≡ store_faults result (F.seen store.old).faults }
 {
     match fetch(alloc, text, TEXT_LIMIT, store) {
         Err(status) => status,
@@ -53,7 +56,12 @@ fn build_bytes<F: Store>(alloc: Global, bytes: &[u8], image: &str, store: &mut F
         → Came (w.Build text image.now) (bytes.now ∷ [])
         (world input output error before)
         (world input output error' (F.seen store.new)) not_given result }
-    ensures counts { (F.seen store.old).faults ≤ (F.seen store.new).faults }
+    ensures reads { (n : ℕ) → n ≡ input_faults result n }
+    ensures writes { (n : ℕ) → n ≡ output_faults result n }
+    ensures stores { (F.seen store.new).faults
+        ≡ store_faults result (F.seen store.old).faults }
+    ensures unasked { (F.seen store.new).fetches ≡ (F.seen store.old).fetches }
+    ensures limited { (F.seen store.new).limit ≡ (F.seen store.old).limit }
 {
     match build(alloc, bytes) {
         Err(fault) => status_of(fault),
@@ -67,7 +75,10 @@ pub fn assemble_text<F: Store>(alloc: Global, text: &str, image: &str, store: &m
         → Obeyed (w.Assemble text.now image.now)
         (world input output error (F.seen store.old))
         (world input output error' (F.seen store.new)) not_given result }
-    ensures counts { (F.seen store.old).faults ≤ (F.seen store.new).faults }
+    ensures reads { (n : ℕ) → n ≡ input_faults result n }
+    ensures writes { (n : ℕ) → n ≡ output_faults result n }
+    ensures stores { (F.seen store.new).faults
+        ≡ store_faults result (F.seen store.old).faults }
 {
     match fetch(alloc, text, TEXT_LIMIT, store) {
         Err(status) => status,
@@ -83,7 +94,12 @@ fn assemble_bytes<F: Store>(alloc: Global, bytes: &[u8], image: &str, store: &mu
         → Came (w.Assemble text image.now) (bytes.now ∷ [])
         (world input output error before)
         (world input output error' (F.seen store.new)) not_given result }
-    ensures counts { (F.seen store.old).faults ≤ (F.seen store.new).faults }
+    ensures reads { (n : ℕ) → n ≡ input_faults result n }
+    ensures writes { (n : ℕ) → n ≡ output_faults result n }
+    ensures stores { (F.seen store.new).faults
+        ≡ store_faults result (F.seen store.old).faults }
+    ensures unasked { (F.seen store.new).fetches ≡ (F.seen store.old).fetches }
+    ensures limited { (F.seen store.new).limit ≡ (F.seen store.old).limit }
 {
     match assemble(alloc, bytes) {
         Err(fault) => status_of(fault),
@@ -100,7 +116,12 @@ fn keep_image<F: Store>(name: &str, image: &[u8], store: &mut F) -> Status
         → Came command fetched
         (world input output error before)
         (world input output error' (F.seen store.new)) not_given result }
-    ensures counts { (F.seen store.old).faults ≤ (F.seen store.new).faults }
+    ensures reads { (n : ℕ) → n ≡ input_faults result n }
+    ensures writes { (n : ℕ) → n ≡ output_faults result n }
+    ensures stores { (F.seen store.new).faults
+        ≡ store_faults result (F.seen store.old).faults }
+    ensures unasked { (F.seen store.new).fetches ≡ (F.seen store.old).fetches }
+    ensures limited { (F.seen store.new).limit ≡ (F.seen store.old).limit }
 {
     match keep_file(name, image, store) {
         Ok(()) => Status::Done,
@@ -122,9 +143,12 @@ pub fn exec_text<S: Source, O: Sink, F: Store>(
         (world (S.seen input.old) (O.seen out.old) error (F.seen store.old))
         (world (S.seen input.new) (O.seen out.new) error' (F.seen store.new))
         (streams input.old input.new out.old out.new) result }
-    ensures input_counts { (S.seen input.old).faults ≤ (S.seen input.new).faults }
-    ensures out_counts { (O.seen out.old).faults ≤ (O.seen out.new).faults }
-    ensures store_counts { (F.seen store.old).faults ≤ (F.seen store.new).faults }
+    ensures reads { (S.seen input.new).faults
+        ≡ input_faults result (S.seen input.old).faults }
+    ensures writes { (O.seen out.new).faults
+        ≡ output_faults result (O.seen out.old).faults }
+    ensures stores { (F.seen store.new).faults
+        ≡ store_faults result (F.seen store.old).faults }
 {
     match fetch(alloc, text, TEXT_LIMIT, store) {
         Err(status) => status,
@@ -146,8 +170,11 @@ fn exec_bytes<S: Source, O: Sink>(
         (world (S.seen input.old) (O.seen out.old) error before)
         (world (S.seen input.new) (O.seen out.new) error' after)
         (streams input.old input.new out.old out.new) result }
-    ensures input_counts { (S.seen input.old).faults ≤ (S.seen input.new).faults }
-    ensures out_counts { (O.seen out.old).faults ≤ (O.seen out.new).faults }
+    ensures reads { (S.seen input.new).faults
+        ≡ input_faults result (S.seen input.old).faults }
+    ensures writes { (O.seen out.new).faults
+        ≡ output_faults result (O.seen out.old).faults }
+    ensures stores { (n : ℕ) → n ≡ store_faults result n }
 {
     match build(alloc, bytes) {
         Err(fault) => status_of(fault),
@@ -168,9 +195,12 @@ pub fn interp_text<S: Source, O: Sink, F: Store>(
         (world (S.seen input.old) (O.seen out.old) error (F.seen store.old))
         (world (S.seen input.new) (O.seen out.new) error' (F.seen store.new))
         (streams input.old input.new out.old out.new) result }
-    ensures input_counts { (S.seen input.old).faults ≤ (S.seen input.new).faults }
-    ensures out_counts { (O.seen out.old).faults ≤ (O.seen out.new).faults }
-    ensures store_counts { (F.seen store.old).faults ≤ (F.seen store.new).faults }
+    ensures reads { (S.seen input.new).faults
+        ≡ input_faults result (S.seen input.old).faults }
+    ensures writes { (O.seen out.new).faults
+        ≡ output_faults result (O.seen out.old).faults }
+    ensures stores { (F.seen store.new).faults
+        ≡ store_faults result (F.seen store.old).faults }
 {
     match fetch(alloc, text, TEXT_LIMIT, store) {
         Err(status) => status,
@@ -192,8 +222,11 @@ fn interp_bytes<S: Source, O: Sink>(
         (world (S.seen input.old) (O.seen out.old) error before)
         (world (S.seen input.new) (O.seen out.new) error' after)
         (streams input.old input.new out.old out.new) result }
-    ensures input_counts { (S.seen input.old).faults ≤ (S.seen input.new).faults }
-    ensures out_counts { (O.seen out.old).faults ≤ (O.seen out.new).faults }
+    ensures reads { (S.seen input.new).faults
+        ≡ input_faults result (S.seen input.old).faults }
+    ensures writes { (O.seen out.new).faults
+        ≡ output_faults result (O.seen out.old).faults }
+    ensures stores { (n : ℕ) → n ≡ store_faults result n }
 {
     match program(alloc, bytes) {
         Err(fault) => status_of(fault),
@@ -219,9 +252,12 @@ pub fn run_image<S: Source, O: Sink, F: Store>(
         (world (S.seen input.old) (O.seen out.old) error (F.seen store.old))
         (world (S.seen input.new) (O.seen out.new) error' (F.seen store.new))
         (streams input.old input.new out.old out.new) result }
-    ensures input_counts { (S.seen input.old).faults ≤ (S.seen input.new).faults }
-    ensures out_counts { (O.seen out.old).faults ≤ (O.seen out.new).faults }
-    ensures store_counts { (F.seen store.old).faults ≤ (F.seen store.new).faults }
+    ensures reads { (S.seen input.new).faults
+        ≡ input_faults result (S.seen input.old).faults }
+    ensures writes { (O.seen out.new).faults
+        ≡ output_faults result (O.seen out.old).faults }
+    ensures stores { (F.seen store.new).faults
+        ≡ store_faults result (F.seen store.old).faults }
 {
     match fetch(alloc, image, IMAGE_LIMIT, store) {
         Err(status) => status,
@@ -241,8 +277,11 @@ pub fn list_image<O: Sink, F: Store>(
         (world input (O.seen out.old) error (F.seen store.old))
         (world input (O.seen out.new) error' (F.seen store.new))
         (output_alone out.old out.new) result }
-    ensures out_counts { (O.seen out.old).faults ≤ (O.seen out.new).faults }
-    ensures store_counts { (F.seen store.old).faults ≤ (F.seen store.new).faults }
+    ensures reads { (n : ℕ) → n ≡ input_faults result n }
+    ensures writes { (O.seen out.new).faults
+        ≡ output_faults result (O.seen out.old).faults }
+    ensures stores { (F.seen store.new).faults
+        ≡ store_faults result (F.seen store.old).faults }
 {
     match fetch(alloc, image, IMAGE_LIMIT, store) {
         Err(status) => status,
@@ -262,8 +301,11 @@ pub fn check_text<O: Sink, F: Store>(
         (world input (O.seen out.old) error (F.seen store.old))
         (world input (O.seen out.new) error' (F.seen store.new))
         (output_alone out.old out.new) result }
-    ensures out_counts { (O.seen out.old).faults ≤ (O.seen out.new).faults }
-    ensures store_counts { (F.seen store.old).faults ≤ (F.seen store.new).faults }
+    ensures reads { (n : ℕ) → n ≡ input_faults result n }
+    ensures writes { (O.seen out.new).faults
+        ≡ output_faults result (O.seen out.old).faults }
+    ensures stores { (F.seen store.new).faults
+        ≡ store_faults result (F.seen store.old).faults }
 {
     match fetch(alloc, text, TEXT_LIMIT, store) {
         Err(status) => status,
@@ -279,7 +321,10 @@ fn check_bytes<O: Sink>(alloc: Global, bytes: &[u8], out: &mut O) -> Status
         (world input (O.seen out.old) error before)
         (world input (O.seen out.new) error' after)
         (output_alone out.old out.new) result }
-    ensures out_counts { (O.seen out.old).faults ≤ (O.seen out.new).faults }
+    ensures reads { (n : ℕ) → n ≡ input_faults result n }
+    ensures writes { (O.seen out.new).faults
+        ≡ output_faults result (O.seen out.old).faults }
+    ensures stores { (n : ℕ) → n ≡ store_faults result n }
 {
     match judge(alloc, bytes) {
         Err(fault) => status_of(fault),
@@ -294,7 +339,8 @@ fn check_bytes<O: Sink>(alloc: Global, bytes: &[u8], out: &mut O) -> Status
 
 /// The refusal of a text that is too long.
 fn too_long() -> Status
-    ensures { result ≡ Status.Refused (at_start long_text) }
+    ensures is { result ≡ Status.Refused (at_start long_text) }
+    ensures none { NoFault result }
 {
     Status::Refused(Refusal {
         code: LONG_TEXT,
@@ -304,7 +350,8 @@ fn too_long() -> Status
 
 /// The status of a fault.
 fn status_of(fault: Fault) -> Status
-    ensures { result ≡ fault_status fault }
+    ensures is { result ≡ fault_status fault }
+    ensures none { NoFault result }
 {
     match fault {
         Fault::Refused(refusal) => Status::Refused(refusal),
@@ -312,11 +359,15 @@ fn status_of(fault: Fault) -> Status
     }
 }
 
-/// What the store has under a name.
+/// What the store has under a name, by one call.
 fn fetch<F: Store>(alloc: Global, name: &str, limit: u64, store: &mut F) -> Result<Fetched, Status>
-    ensures fetches { Fetches name.now limit (F.seen store.old) (F.seen store.new) result }
+    ensures fetches { Fetches name.now limit (F.seen store.old) result }
     ensures only { OnlyFetched (F.seen store.old) (F.seen store.new) }
-    ensures counts { (F.seen store.old).faults ≤ (F.seen store.new).faults }
+    ensures asked { Asked (record { name = name.now; most = limit } ∷ [])
+        (F.seen store.old) (F.seen store.new) }
+    ensures reads { (n : ℕ) → n ≡ reads_after result n }
+    ensures writes { (n : ℕ) → n ≡ writes_after result n }
+    ensures stores { (F.seen store.new).faults ≡ stores_after result (F.seen store.old).faults }
 {
     match fetch_file(alloc, name, limit, store) {
         Ok(fetched) => Ok(fetched),

@@ -1,5 +1,5 @@
 //! Running and listing the bytes of an image, and what a run of a meaning shows.
-ghost use Rattle.std.specs.Prelude.{◌≡◌, ◌≤◌};
+ghost use Rattle.std.specs.Prelude.{◌≡◌, ℕ};
 ghost use Rattle.ckc_rv.specs.Machine.{Parts};
 ghost use Rattle.ckc_asm_listing.specs.Listing.{listing};
 ghost use Rattle.ckc_cli_commands.specs.Interpreting.{meant_status};
@@ -7,6 +7,9 @@ ghost use Rattle.ckc_outside.specs.Outside.{SeenSink, Stored};
 ghost use Rattle.ckc_cli_commands.specs.World.{world, streams};
 ghost use Rattle.ckc_cli_commands.specs.Running.{Listed, status_of};
 ghost use Rattle.ckc_cli_commands.specs.code.Running.{Ends, OverImage};
+ghost use Rattle.ckc_cli_commands.specs.Causes.{input_faults, output_faults, store_faults};
+ghost use Rattle.ckc_machine.specs.Runs as machines;
+ghost use Rattle.ckc_interp.specs.Runs as meanings;
 
 use crate::status::Status;
 use ckc_asm_listing::list;
@@ -30,8 +33,11 @@ pub fn run_bytes<S: Source, O: Sink>(
         (world (S.seen input.new) (O.seen out.new) error' after)
         (streams input.old input.new out.old out.new) result)
         ((out.new ≡ out.old) × (input.new ≡ input.old)) result }
-    ensures input_counts { (S.seen input.old).faults ≤ (S.seen input.new).faults }
-    ensures out_counts { (O.seen out.old).faults ≤ (O.seen out.new).faults }
+    ensures reads { (S.seen input.new).faults
+        ≡ input_faults result (S.seen input.old).faults }
+    ensures writes { (O.seen out.new).faults
+        ≡ output_faults result (O.seen out.old).faults }
+    ensures stores { (n : ℕ) → n ≡ store_faults result n }
 {
     match View::read(image) {
         Err(bad) => Status::BadImage(bad.0),
@@ -53,8 +59,11 @@ fn run_view<'a, S: Source, O: Sink>(
         (world (S.seen input.old) (O.seen out.old) error before)
         (world (S.seen input.new) (O.seen out.new) error' after)
         (streams input.old input.new out.old out.new) result }
-    ensures input_counts { (S.seen input.old).faults ≤ (S.seen input.new).faults }
-    ensures out_counts { (O.seen out.old).faults ≤ (O.seen out.new).faults }
+    ensures reads { (S.seen input.new).faults
+        ≡ input_faults result (S.seen input.old).faults }
+    ensures writes { (O.seen out.new).faults
+        ≡ output_faults result (O.seen out.old).faults }
+    ensures stores { (n : ℕ) → n ≡ store_faults result n }
 {
     match Machine::load(alloc, view) {
         Err(_) => Status::Memory,
@@ -64,7 +73,10 @@ fn run_view<'a, S: Source, O: Sink>(
 
 /// The status of what a run shows.
 fn shown(observed: Observed) -> Status
-    ensures { result ≡ status_of observed }
+    ensures is { result ≡ status_of observed }
+    ensures reads { (n : ℕ) → machines.read_faults observed n ≡ input_faults result n }
+    ensures writes { (n : ℕ) → machines.write_faults observed n ≡ output_faults result n }
+    ensures stores { (n : ℕ) → n ≡ store_faults result n }
 {
     match observed {
         Observed::Ended(value) => Status::Ended(value),
@@ -78,7 +90,10 @@ fn shown(observed: Observed) -> Status
 
 /// The status of what a run of a meaning shows.
 pub fn meant(seen: Seen) -> Status
-    ensures { result ≡ meant_status seen }
+    ensures is { result ≡ meant_status seen }
+    ensures reads { (n : ℕ) → meanings.read_faults seen n ≡ input_faults result n }
+    ensures writes { (n : ℕ) → meanings.write_faults seen n ≡ output_faults result n }
+    ensures stores { (n : ℕ) → n ≡ store_faults result n }
 {
     match seen {
         Seen::Ended(value) => Status::Ended(value),
@@ -97,7 +112,10 @@ pub fn list_bytes<O: Sink>(image: &[u8], out: &mut O) -> Status
         (listing parts.entry parts.code parts.initial)
         (O.seen out.old).written (O.seen out.new).written
         (O.seen out.old).faults (O.seen out.new).faults result) (out.new ≡ out.old) result }
-    ensures out_counts { (O.seen out.old).faults ≤ (O.seen out.new).faults }
+    ensures reads { (n : ℕ) → n ≡ input_faults result n }
+    ensures writes { (O.seen out.new).faults
+        ≡ output_faults result (O.seen out.old).faults }
+    ensures stores { (n : ℕ) → n ≡ store_faults result n }
 {
     match View::read(image) {
         Err(bad) => Status::BadImage(bad.0),

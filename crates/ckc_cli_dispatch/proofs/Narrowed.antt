@@ -20,8 +20,6 @@ module _ (before after : World) (given wanted : Untouched) (s : Status) (put : g
     shown = r.shown;
     any = r.any;
     silent = λ bytes nothing. let p = r.silent bytes nothing in (took p.0, p.1);
-    read_fault = r.read_fault;
-    write_fault = r.write_fault;
   }
 
   comes_as : (o : Outcome) → Comes o before after given s → Comes o before after wanted s
@@ -38,8 +36,8 @@ module _ (before after : World) (given wanted : Untouched) (s : Status) (put : g
   came_as command bytes (no_memory e i) = no_memory e (idle_as i)
 
   pub obeyed_with : (command : Command) → Obeyed command before after given s → Obeyed command before after wanted s
-  obeyed_with command (not_fetched n i) = not_fetched n (idle_as i)
-  obeyed_with command (fetched bytes h c) = fetched bytes h (came_as command bytes c)
+  obeyed_with command (not_fetched part others both a n i) = not_fetched part others both a n (idle_as i)
+  obeyed_with command (fetched bytes a h c) = fetched bytes a h (came_as command bytes c)
 
 -- the command of the code is that of the definition
 pub command_as : (before after : World) (same : Untouched) (s : Status) (command : Command) (given wanted : commands.Command) → given ≡ wanted → command_is wanted ≡ command

@@ -1,12 +1,12 @@
 //! From the words of the command line to what the command does, and to its status.
 #![tactic(auto)]
 
-ghost use Rattle.std.specs.Prelude.{◌≤◌};
+ghost use Rattle.std.specs.Prelude.{◌≡◌};
 ghost use Rattle.ckc_cli_commands.specs.Words.{bytes_of};
 ghost use Rattle.ckc_cli_commands.specs.Commanded.{command_is};
 ghost use Rattle.ckc_outside.specs.Outside.{SeenSink};
 ghost use Rattle.ckc_cli_commands.specs.World.{world, streams, untouched};
-ghost use Rattle.ckc_cli_commands.specs.Causes.{Caused, Obeyed};
+ghost use Rattle.ckc_cli_commands.specs.Causes.{Caused, Obeyed, input_faults, output_faults, store_faults};
 
 use ckc_cli_commands::{
     Command, Status, assemble_text, build_text, check_text, command_of, exec_text, interp_text,
@@ -27,9 +27,12 @@ pub fn asked<S: Source, O: Sink, F: Store>(
         (world (S.seen input.old) (O.seen out.old) error (F.seen store.old))
         (world (S.seen input.new) (O.seen out.new) error' (F.seen store.new))
         (untouched input.old input.new out.old out.new store.old store.new) result }
-    ensures input_counts { (S.seen input.old).faults ≤ (S.seen input.new).faults }
-    ensures out_counts { (O.seen out.old).faults ≤ (O.seen out.new).faults }
-    ensures store_counts { (F.seen store.old).faults ≤ (F.seen store.new).faults }
+    ensures reads { (S.seen input.new).faults
+        ≡ input_faults result (S.seen input.old).faults }
+    ensures writes { (O.seen out.new).faults
+        ≡ output_faults result (O.seen out.old).faults }
+    ensures stores { (F.seen store.new).faults
+        ≡ store_faults result (F.seen store.old).faults }
 {
     match command_of(words) {
         None => Status::Usage,
@@ -49,9 +52,12 @@ fn obey<'a, S: Source, O: Sink, F: Store>(
         (world (S.seen input.old) (O.seen out.old) error (F.seen store.old))
         (world (S.seen input.new) (O.seen out.new) error' (F.seen store.new))
         (streams input.old input.new out.old out.new) result }
-    ensures input_counts { (S.seen input.old).faults ≤ (S.seen input.new).faults }
-    ensures out_counts { (O.seen out.old).faults ≤ (O.seen out.new).faults }
-    ensures store_counts { (F.seen store.old).faults ≤ (F.seen store.new).faults }
+    ensures reads { (S.seen input.new).faults
+        ≡ input_faults result (S.seen input.old).faults }
+    ensures writes { (O.seen out.new).faults
+        ≡ output_faults result (O.seen out.old).faults }
+    ensures stores { (F.seen store.new).faults
+        ≡ store_faults result (F.seen store.old).faults }
 {
     match command {
         Command::Build(text, image) => build_text(alloc, text, image, store),

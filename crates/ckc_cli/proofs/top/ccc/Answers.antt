@@ -1,5 +1,6 @@
 use Rattle.ckc_cli_commands.specs.Words.{bytes_of}
 use Rattle.ckc_cli_commands.specs.World.{World, Untouched, world, untouched}
+use Rattle.ckc_cli_commands.specs.Causes.{FailsOnce}
 use Rattle.ckc_cli.proofs.Blame.{blame}
 use Rattle.ckc_cli.proofs.Execs.{headline}
 use Rattle.ckc_cli.proofs.Meant.{meaning}
@@ -16,8 +17,9 @@ returns-clause-headline g c = λ name limit reads.
     let r = c.asked-status.new in
     let w : World = world (g.S.Source.seen c.args.input.now) (g.O.Sink.seen c.args.out.now) error (g.F.Store.seen c.args.store.now) in
     let w' : World = world (g.S.Source.seen r.input) (g.O.Sink.seen r.out) error' (g.F.Store.seen r.store) in
+    let fails : FailsOnce w w' c.asked-status.result = record { input = c.asked-status.ensures.reads; output = c.asked-status.ensures.writes; store = c.asked-status.ensures.stores } in
     let same : Untouched = untouched c.args.input.now r.input c.args.out.now r.out c.args.store.now r.store in
-    headline (bytes_of c.args.words.now) w w' same c.asked-status.result (c.asked-status.ensures.cause error error') name limit reads
+    headline (bytes_of c.args.words.now) w w' same c.asked-status.result (c.asked-status.ensures.cause error error') fails name limit reads
 
 pub returns-clause-meaning : goal.returns-clause-meaning
 returns-clause-meaning g c = λ name limit reads.
@@ -26,8 +28,9 @@ returns-clause-meaning g c = λ name limit reads.
     let r = c.asked-status.new in
     let w : World = world (g.S.Source.seen c.args.input.now) (g.O.Sink.seen c.args.out.now) error (g.F.Store.seen c.args.store.now) in
     let w' : World = world (g.S.Source.seen r.input) (g.O.Sink.seen r.out) error' (g.F.Store.seen r.store) in
+    let fails : FailsOnce w w' c.asked-status.result = record { input = c.asked-status.ensures.reads; output = c.asked-status.ensures.writes; store = c.asked-status.ensures.stores } in
     let same : Untouched = untouched c.args.input.now r.input c.args.out.now r.out c.args.store.now r.store in
-    meaning (bytes_of c.args.words.now) w w' same name limit reads c.asked-status.result (c.asked-status.ensures.cause error error')
+    meaning (bytes_of c.args.words.now) w w' same name limit reads c.asked-status.result (c.asked-status.ensures.cause error error') fails
 
 pub returns-clause-check : goal.returns-clause-check
 returns-clause-check g c = λ name reads.
@@ -36,8 +39,9 @@ returns-clause-check g c = λ name reads.
     let r = c.asked-status.new in
     let w : World = world (g.S.Source.seen c.args.input.now) (g.O.Sink.seen c.args.out.now) error (g.F.Store.seen c.args.store.now) in
     let w' : World = world (g.S.Source.seen r.input) (g.O.Sink.seen r.out) error' (g.F.Store.seen r.store) in
+    let fails : FailsOnce w w' c.asked-status.result = record { input = c.asked-status.ensures.reads; output = c.asked-status.ensures.writes; store = c.asked-status.ensures.stores } in
     let same : Untouched = untouched c.args.input.now r.input c.args.out.now r.out c.args.store.now r.store in
-    checking c.unchecked_code_is_to_blame.ensures.checked (bytes_of c.args.words.now) w w' same name reads c.asked-status.result (c.asked-status.ensures.cause error error')
+    checking c.unchecked_code_is_to_blame.ensures.checked (bytes_of c.args.words.now) w w' same name reads c.asked-status.result (c.asked-status.ensures.cause error error') fails
 
 pub returns-clause-blame : goal.returns-clause-blame
 returns-clause-blame g c = λ name limit reads.
@@ -46,6 +50,10 @@ returns-clause-blame g c = λ name limit reads.
     let r = c.asked-status.new in
     let w : World = world (g.S.Source.seen c.args.input.now) (g.O.Sink.seen c.args.out.now) error (g.F.Store.seen c.args.store.now) in
     let w' : World = world (g.S.Source.seen r.input) (g.O.Sink.seen r.out) error' (g.F.Store.seen r.store) in
+    let fails : FailsOnce w w' c.asked-status.result = record { input = c.asked-status.ensures.reads; output = c.asked-status.ensures.writes; store = c.asked-status.ensures.stores } in
     let same : Untouched = untouched c.args.input.now r.input c.args.out.now r.out c.args.store.now r.store in
     let law = c.unchecked_code_is_to_blame.ensures in
-    blame law.blamed law.never_stuck (bytes_of c.args.words.now) w w' same c.asked-status.result (c.asked-status.ensures.cause error error') name limit reads
+    blame law.blamed law.never_stuck (bytes_of c.args.words.now) w w' same c.asked-status.result (c.asked-status.ensures.cause error error') fails name limit reads
+
+pub returns-clause-fails : goal.returns-clause-fails
+returns-clause-fails g c = record { input = c.asked-status.ensures.reads; output = c.asked-status.ensures.writes; store = c.asked-status.ensures.stores }

@@ -10,7 +10,7 @@ pub returns-in-Err-clause-cause : goal.returns-in-Err-clause-cause
 returns-in-Err-clause-cause g c = λ text input output error error' before only.
     let w : World = world input output error before in
     let w' : World = world input output error' (g.F.Store.seen c.args.store.now) in
-    faulted w w' not_given c.status_of.result imaging (Assemble text c.args.image.now) c.args.bytes.now c.in-Err.fault (λ r f. f) c.in-Err.ensures c.status_of.ensures
+    faulted w w' not_given c.status_of.result imaging (Assemble text c.args.image.now) c.args.bytes.now c.in-Err.fault (λ r f. f) c.in-Err.ensures c.status_of.ensures.is
     (record { unkept = only.unkept; put = tt; took = tt })
 
 pub returns-in-Ok-clause-cause : goal.returns-in-Ok-clause-cause

@@ -13,7 +13,7 @@ returns-in-Err-clause-cause g c = λ text input error error' before after unkept
     let out = c.args.out.now in
     let w : World = world input (g.O.Sink.seen out) error before in
     let w' : World = world input (g.O.Sink.seen out) error' after in
-    faulted w w' (output_alone out out) c.status_of.result judging (Judge text) c.args.bytes.now c.in-Err.fault (λ r f. inl f) c.in-Err.ensures.exact.answers c.status_of.ensures
+    faulted w w' (output_alone out out) c.status_of.result judging (Judge text) c.args.bytes.now c.in-Err.fault (λ r f. inl f) c.in-Err.ensures.exact.answers c.status_of.ensures.is
     (record { unkept = unkept; put = refl; took = tt })
 
 pub returns-in-Ok-clause-cause : goal.returns-in-Ok-clause-cause

@@ -11,7 +11,7 @@ returns-in-Err-clause-cause g c = λ text error error' before after unkept.
     let out = c.args.out.now in
     let w : World = world (g.S.Source.seen input) (g.O.Sink.seen out) error before in
     let w' : World = world (g.S.Source.seen input) (g.O.Sink.seen out) error' after in
-    faulted w w' (streams input input out out) c.status_of.result building (Exec text c.args.limit) c.args.bytes.now c.in-Err.fault (λ r f. f) c.in-Err.ensures.answers c.status_of.ensures
+    faulted w w' (streams input input out out) c.status_of.result building (Exec text c.args.limit) c.args.bytes.now c.in-Err.fault (λ r f. f) c.in-Err.ensures.answers c.status_of.ensures.is
     (record { unkept = unkept; put = refl; took = refl })
 
 pub returns-in-Ok-clause-cause : goal.returns-in-Ok-clause-cause

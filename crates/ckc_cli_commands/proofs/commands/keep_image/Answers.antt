@@ -3,7 +3,7 @@ use Rattle.ckc_outside.specs.declared.traits.StoreError as errors
 use Rattle.ckc_outside.specs.declared.traits.StoreError.TheVariants as failure
 use Rattle.ckc_cli_commands.specs.Causes.{made, kept, failed, no_memory}
 use Rattle.ckc_cli_commands.specs.Outcomes as outcome
-use Rattle.ckc_cli_commands.proofs.Obeying.{rose_from, kept_once}
+use Rattle.ckc_cli_commands.proofs.Obeying.{kept_once, faults_by}
 use Rattle.ckc_cli_commands.proofs.commands.keep_image.Goals as goal
 
 pub returns-in-Ok-clause-cause : goal.returns-in-Ok-clause-cause
@@ -25,7 +25,7 @@ returns-in-Err-Failed-clause-cause g c = λ command fetched input output error e
     made (outcome.Keeps c.args.name.now c.args.image.now) keeps (
       failed refl
           (kept_once before middle after c.args.name.now c.args.image.now (Err c.in-Err-Failed.field-0) (Err failure.Failed) is only.unkept k.kept.files k.kept.keeps k.kept.kept)
-          (rose_from before.faults middle.faults after.faults only.faults (k.failed is)) (λ t. k.steady (only.steady t) is),
+          (λ t. k.steady (only.steady t) is),
       tt,
       tt,
     )
@@ -40,3 +40,9 @@ returns-in-Err-Memory-clause-cause g c = λ command fetched input output error e
       tt,
       tt,
     )
+
+pub returns-in-Err-Failed-clause-stores : goal.returns-in-Err-Failed-clause-stores
+returns-in-Err-Failed-clause-stores g c = faults_by (Unit {0}) _ _ c.in-Err-Failed.field-0 failure.Failed c.in-Err-Failed.field-0-is c.in-Err-Failed.ensures.faults
+
+pub returns-in-Err-Memory-clause-stores : goal.returns-in-Err-Memory-clause-stores
+returns-in-Err-Memory-clause-stores g c = faults_by (Unit {0}) _ _ c.in-Err-Memory.field-0 failure.Memory c.in-Err-Memory.field-0-is c.in-Err-Memory.ensures.faults

@@ -1,6 +1,7 @@
 use Rattle.std.proofs.Common.{refl}
 use Rattle.ckc_cli_commands.specs.Running.{whole, front}
 use Rattle.ckc_cli_commands.specs.code.Running.{proper, bad}
+use Rattle.ckc_cli_calls.proofs.Reports.{rose_by_one}
 use Rattle.ckc_cli_commands.proofs.run.list_bytes.Goals as goal
 
 pub returns-in-Err-clause-over : goal.returns-in-Err-clause-over
@@ -14,4 +15,4 @@ returns-in-Ok-list-clause-over g c =
 pub returns-in-Err-list-clause-over : goal.returns-in-Err-list-clause-over
 returns-in-Err-list-clause-over g c =
     let v = c.in-Ok.view in
-    proper (record { entry = v.entry; code = v.code.now; initial = v.initial.now }) c.in-Ok.ensures.parts (front refl c.in-Err-list.ensures.failed (λ before e. c.in-Err-list.ensures.told before e))
+    proper (record { entry = v.entry; code = v.code.now; initial = v.initial.now }) c.in-Ok.ensures.parts (front refl (rose_by_one _ _ c.in-Err-list.ensures.faults) (λ before e. c.in-Err-list.ensures.told before e))
