@@ -7,16 +7,22 @@ use Rattle.ckc_base.specs.Follows.{Follows}
 use Rattle.ckc_base.specs.Phases.{Phase}
 use Rattle.ckc_blame.specs.Blamed.{IsBlamed, IsNeverStuck}
 use Rattle.ckc_rv.specs.Machine.{Parts, machine}
+use Rattle.ckc_image.specs.declared.format.Format.{Format}
 use Rattle.ckc_image.specs.Image.{ImageOf}
+use Rattle.ckc_image.specs.declared.format.Format.TheVariants.{Elf}
 use Rattle.ckc_source.specs.Code.{Program}
 use Rattle.ckc_source.specs.LaidOut.{AreBytes}
 use Rattle.ckc_source.specs.Source.{source}
 use Rattle.ckc_build.specs.Confined.{StoresStayInside}
 use Rattle.ckc_build.specs.Meanings.{HasMeaning, FirstFault, IsWhollyChecked}
 
--- the bytes are an image of the parts
+-- the bytes are an image of the parts in a format
+abbrev pub IsImageIn : Format → List ℕ → Parts → Type 0
+IsImageIn format bytes parts = ImageOf format bytes parts.entry parts.code parts.initial
+
+-- The bytes are an image of the parts as it is written, an ELF32 executable.
 abbrev pub IsImage : List ℕ → Parts → Type 0
-IsImage bytes parts = ImageOf bytes parts.entry parts.code parts.initial
+IsImage bytes parts = IsImageIn Elf bytes parts
 
 -- The parts are those of an image of a text: for every input of bytes its machine follows the meaning of the text,
 -- within so many instructions for each step and as many more. If the meaning is stuck, unchecked code is to blame, and

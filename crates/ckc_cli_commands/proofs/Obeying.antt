@@ -6,15 +6,17 @@ use Rattle.ckc_outside.specs.declared.traits.StoreError as errors
 use Rattle.ckc_outside.specs.Outside as outside
 use Rattle.ckc_outside.specs.Outside.{Files, one_more, after_keep, store_faults_after}
 use Rattle.ckc_rv.specs.Machine.{Parts}
+use Rattle.ckc_image.specs.declared.format.Format.{Format}
+use Rattle.ckc_image.specs.declared.format.Format.TheVariants.{Elf}
 use Rattle.ckc_image.proofs.Agreement.{never_bad, same_parts}
-use Rattle.ckc_asm_listing.specs.Listing.{listing}
+use Rattle.ckc_asm_listing.specs.Listing.{shown_image}
 use Rattle.ckc_base.specs.declared.places.Refusal.{Refusal}
 use Rattle.ckc_base.specs.declared.fault.Fault.{Fault}
 use Rattle.ckc_base.specs.Phases.{Phase, Answers}
 use Rattle.ckc_base.specs.declared.fault.Fault.TheVariants as faults
 use Rattle.ckc_cli_commands.specs.declared.status.Status.{Status}
 use Rattle.ckc_cli_commands.specs.Words.{Command, Exec, Run, Show}
-use Rattle.ckc_build.specs.Built.{IsImage, Built}
+use Rattle.ckc_build.specs.Built.{IsImage, IsImageIn, Built}
 use Rattle.ckc_cli_commands.specs.World.{World, Untouched}
 use Rattle.ckc_cli_commands.specs.Outcomes as outcome
 use Rattle.ckc_cli_commands.specs.Commands.{longest_image, Makes}
@@ -34,10 +36,10 @@ over_limit f name limit before e h = subst (λ (f : Fetched). Fetches name limit
 pub whole_of : (f : Fetched) (bytes name : List ℕ) (limit : ℕ) (before : Stored) → f ≡ Whole bytes → Fetches name limit before (Ok f) → Holds before.files name bytes × (length bytes ≤ limit)
 whole_of f bytes name limit before e h = subst (λ (f : Fetched). Fetches name limit before (Ok f)) e h
 
-same_image : (bytes : List ℕ) (p q : Parts) → IsImage bytes p → IsImage bytes q → p ≡ q
-same_image bytes p q i j =
-    let e = same_parts bytes p.entry q.entry p.code q.code p.initial q.initial i j in
-    λ k. record { entry = e.0 k; code = e.1 k; initial = e.2 k }
+same_image : (f g : Format) (bytes : List ℕ) (p q : Parts) → IsImageIn f bytes p → IsImageIn g bytes q → p ≡ q
+same_image f g bytes p q i j =
+    let e = same_parts f g bytes p.entry q.entry p.code q.code p.initial q.initial i j in
+    λ k. record { entry = e.1 k; code = e.2 k; initial = e.3 k }
 
 -- ---- over bytes
 
@@ -58,20 +60,20 @@ module _ (before after : World) (same : Untouched) (s : Status) where
   run_ended command bytes limit parts x (no_memory e a b) f = causes.no_memory e (record { unkept = f; put = a; took = b })
 
   pub exec_came : (text bytes image : List ℕ) (limit : ℕ) (parts : Parts) → Built bytes parts → IsImage image parts
-      → OverImage image (λ p. Ends p limit before after same s) (same.output × same.input) s → Unkept before.store after.store → Came (Exec text limit) (bytes ∷ []) before after same s
-  exec_came text bytes image limit parts built i (proper q j ends) f =
-      run_ended (Exec text limit) bytes limit parts (parts, built, refl) (subst (λ (p : Parts). Ends p limit before after same s) (same_image image q parts j i) ends) f
-  exec_came text bytes image limit parts built i (bad k first e idle) f = absurd (never_bad image parts.entry parts.code parts.initial i k first)
+      → OverImage image (λ f p. Ends p limit before after same s) (same.output × same.input) s → Unkept before.store after.store → Came (Exec text limit) (bytes ∷ []) before after same s
+  exec_came text bytes image limit parts built i (proper g q j ends) f =
+      run_ended (Exec text limit) bytes limit parts (parts, built, refl) (subst (λ (p : Parts). Ends p limit before after same s) (same_image g Elf image q parts j i) ends) f
+  exec_came text bytes image limit parts built i (bad k first e idle) f = absurd (never_bad Elf image parts.entry parts.code parts.initial i k first)
 
   pub run_came : (name bytes : List ℕ) (limit : ℕ) → length bytes ≤ longest_image
-      → OverImage bytes (λ p. Ends p limit before after same s) (same.output × same.input) s → Unkept before.store after.store → Came (Run name limit) (bytes ∷ []) before after same s
-  run_came name bytes limit le (proper q j ends) f = run_ended (Run name limit) bytes limit q (q, j, refl) ends f
+      → OverImage bytes (λ f p. Ends p limit before after same s) (same.output × same.input) s → Unkept before.store after.store → Came (Run name limit) (bytes ∷ []) before after same s
+  run_came name bytes limit le (proper g q j ends) f = run_ended (Run name limit) bytes limit q (g, q, j, refl) ends f
   run_came name bytes limit le (bad k first e idle) f = causes.made (outcome.IsBad k) (inr (le, first)) (e, record { unkept = f; put = idle.0; took = idle.1 })
 
   pub list_came : (name bytes : List ℕ) → length bytes ≤ longest_image → same.input
-      → OverImage bytes (λ p. Listed (listing p.entry p.code p.initial) before.output.written after.output.written before.output.faults after.output.faults s) same.output s
+      → OverImage bytes (λ f p. Listed (shown_image f p.entry p.code p.initial) before.output.written after.output.written before.output.faults after.output.faults s) same.output s
       → Unkept before.store after.store → Came (Show name) (bytes ∷ []) before after same s
-  list_came name bytes le took (proper q j l) f = causes.made (outcome.Puts (listing q.entry q.code q.initial)) (q, j, refl) (l, f, took)
+  list_came name bytes le took (proper g q j l) f = causes.made (outcome.Puts (shown_image g q.entry q.code q.initial)) (g, q, j, refl) (l, f, took)
   list_came name bytes le took (bad k first e idle) f = causes.made (outcome.IsBad k) (inr (le, first)) (e, record { unkept = f; put = idle; took = took })
 
 -- ---- what is kept

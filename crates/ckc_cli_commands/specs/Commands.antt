@@ -3,10 +3,11 @@ use Rattle.std.specs.Prelude.{◌≡◌, ◌⊎◌, ℕ, ◌<◌, ◌≤◌, Lis
 use Rattle.ckc_base.specs.declared.places.Refusal.{Refusal}
 use Rattle.ckc_base.specs.Places.{longest_text}
 use Rattle.ckc_rv.specs.Machine.{Parts}
+use Rattle.ckc_image.specs.declared.format.Format.{Format}
 use Rattle.ckc_image.specs.Image.{FirstBad}
-use Rattle.ckc_asm_listing.specs.Listing.{listing}
+use Rattle.ckc_asm_listing.specs.Listing.{shown_image}
 use Rattle.ckc_asm.specs.Phase.{assembling}
-use Rattle.ckc_build.specs.Built.{Built, IsImage}
+use Rattle.ckc_build.specs.Built.{Built, IsImage, IsImageIn}
 use Rattle.ckc_build.specs.Meanings.{judging, HasMeaning, FirstFault}
 use Rattle.ckc_cli_commands.specs.Words.{Command, Build, Assemble, Exec, Interp, Run, Show, Judge, NameAndLimit}
 use Rattle.ckc_cli_commands.specs.Outcomes.{Outcome, Refuses, IsBad, Keeps, Puts, PutsLine, Executes, Interprets}
@@ -14,9 +15,9 @@ use Rattle.ckc_cli_commands.specs.Checking.{checked_line}
 
 -- ---- what is fetched
 
--- the longest image, in bytes
+-- the longest image, in bytes: an ELF image whose code and initial bytes are the longest
 abbrev pub longest_image : ℕ
-longest_image = 33550356
+longest_image = 33550452
 
 -- A name, and how many bytes under it are read at most: of a longer file only that it is longer is told to the command.
 pub record Fetch : Type 0 where
@@ -46,10 +47,10 @@ AsImage IsMade text image = (parts : Parts) × IsMade text parts × IsImage imag
 abbrev pub BadBytes : List ℕ → ℕ → Type 0
 BadBytes bytes k = ((longest_image < length bytes) × (k ≡ 3)) ⊎ ((length bytes ≤ longest_image) × FirstBad bytes k)
 
--- Bytes are no image, or an outcome comes of the parts of the image.
-abbrev pub OfImage : (Parts → Outcome) → List ℕ → Outcome → Type 0
+-- Bytes are no image, or an outcome comes of the format and the parts of the image.
+abbrev pub OfImage : (Format → Parts → Outcome) → List ℕ → Outcome → Type 0
 OfImage outcome bytes (IsBad part) = BadBytes bytes part
-OfImage outcome bytes o = (parts : Parts) × IsImage bytes parts × (o ≡ outcome parts)
+OfImage outcome bytes o = (format : Format) × (parts : Parts) × IsImageIn format bytes parts × (o ≡ outcome format parts)
 
 -- an outcome comes of the one list of bytes that was fetched
 abbrev pub OfOne : (List ℕ → Outcome → Type 0) → List (List ℕ) → Outcome → Type 0
@@ -78,9 +79,9 @@ row_of (Exec text limit) =
     one_file (codes "exec") (λ words. NameAndLimit words text limit) (a_text text) (OfText FirstFault Built (λ parts. Executes parts limit))
 row_of (Interp text limit) =
     one_file (codes "interp") (λ words. NameAndLimit words text limit) (a_text text) (OfText FirstFault HasMeaning (λ p. Interprets p limit))
-row_of (Run image limit) = one_file (codes "run") (λ words. NameAndLimit words image limit) (an_image image) (OfImage (λ parts. Executes parts limit))
+row_of (Run image limit) = one_file (codes "run") (λ words. NameAndLimit words image limit) (an_image image) (OfImage (λ format parts. Executes parts limit))
 row_of (Show image) =
-    one_file (codes "list") (λ words. words ≡ image ∷ []) (an_image image) (OfImage (λ parts. Puts (listing parts.entry parts.code parts.initial)))
+    one_file (codes "list") (λ words. words ≡ image ∷ []) (an_image image) (OfImage (λ format parts. Puts (shown_image format parts.entry parts.code parts.initial)))
 row_of (Judge text) =
     one_file (codes "check") (λ words. words ≡ text ∷ []) (a_text text)
     (OfText FirstFault judging.Makes (λ p. PutsLine (checked_line p)))

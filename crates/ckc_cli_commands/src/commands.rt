@@ -26,7 +26,7 @@ use std::mem::forget;
 const TEXT_LIMIT: u64 = LONGEST_TEXT as u64;
 
 /// The most bytes that an image may have.
-const IMAGE_LIMIT: u64 = 33_550_356;
+const IMAGE_LIMIT: u64 = 33_550_452;
 
 /// The part of an image that is at fault if there are too many bytes.
 const TOO_MANY_BYTES: u8 = 3;

@@ -1,7 +1,7 @@
 //! Running and listing the bytes of an image, and what a run of a meaning shows.
 ghost use Rattle.std.specs.Prelude.{◌≡◌, ℕ};
 ghost use Rattle.ckc_rv.specs.Machine.{Parts};
-ghost use Rattle.ckc_asm_listing.specs.Listing.{listing};
+ghost use Rattle.ckc_asm_listing.specs.Listing.{shown_image};
 ghost use Rattle.ckc_cli_commands.specs.Interpreting.{meant_status};
 ghost use Rattle.ckc_outside.specs.Outside.{SeenSink, Stored};
 ghost use Rattle.ckc_cli_commands.specs.World.{world, streams};
@@ -12,7 +12,7 @@ ghost use Rattle.ckc_machine.specs.Runs as machines;
 ghost use Rattle.ckc_interp.specs.Runs as meanings;
 
 use crate::status::Status;
-use ckc_asm_listing::list;
+use ckc_asm_listing::show;
 use ckc_image::View;
 use ckc_interp::Seen;
 use ckc_machine::{Machine, Observed};
@@ -28,7 +28,7 @@ pub fn run_bytes<S: Source, O: Sink>(
     out: &mut O,
 ) -> Status
     ensures over { (error error' : SeenSink) (before after : Stored)
-        → OverImage image.now (λ parts. Ends parts limit
+        → OverImage image.now (λ format parts. Ends parts limit
         (world (S.seen input.old) (O.seen out.old) error before)
         (world (S.seen input.new) (O.seen out.new) error' after)
         (streams input.old input.new out.old out.new) result)
@@ -106,10 +106,10 @@ pub fn meant(seen: Seen) -> Status
     }
 }
 
-/// Puts the listing of the image that the bytes are, or says which part of them disagrees.
+/// Puts the line of the format of the image that the bytes are and then its listing, or says which part of them disagrees.
 pub fn list_bytes<O: Sink>(image: &[u8], out: &mut O) -> Status
-    ensures over { OverImage image.now (λ parts. Listed
-        (listing parts.entry parts.code parts.initial)
+    ensures over { OverImage image.now (λ format parts. Listed
+        (shown_image format parts.entry parts.code parts.initial)
         (O.seen out.old).written (O.seen out.new).written
         (O.seen out.old).faults (O.seen out.new).faults result) (out.new ≡ out.old) result }
     ensures reads { (n : ℕ) → n ≡ input_faults result n }
@@ -119,7 +119,7 @@ pub fn list_bytes<O: Sink>(image: &[u8], out: &mut O) -> Status
 {
     match View::read(image) {
         Err(bad) => Status::BadImage(bad.0),
-        Ok(view) => match list(view.entry, view.code, view.initial, out) {
+        Ok(view) => match show(view.format, view.entry, view.code, view.initial, out) {
             Ok(()) => Status::Done,
             Err(_) => Status::WriteFault,
         },

@@ -2,10 +2,10 @@
 
 use ckc_base::Seq;
 use ckc_base::memory_map::{CODE_START, LONGEST_CODE, LONGEST_DATA};
-use ckc_image::{Parts, View, write};
+use ckc_image::{Format, Parts, View, write};
 use ckc_test_trials::Page;
 
-/// `read | BYTES`: the parts of an image, or its first part that disagrees.
+/// `read | BYTES`: the format and the parts of an image, or its first part that disagrees.
 pub fn read_case(bytes: &str, page: &mut Page) {
     let bytes = page.bytes_of(bytes);
     match View::read(bytes.as_slice()) {
@@ -15,7 +15,11 @@ pub fn read_case(bytes: &str, page: &mut Page) {
 }
 
 fn put_view(view: &View<'_>, page: &mut Page) {
-    page.put("entry ");
+    page.put(match view.format {
+        Format::First => "version 1",
+        Format::Elf => "elf32",
+    });
+    page.put(" entry ");
     page.put_hex(view.entry);
     page.put(" code <");
     page.put_digits(view.code);

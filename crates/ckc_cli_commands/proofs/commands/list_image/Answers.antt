@@ -1,5 +1,5 @@
 use Rattle.std.proofs.Common.{◌≡◌, ℕ, List, [], ◌∷◌, inl, refl, subst, ◌∙◌}
-use Rattle.ckc_asm_listing.specs.Listing.{listing}
+use Rattle.ckc_asm_listing.specs.Listing.{shown_image}
 use Rattle.ckc_cli_commands.specs.World.{world, output_alone}
 use Rattle.ckc_cli_commands.specs.Outcomes as outcome
 use Rattle.ckc_cli_commands.specs.Running.{Listed}
@@ -15,7 +15,7 @@ returns-in-Ok-Longer-clause-cause g c = λ input error error'.
     let store = c.args.store.now in
     let before : Stored = g.F.Store.seen store in
     let after : Stored = g.F.Store.seen c.fetch.new.store in
-    let p = over_limit c.in-Ok-Longer.field-0 c.args.image.now 33550356 before c.in-Ok-Longer.field-0-is c.in-Ok-Longer.ensures.fetches in
+    let p = over_limit c.in-Ok-Longer.field-0 c.args.image.now 33550452 before c.in-Ok-Longer.field-0-is c.in-Ok-Longer.ensures.fetches in
     fetched (p.0 ∷ []) c.fetch.ensures.asked (p.1, tt) (made (outcome.IsBad 3) (inl (p.2, refl)) (refl, record { unkept = c.fetch.ensures.only.unkept; put = refl; took = tt }))
 
 pub returns-in-Ok-Whole-clause-cause : goal.returns-in-Ok-Whole-clause-cause
@@ -27,12 +27,12 @@ returns-in-Ok-Whole-clause-cause g c = λ input error error'.
     let after : Stored = g.F.Store.seen c.fetch.new.store in
     let w = world input (g.O.Sink.seen out) error before in
     let w' = world input (g.O.Sink.seen out') error' after in
-    let p = whole_of c.in-Ok-Whole.field-0 c.in-Ok-Whole.bytes c.args.image.now 33550356 before c.in-Ok-Whole.field-0-is c.in-Ok-Whole.ensures.fetches in
+    let p = whole_of c.in-Ok-Whole.field-0 c.in-Ok-Whole.bytes c.args.image.now 33550452 before c.in-Ok-Whole.field-0-is c.in-Ok-Whole.ensures.fetches in
     let same : c.as_slice.result.now ≡ c.in-Ok-Whole.bytes = c.as_slice.ensures in
     let s = c.list_bytes.result in
     fetched (c.in-Ok-Whole.bytes ∷ []) c.fetch.ensures.asked (p.0, tt)
     (list_came w w' (output_alone out out') s c.args.image.now c.in-Ok-Whole.bytes p.1 tt
-    (subst (λ (b : List ℕ). OverImage b (λ q. Listed (listing q.entry q.code q.initial) w.output.written w'.output.written w.output.faults w'.output.faults s) (out' ≡ out) s) same c.list_bytes.ensures.over) c.fetch.ensures.only.unkept)
+    (subst (λ (b : List ℕ). OverImage b (λ f q. Listed (shown_image f q.entry q.code q.initial) w.output.written w'.output.written w.output.faults w'.output.faults s) (out' ≡ out) s) same c.list_bytes.ensures.over) c.fetch.ensures.only.unkept)
 
 pub returns-in-Err-clause-cause : goal.returns-in-Err-clause-cause
 returns-in-Err-clause-cause g c = λ input error error'.

@@ -10,4 +10,4 @@ pub returns-in-Ok-clause-over : goal.returns-in-Ok-clause-over
 returns-in-Ok-clause-over g c = λ error error' before after.
     let v = c.in-Ok.view in
     let parts : Parts = record { entry = v.entry; code = v.code.now; initial = v.initial.now } in
-    proper parts c.in-Ok.ensures.parts (c.run_view.ensures.ran parts refl refl refl error error' before after)
+    proper v.format parts c.in-Ok.ensures.parts (c.run_view.ensures.ran parts refl refl refl error error' before after)
