@@ -9,16 +9,16 @@ use Rattle.ckc_cli_commands.specs.declared.status.Status.{Status}
 use Rattle.ckc_cli_commands.specs.World.{World, Untouched}
 use Rattle.ckc_cli_commands.specs.Words.{Interp}
 use Rattle.ckc_cli_commands.specs.Commands.{Reads}
-use Rattle.ckc_cli_commands.specs.Causes.{Caused, FailsOnce}
+use Rattle.ckc_cli_commands.specs.Causes.{Caused}
 use Rattle.ckc_cli.specs.Blame.{Blame}
 use Rattle.ckc_cli.proofs.Headline.{bytes_alone}
-use Rattle.ckc_cli.proofs.Meant.{meaning}
+use Rattle.ckc_cli.proofs.Meant.{shown_by}
 
 module _ (blamed : (text : List ℕ) (p : Program) → HasMeaning text p → IsBlamed p) (never_stuck : (text : List ℕ) (p : Program) → HasMeaning text p → IsWhollyChecked text → IsNeverStuck p)
-    (words : List (List ℕ)) (before after : World) (same : Untouched) (s : Status) (cause : Caused words before after same s) (fails : FailsOnce before after s) where
+    (words : List (List ℕ)) (before after : World) (same : Untouched) (s : Status) (cause : Caused words before after same s) where
   pub blame : (name : List ℕ) (limit : ℕ) → Reads words (Interp name limit) → Blame name before s
   blame name limit asked at since e =
-      let x = (meaning words before after same name limit asked s cause fails).shown (seen.Stuck at since) (λ q. cc) e in
+      let x = shown_by words before after same name limit asked s cause (seen.Stuck at since) (λ q. cc) e in
       let p = x.2.0 in
       let run = x.2.2.any in
       let given : List ℕ = run.0 ++ [] in

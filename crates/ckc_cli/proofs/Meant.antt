@@ -114,7 +114,7 @@ module _ (p : Program) (given : List ℕ) where
 
 -- ---- at the top
 
-module _ (words : List (List ℕ)) (before after : World) (same : Untouched) (name : List ℕ) (limit : ℕ) (asked : Reads words (Interp name limit)) (s : Status) (cause : Caused words before after same s) (fails : FailsOnce before after s) where
+module _ (words : List (List ℕ)) (before after : World) (same : Untouched) (name : List ℕ) (limit : ℕ) (asked : Reads words (Interp name limit)) (s : Status) (cause : Caused words before after same s) where
   -- what the command makes of the bytes, it makes of the one text
   over_meant : (bytes : List (List ℕ)) → HoldsEach before.store.files (a_text name ∷ []) bytes → (p : Program) (most : ℕ) → Makes (Interp name limit) bytes (outcome.Interprets p most)
       → (o : seens.Seen) → Interpreted p most before after o → OfFile before.store.files name (ShowsMeaning limit before after o)
@@ -146,7 +146,7 @@ module _ (words : List (List ℕ)) (before after : World) (same : Untouched) (na
     shown_comes (outcome.Executes parts most) x c wanted q = absurd (form (outcome.Executes parts most) x)
     shown_comes (outcome.Interprets p most) x c wanted q = run_of p most x c.0.0 wanted (sym c.0.1 ∙ q) c.0.2
 
-  shown_by : (wanted : seens.Seen) → wanted ≢ seen.Memory → s ≡ meant_status wanted → OfFile before.store.files name (ShowsMeaning limit before after wanted)
+  pub shown_by : (wanted : seens.Seen) → wanted ≢ seen.Memory → s ≡ meant_status wanted → OfFile before.store.files name (ShowsMeaning limit before after wanted)
   shown_by wanted m q = by_cause cause
     where
       by_cause : Caused words before after same s → OfFile before.store.files name (ShowsMeaning limit before after wanted)
@@ -156,7 +156,7 @@ module _ (words : List (List ℕ)) (before after : World) (same : Untouched) (na
       by_cause (obeyed command r (fetched bytes a h (causes.no_memory e i))) = absurd (m (same_meant wanted seen.Memory (sym q ∙ e)))
       by_cause (obeyed command r (fetched bytes a h (made o x c))) = shown_comes command r bytes h o x c wanted q
 
-  memory_by : s ≡ status.Memory → (same.output × same.input) ⊎ OfFile before.store.files name (ShowsMeaning limit before after seen.Memory)
+  pub memory_by : s ≡ status.Memory → (same.output × same.input) ⊎ OfFile before.store.files name (ShowsMeaning limit before after seen.Memory)
   memory_by q = by_cause cause
     where
       by_cause : Caused words before after same s → (same.output × same.input) ⊎ OfFile before.store.files name (ShowsMeaning limit before after seen.Memory)
@@ -165,11 +165,11 @@ module _ (words : List (List ℕ)) (before after : World) (same : Untouched) (na
       by_cause (obeyed command r (fetched bytes a h (causes.no_memory e i))) = inl (i.put, i.took)
       by_cause (obeyed command r (fetched bytes a h (made o x c))) = inr (shown_comes command r bytes h o x c seen.Memory q)
 
-  always_by : (text : List ℕ) (p : Program) → Tells before.store.files name text → StoreIsFine before.store after.store → HasMeaning text p → ShowsAs p limit before after s ⊎ (s ≡ status.Memory)
-  always_by text p t fine m = always.meant_always words before after same (Interp name limit) (text ∷ []) (record { reads = asked; told = (t, tt) }) fine s cause fails p limit (p, m, refl)
+  always_by : FailsOnce before after s → (text : List ℕ) (p : Program) → Tells before.store.files name text → StoreIsFine before.store after.store → HasMeaning text p → ShowsAs p limit before after s ⊎ (s ≡ status.Memory)
+  always_by fails text p t fine m = always.meant_always words before after same (Interp name limit) (text ∷ []) (record { reads = asked; told = (t, tt) }) fine s cause fails p limit (p, m, refl)
 
-  pub meaning : Meaning name limit before after same s
-  meaning = record { shown = shown_by; memory = memory_by; always = always_by }
+  pub meaning : FailsOnce before after s → Meaning name limit before after same s
+  meaning fails = record { shown = shown_by; memory = memory_by; always = always_by fails }
 
 -- ---- if no object fails
 

@@ -19,13 +19,18 @@ use Rattle.ckc_cli_commands.specs.Interpreting.{ShowsAs}
 use Rattle.ckc_cli_commands.specs.Causes.{Each, HoldsEach, Kept, Caused, FailsOnce}
 use Rattle.ckc_cli.specs.Objects.{Tells}
 
--- Something holds of every call of which its cause is told and what failed: of its words, of what is told before and
--- after it, of which objects were not touched, and of its status.
+-- Something holds of every call of which its cause is told: of its words, of what is told before and after it, of
+-- which objects were not touched, and of its status.
 abbrev pub FromCause : (S O F : Type 0) → (List (List ℕ) → World → World → Untouched → Status → Type 0) → Type 0
 FromCause S O F Holds =
     (words : List (List ℕ)) (before after : World) (input input' : S) (out out' : O) (store store' : F) (s : Status)
-    → Caused words before after (untouched input input' out out' store store') s → FailsOnce before after s
+    → Caused words before after (untouched input input' out out' store store') s
     → Holds words before after (untouched input input' out out' store store') s
+
+-- The same of every call of which it is told what failed, too, as `ccc` tells both.
+abbrev pub FromCall : (S O F : Type 0) → (List (List ℕ) → World → World → Untouched → Status → Type 0) → Type 0
+FromCall S O F Holds =
+    FromCause S O F (λ words before after same s. FailsOnce before after s → Holds words before after same s)
 
 -- ---- words
 

@@ -8,7 +8,7 @@ ghost use Rattle.ckc_cli_commands.specs.Words.{Command, Interp};
 ghost use Rattle.ckc_cli_commands.specs.Outcomes as outcome;
 ghost use Rattle.ckc_cli_commands.specs.Commands.{Reads, Makes};
 ghost use Rattle.ckc_cli_commands.specs.Running.{status_of};
-ghost use Rattle.ckc_cli.specs.Laws.{FromCause, Over, Given, IsDone, IsRun, IsCutShort};
+ghost use Rattle.ckc_cli.specs.Laws.{FromCause, FromCall, Over, Given, IsDone, IsRun, IsCutShort};
 
 use ckc_cli_commands::Status;
 
@@ -48,15 +48,15 @@ pub fn statuses_have_causes<S, O, F>()
 
 /// The faults of the objects come only if their counts rose.
 pub fn faults_have_causes<S, O, F>()
-    ensures read_fault { FromCause S O F (λ words before after same s.
+    ensures read_fault { FromCall S O F (λ words before after same s.
         s ≡ Status.ReadFault → Rose before.input.faults after.input.faults) }
-    ensures write_fault { FromCause S O F (λ words before after same s.
+    ensures write_fault { FromCall S O F (λ words before after same s.
         s ≡ Status.WriteFault → Rose before.output.faults after.output.faults) }
     ensures cut_short { FromCause S O F (λ words before after same s.
         s ≡ Status.WriteFault → Over words before.store.files (IsCutShort before after same)) }
-    ensures store_fault { FromCause S O F (λ words before after same s.
+    ensures store_fault { FromCall S O F (λ words before after same s.
         s ≡ Status.StoreFault → Rose before.store.faults after.store.faults) }
-    ensures steady { FromCause S O F (λ words before after same s.
+    ensures steady { FromCall S O F (λ words before after same s.
         (command : Command) (bytes : List (List ℕ)) → Given words before.store.files command bytes
         → IsTrue before.store.steady → s ≢ Status.StoreFault) }
 {}

@@ -12,7 +12,7 @@ ghost use Rattle.ckc_cli_commands.specs.Commands.{Reads};
 ghost use Rattle.ckc_cli_commands.specs.Interpreting.{ShowsAs};
 ghost use Rattle.ckc_cli.specs.Objects.{OfFile, StoreIsFine, AllIsFine};
 ghost use Rattle.ckc_cli.specs.Meaning.{ShowsMeaning, IsStuckFirst, standing_after};
-ghost use Rattle.ckc_cli.specs.Laws.{FromCause, Given};
+ghost use Rattle.ckc_cli.specs.Laws.{FromCause, FromCall, Given};
 
 use ckc_cli_commands::Status;
 
@@ -44,25 +44,25 @@ pub fn interp_shows<S, O, F>()
 
 /// It always does so if the input is told and no object fails.
 pub fn interp_shows_always<S, O, F>()
-    ensures interp_ended_always { FromCause S O F (λ words before after same s.
+    ensures interp_ended_always { FromCall S O F (λ words before after same s.
         (name text given : List ℕ) (limit n value : ℕ) (p : Program)
         → Given words before.store.files (Interp name limit) (text ∷ [])
         → HasMeaning text p → before.input.left ≡ Some given → AllIsFine before after
         → n ≤ limit → standing_after p given n ≡ Ended value
         → (s ≡ Status.Ended value) ⊎ (s ≡ Status.Memory)) }
-    ensures interp_stopped_always { FromCause S O F (λ words before after same s.
+    ensures interp_stopped_always { FromCall S O F (λ words before after same s.
         (name text given : List ℕ) (limit n : ℕ) (check : Check) (at : Pos) (p : Program)
         → Given words before.store.files (Interp name limit) (text ∷ [])
         → HasMeaning text p → before.input.left ≡ Some given → AllIsFine before after
         → n ≤ limit → standing_after p given n ≡ Stopped check at
         → (s ≡ Status.Stopped check at) ⊎ (s ≡ Status.Memory)) }
-    ensures interp_going_always { FromCause S O F (λ words before after same s.
+    ensures interp_going_always { FromCall S O F (λ words before after same s.
         (name text given : List ℕ) (limit : ℕ) (p : Program)
         → Given words before.store.files (Interp name limit) (text ∷ [])
         → HasMeaning text p → before.input.left ≡ Some given → AllIsFine before after
         → standing_after p given limit ≡ Going
         → (s ≡ Status.Going) ⊎ (s ≡ Status.Memory)) }
-    ensures interp_stuck_always { FromCause S O F (λ words before after same s.
+    ensures interp_stuck_always { FromCall S O F (λ words before after same s.
         (name text given : List ℕ) (limit n : ℕ) (p : Program)
         → Given words before.store.files (Interp name limit) (text ∷ [])
         → HasMeaning text p → before.input.left ≡ Some given → AllIsFine before after
@@ -70,7 +70,7 @@ pub fn interp_shows_always<S, O, F>()
         → (s ≡ Status.Stuck (place_after p given n) (unchecked_since p given n))
         ⊎ (s ≡ Status.Memory)) }
     // The meaning of a text that has one is run.
-    ensures interp_always { FromCause S O F (λ words before after same s.
+    ensures interp_always { FromCall S O F (λ words before after same s.
         (name text : List ℕ) (limit : ℕ) (p : Program)
         → Given words before.store.files (Interp name limit) (text ∷ [])
         → StoreIsFine before.store after.store → HasMeaning text p

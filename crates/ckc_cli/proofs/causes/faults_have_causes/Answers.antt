@@ -15,7 +15,7 @@ returns-clause-write_fault g c = λ words before after input input' out out' sto
     output_rose before after s fails e
 
 pub returns-clause-cut_short : goal.returns-clause-cut_short
-returns-clause-cut_short g c = λ words before after input input' out out' store store' s cause fails e.
+returns-clause-cut_short g c = λ words before after input input' out out' store store' s cause e.
     by.says_of words before after (untouched input input' out out' store store') s status.WriteFault cause e
 
 pub returns-clause-store_fault : goal.returns-clause-store_fault

@@ -4,21 +4,21 @@ use Rattle.ckc_cli.proofs.Meant as meant
 use Rattle.ckc_cli.proofs.interpreted.interp_shows.Goals as goal
 
 pub returns-clause-interp_ended : goal.returns-clause-interp_ended
-returns-clause-interp_ended g c = λ words before after input input' out out' store store' s cause fails name limit value reads e.
-    (meant.meaning words before after (untouched input input' out out' store store') name limit reads s cause fails).shown (seen.Ended value) (λ q. cc) e
+returns-clause-interp_ended g c = λ words before after input input' out out' store store' s cause name limit value reads e.
+    meant.shown_by words before after (untouched input input' out out' store store') name limit reads s cause (seen.Ended value) (λ q. cc) e
 
 pub returns-clause-interp_stopped : goal.returns-clause-interp_stopped
-returns-clause-interp_stopped g c = λ words before after input input' out out' store store' s cause fails name limit check at reads e.
-    (meant.meaning words before after (untouched input input' out out' store store') name limit reads s cause fails).shown (seen.Stopped check at) (λ q. cc) e
+returns-clause-interp_stopped g c = λ words before after input input' out out' store store' s cause name limit check at reads e.
+    meant.shown_by words before after (untouched input input' out out' store store') name limit reads s cause (seen.Stopped check at) (λ q. cc) e
 
 pub returns-clause-interp_going : goal.returns-clause-interp_going
-returns-clause-interp_going g c = λ words before after input input' out out' store store' s cause fails name limit reads e.
-    (meant.meaning words before after (untouched input input' out out' store store') name limit reads s cause fails).shown seen.Going (λ q. cc) e
+returns-clause-interp_going g c = λ words before after input input' out out' store store' s cause name limit reads e.
+    meant.shown_by words before after (untouched input input' out out' store store') name limit reads s cause seen.Going (λ q. cc) e
 
 pub returns-clause-interp_stuck : goal.returns-clause-interp_stuck
-returns-clause-interp_stuck g c = λ words before after input input' out out' store store' s cause fails name limit at since reads e.
-    (meant.meaning words before after (untouched input input' out out' store store') name limit reads s cause fails).shown (seen.Stuck at since) (λ q. cc) e
+returns-clause-interp_stuck g c = λ words before after input input' out out' store store' s cause name limit at since reads e.
+    meant.shown_by words before after (untouched input input' out out' store store') name limit reads s cause (seen.Stuck at since) (λ q. cc) e
 
 pub returns-clause-interp_memory : goal.returns-clause-interp_memory
-returns-clause-interp_memory g c = λ words before after input input' out out' store store' s cause fails name limit reads e.
-    (meant.meaning words before after (untouched input input' out out' store store') name limit reads s cause fails).memory e
+returns-clause-interp_memory g c = λ words before after input input' out out' store store' s cause name limit reads e.
+    meant.memory_by words before after (untouched input input' out out' store store') name limit reads s cause e

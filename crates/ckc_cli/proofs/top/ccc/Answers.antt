@@ -50,10 +50,9 @@ returns-clause-blame g c = λ name limit reads.
     let r = c.asked-status.new in
     let w : World = world (g.S.Source.seen c.args.input.now) (g.O.Sink.seen c.args.out.now) error (g.F.Store.seen c.args.store.now) in
     let w' : World = world (g.S.Source.seen r.input) (g.O.Sink.seen r.out) error' (g.F.Store.seen r.store) in
-    let fails : FailsOnce w w' c.asked-status.result = record { input = c.asked-status.ensures.reads; output = c.asked-status.ensures.writes; store = c.asked-status.ensures.stores } in
     let same : Untouched = untouched c.args.input.now r.input c.args.out.now r.out c.args.store.now r.store in
     let law = c.unchecked_code_is_to_blame.ensures in
-    blame law.blamed law.never_stuck (bytes_of c.args.words.now) w w' same c.asked-status.result (c.asked-status.ensures.cause error error') fails name limit reads
+    blame law.blamed law.never_stuck (bytes_of c.args.words.now) w w' same c.asked-status.result (c.asked-status.ensures.cause error error') name limit reads
 
 pub returns-clause-fails : goal.returns-clause-fails
 returns-clause-fails g c = record { input = c.asked-status.ensures.reads; output = c.asked-status.ensures.writes; store = c.asked-status.ensures.stores }
