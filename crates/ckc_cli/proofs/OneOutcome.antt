@@ -1,13 +1,13 @@
 -- A command makes one outcome of the bytes that it fetched, but for which image, and each of its form.
-use Rattle.std.proofs.Common.{rules, ◌≡◌, ◌⊎◌, inl, inr, ℕ, ◌≤◌, List, [], ◌∷◌, ◌++◌, length, length-append, refl, sym, ap, subst, ◌∙◌, arith}
+use Rattle.std.proofs.Common.{◌≡◌, ◌⊎◌, inl, inr, ℕ, ◌≤◌, List, [], ◌∷◌, length, refl, sym, ap, subst, ◌∙◌, arith}
 use Rattle.ckc_base.specs.declared.places.Refusal.{Refusal}
 use Rattle.ckc_rv.specs.Machine.{Parts}
-use Rattle.ckc_image.specs.Image.{magic, word_bytes, FirstBad}
-use Rattle.ckc_image.proofs.Agreement.{never_bad, same_parts}
-use Rattle.ckc_asm_listing.specs.Listing.{listing}
+use Rattle.ckc_image.specs.declared.format.Format.{Format}
+use Rattle.ckc_image.proofs.Agreement.{one_bad, never_bad, same_parts, image_length}
+use Rattle.ckc_asm_listing.specs.Listing.{shown_image}
 use Rattle.ckc_asm.specs.Phase.{assembling}
 use Rattle.ckc_asm.proofs.Exactness.{assembling_exact}
-use Rattle.ckc_build.specs.Built.{Built, IsImage}
+use Rattle.ckc_build.specs.Built.{Built, IsImageIn}
 use Rattle.ckc_build_elaborate.specs.Elaborated.{elaborated}
 use Rattle.ckc_build.specs.Meanings.{judging, HasMeaning, FirstFault}
 use Rattle.ckc_build.proofs.Chain.{judging_exact}
@@ -22,31 +22,12 @@ use Rattle.ckc_cli.specs.Laws.{Agrees}
 -- ---- images
 
 -- an image is no longer than the longest
-image_short : (bytes : List ℕ) (parts : Parts) → IsImage bytes parts → length bytes ≤ longest_image
-image_short bytes parts i =
-    let w = word_bytes in
-    let e = parts.entry in
-    let c = length parts.code in
-    let d = length parts.initial in
-    omega (
-      arith,
-      ap length i.1,
-      length-append magic (w 1 ++ w e ++ w c ++ w d ++ parts.code ++ parts.initial),
-      length-append (w 1) (w e ++ w c ++ w d ++ parts.code ++ parts.initial),
-      length-append (w e) (w c ++ w d ++ parts.code ++ parts.initial),
-      length-append (w c) (w d ++ parts.code ++ parts.initial),
-      length-append (w d) (parts.code ++ parts.initial),
-      length-append parts.code parts.initial,
-      i.0.0.2,
-      i.0.0.3,
-    )
+image_short : (format : Format) (bytes : List ℕ) (parts : Parts) → IsImageIn format bytes parts → length bytes ≤ longest_image
+image_short format bytes parts i = omega (arith, image_length format bytes parts.entry parts.code parts.initial i, i.0.0.2, i.0.0.3)
 
-pub one_bad : (bytes : List ℕ) (k j : ℕ) → FirstBad bytes k → FirstBad bytes j → k ≡ j
-one_bad bytes k j p q = search rules
-
-never_bad_bytes : (bytes : List ℕ) (parts : Parts) (k : ℕ) → IsImage bytes parts → BadBytes bytes k → ⊥
-never_bad_bytes bytes parts k i (inl b) = omega (arith, image_short bytes parts i, b.0)
-never_bad_bytes bytes parts k i (inr b) = never_bad bytes parts.entry parts.code parts.initial i k b.1
+never_bad_bytes : (format : Format) (bytes : List ℕ) (parts : Parts) (k : ℕ) → IsImageIn format bytes parts → BadBytes bytes k → ⊥
+never_bad_bytes format bytes parts k i (inl b) = omega (arith, image_short format bytes parts i, b.0)
+never_bad_bytes format bytes parts k i (inr b) = never_bad format bytes parts.entry parts.code parts.initial i k b.1
 
 bad_bytes_once : (bytes : List ℕ) (k j : ℕ) → BadBytes bytes k → BadBytes bytes j → k ≡ j
 bad_bytes_once bytes k j (inl p) (inl q) = p.1 ∙ sym q.1
@@ -84,26 +65,26 @@ module _ {B : Type 0} (IsRefused : List ℕ → Refusal → Type 0) (IsMade : Li
       by_both (inr x) (inl y) = absurd (never text y.0 x.0 y.2 x.2)
       by_both (inr x) (inr y) = moved o other (outcome x.0) (outcome y.0) x.1 y.1 (same text x.0 y.0 x.2 y.2)
 
-module _ (outcome : Parts → Outcome) where
-  image_of : (bytes : List ℕ) (o : Outcome) → OfImage outcome bytes o → ((part : ℕ) × (o ≡ IsBad part) × BadBytes bytes part) ⊎ ((parts : Parts) × (o ≡ outcome parts) × IsImage bytes parts)
-  image_of bytes (Refuses fault) h = inr (h.0, h.2, h.1)
+module _ (outcome : Format → Parts → Outcome) where
+  image_of : (bytes : List ℕ) (o : Outcome) → OfImage outcome bytes o → ((part : ℕ) × (o ≡ IsBad part) × BadBytes bytes part) ⊎ ((format : Format) × (parts : Parts) × (o ≡ outcome format parts) × IsImageIn format bytes parts)
+  image_of bytes (Refuses fault) h = inr (h.0, h.1, h.3, h.2)
   image_of bytes (IsBad part) h = inl (part, refl, h)
-  image_of bytes (Keeps name image) h = inr (h.0, h.2, h.1)
-  image_of bytes (Puts text) h = inr (h.0, h.2, h.1)
-  image_of bytes (PutsLine line) h = inr (h.0, h.2, h.1)
-  image_of bytes (Executes parts limit) h = inr (h.0, h.2, h.1)
-  image_of bytes (Interprets program limit) h = inr (h.0, h.2, h.1)
+  image_of bytes (Keeps name image) h = inr (h.0, h.1, h.3, h.2)
+  image_of bytes (Puts text) h = inr (h.0, h.1, h.3, h.2)
+  image_of bytes (PutsLine line) h = inr (h.0, h.1, h.3, h.2)
+  image_of bytes (Executes parts limit) h = inr (h.0, h.1, h.3, h.2)
+  image_of bytes (Interprets program limit) h = inr (h.0, h.1, h.3, h.2)
 
-  images_agree : ((bytes : List ℕ) (parts other : Parts) → IsImage bytes parts → IsImage bytes other → Agrees (outcome parts) (outcome other))
+  images_agree : ((bytes : List ℕ) (f g : Format) (parts other : Parts) → IsImageIn f bytes parts → IsImageIn g bytes other → Agrees (outcome f parts) (outcome g other))
       → (bytes : List ℕ) (o other : Outcome) → OfImage outcome bytes o → OfImage outcome bytes other → Agrees o other
   images_agree same bytes o other p q = by_both (image_of bytes o p) (image_of bytes other q)
     where
-      by_both : ((part : ℕ) × (o ≡ IsBad part) × BadBytes bytes part) ⊎ ((parts : Parts) × (o ≡ outcome parts) × IsImage bytes parts)
-          → ((part : ℕ) × (other ≡ IsBad part) × BadBytes bytes part) ⊎ ((parts : Parts) × (other ≡ outcome parts) × IsImage bytes parts) → Agrees o other
+      by_both : ((part : ℕ) × (o ≡ IsBad part) × BadBytes bytes part) ⊎ ((format : Format) × (parts : Parts) × (o ≡ outcome format parts) × IsImageIn format bytes parts)
+          → ((part : ℕ) × (other ≡ IsBad part) × BadBytes bytes part) ⊎ ((format : Format) × (parts : Parts) × (other ≡ outcome format parts) × IsImageIn format bytes parts) → Agrees o other
       by_both (inl x) (inl y) = moved o other (IsBad x.0) (IsBad y.0) x.1 y.1 (bad_bytes_once bytes x.0 y.0 x.2 y.2)
-      by_both (inl x) (inr y) = absurd (never_bad_bytes bytes y.0 x.0 y.2 x.2)
-      by_both (inr x) (inl y) = absurd (never_bad_bytes bytes x.0 y.0 x.2 y.2)
-      by_both (inr x) (inr y) = moved o other (outcome x.0) (outcome y.0) x.1 y.1 (same bytes x.0 y.0 x.2 y.2)
+      by_both (inl x) (inr y) = absurd (never_bad_bytes y.0 bytes y.1 x.0 y.3 x.2)
+      by_both (inr x) (inl y) = absurd (never_bad_bytes x.0 bytes x.1 y.0 x.3 y.2)
+      by_both (inr x) (inr y) = moved o other (outcome x.0 x.1) (outcome y.0 y.1) x.2 y.2 (same bytes x.0 y.0 x.1 y.1 x.3 y.3)
 
 ones_agree : (Comes : List ℕ → Outcome → Type 0) → ((bytes : List ℕ) (o other : Outcome) → Comes bytes o → Comes bytes other → Agrees o other)
     → (fetched : List (List ℕ)) (o other : Outcome) → OfOne Comes fetched o → OfOne Comes fetched other → Agrees o other
@@ -111,10 +92,10 @@ ones_agree Comes h [] o other p q = absurd p
 ones_agree Comes h (bytes ∷ []) o other p q = h bytes o other p q
 ones_agree Comes h (bytes ∷ more ∷ rest) o other p q = absurd p
 
-same_listing : (bytes : List ℕ) (p q : Parts) → IsImage bytes p → IsImage bytes q → listing p.entry p.code p.initial ≡ listing q.entry q.code q.initial
-same_listing bytes p q i j =
-    let e = same_parts bytes p.entry q.entry p.code q.code p.initial q.initial i j in
-    λ k. listing (e.0 k) (e.1 k) (e.2 k)
+same_listing : (bytes : List ℕ) (f g : Format) (p q : Parts) → IsImageIn f bytes p → IsImageIn g bytes q → shown_image f p.entry p.code p.initial ≡ shown_image g q.entry q.code q.initial
+same_listing bytes f g p q i j =
+    let e = same_parts f g bytes p.entry q.entry p.code q.code p.initial q.initial i j in
+    λ k. shown_image (e.0 k) (e.1 k) (e.2 k) (e.3 k)
 
 pub one_outcome : (command : Command) (fetched : List (List ℕ)) (o other : Outcome) → Makes command fetched o → Makes command fetched other → Agrees o other
 one_outcome (Build text image) =
@@ -130,9 +111,9 @@ one_outcome (Interp text limit) =
     ones_agree (OfText FirstFault HasMeaning (λ p. Interprets p limit))
     (texts_agree FirstFault HasMeaning (λ p. Interprets p limit) meanings_exact.refused_once (λ t f made r m. meanings_exact.never_both t made f m r)
     (λ t made other m n. (meanings_exact.made_once t made other m n, refl)))
-one_outcome (Run image limit) = ones_agree (OfImage (λ parts. Executes parts limit)) (images_agree (λ parts. Executes parts limit) (λ b parts other m n. refl))
+one_outcome (Run image limit) = ones_agree (OfImage (λ format parts. Executes parts limit)) (images_agree (λ format parts. Executes parts limit) (λ b f g parts other m n. refl))
 one_outcome (Show image) =
-    ones_agree (OfImage (λ parts. Puts (listing parts.entry parts.code parts.initial))) (images_agree (λ parts. Puts (listing parts.entry parts.code parts.initial)) same_listing)
+    ones_agree (OfImage (λ format parts. Puts (shown_image format parts.entry parts.code parts.initial))) (images_agree (λ format parts. Puts (shown_image format parts.entry parts.code parts.initial)) same_listing)
 one_outcome (Judge text) =
     ones_agree (OfText FirstFault judging.Makes (λ p. PutsLine (checked_line p)))
     (texts_agree FirstFault judging.Makes (λ p. PutsLine (checked_line p)) meanings_exact.refused_once (λ t f made r m. meanings_exact.never_both t (elaborated made) f (made, m, refl) r)
@@ -161,12 +142,12 @@ formed_text IsRefused IsMade outcome command h text o x = by_case (text_of IsRef
     by_case (inl r) = subst (λ (x : Outcome). Form x command) (sym r.1) tt
     by_case (inr m) = subst (λ (x : Outcome). Form x command) (sym m.1) (h m.0)
 
-formed_image : (outcome : Parts → Outcome) (command : Command) → ((parts : Parts) → Form (outcome parts) command) → (bytes : List ℕ) (o : Outcome) → OfImage outcome bytes o → Form o command
+formed_image : (outcome : Format → Parts → Outcome) (command : Command) → ((format : Format) (parts : Parts) → Form (outcome format parts) command) → (bytes : List ℕ) (o : Outcome) → OfImage outcome bytes o → Form o command
 formed_image outcome command h bytes o x = by_case (image_of outcome bytes o x)
   where
-    by_case : ((part : ℕ) × (o ≡ IsBad part) × BadBytes bytes part) ⊎ ((parts : Parts) × (o ≡ outcome parts) × IsImage bytes parts) → Form o command
+    by_case : ((part : ℕ) × (o ≡ IsBad part) × BadBytes bytes part) ⊎ ((format : Format) × (parts : Parts) × (o ≡ outcome format parts) × IsImageIn format bytes parts) → Form o command
     by_case (inl b) = subst (λ (x : Outcome). Form x command) (sym b.1) tt
-    by_case (inr m) = subst (λ (x : Outcome). Form x command) (sym m.1) (h m.0)
+    by_case (inr m) = subst (λ (x : Outcome). Form x command) (sym m.2) (h m.0 m.1)
 
 formed_one : (Comes : List ℕ → Outcome → Type 0) (command : Command) → ((bytes : List ℕ) (o : Outcome) → Comes bytes o → Form o command)
     → (fetched : List (List ℕ)) (o : Outcome) → OfOne Comes fetched o → Form o command
@@ -184,10 +165,10 @@ formed (Exec text limit) =
     formed_one (OfText FirstFault Built (λ parts. Executes parts limit)) (Exec text limit) (formed_text FirstFault Built (λ parts. Executes parts limit) (Exec text limit) (λ made. refl))
 formed (Interp text limit) =
     formed_one (OfText FirstFault HasMeaning (λ p. Interprets p limit)) (Interp text limit) (formed_text FirstFault HasMeaning (λ p. Interprets p limit) (Interp text limit) (λ made. refl))
-formed (Run image limit) = formed_one (OfImage (λ parts. Executes parts limit)) (Run image limit) (formed_image (λ parts. Executes parts limit) (Run image limit) (λ parts. refl))
+formed (Run image limit) = formed_one (OfImage (λ format parts. Executes parts limit)) (Run image limit) (formed_image (λ format parts. Executes parts limit) (Run image limit) (λ format parts. refl))
 formed (Show image) =
-    formed_one (OfImage (λ parts. Puts (listing parts.entry parts.code parts.initial))) (Show image)
-    (formed_image (λ parts. Puts (listing parts.entry parts.code parts.initial)) (Show image) (λ parts. tt))
+    formed_one (OfImage (λ format parts. Puts (shown_image format parts.entry parts.code parts.initial))) (Show image)
+    (formed_image (λ format parts. Puts (shown_image format parts.entry parts.code parts.initial)) (Show image) (λ format parts. tt))
 formed (Judge text) =
     formed_one (OfText FirstFault judging.Makes (λ p. PutsLine (checked_line p))) (Judge text)
     (formed_text FirstFault judging.Makes (λ p. PutsLine (checked_line p)) (Judge text) (λ made. tt))
