@@ -1,3 +1,4 @@
 pub mod Pieces
 pub mod Statements
 pub mod FineProgram
+pub mod SwappedLast

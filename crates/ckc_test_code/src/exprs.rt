@@ -49,7 +49,8 @@ fn leaf(word: &str, locals: u32) -> Result<Head, TextFault>
     }
 }
 
-fn local_of(word: &str) -> Option<u32> {
+/// A local, as `x3`.
+pub fn local_of(word: &str) -> Option<u32> {
     let digits = word.strip_prefix('x')?;
     digits.parse::<u32>().ok()
 }

@@ -14,39 +14,67 @@ use ckc_image::{Parts, View, write};
 use ckc_lower::lower;
 use ckc_machine::{Machine, Observed};
 use ckc_outside::{MemSink, MemSource};
-use ckc_test_code::{TextFault, program};
+use ckc_test_code::{TextFault, program, with_moves};
 use ckc_test_trials::{Judge, Page};
-use std::alloc::{AllocError, Global};
+use std::alloc::Global;
 
 /// How many instructions a run may take.
 const LIMIT: u64 = 3_000_000;
 
-/// `run | PROGRAM | INPUT | WANTED`
+/// `run | PROGRAM | INPUT | WANTED`, `places | PROGRAM | PLACES | INPUT | WANTED` and
+/// `compare | PROGRAM | PLACES | INPUT | WANTED`
 pub struct Runs;
 
 impl Judge for Runs {
     fn answer(&self, kind: &str, given: &[Vec<u8>], page: &mut Page) {
         match (kind, given) {
-            ("run", [text, input]) => put_run(text.as_slice(), input.as_slice(), page),
-            _ => page.refuse("not run | PROGRAM | INPUT | WANTED"),
+            ("run", [text, input]) => put_run(text.as_slice(), &[], input.as_slice(), page),
+            ("places", [text, places, input]) => {
+                put_run(text.as_slice(), places.as_slice(), input.as_slice(), page)
+            }
+            ("compare", [text, places, input]) => {
+                compare(text.as_slice(), places.as_slice(), input.as_slice(), page)
+            }
+            _ => page.refuse("not run | PROGRAM | INPUT | WANTED, nor with PLACES"),
         }
     }
 }
 
-fn put_run(text: &[u8], input: &[u8], page: &mut Page) {
-    match program(page.alloc(), text) {
-        Ok(core) => match compiled(page.alloc(), &core) {
-            Ok(Some(parts)) => put_image(&parts, input, page),
-            Ok(None) => page.refuse("a program that is too large"),
-            Err(_) => page.lacks_memory(),
-        },
+/// Whether a program with other places shows the same.
+fn compare(text: &[u8], places: &[u8], input: &[u8], page: &mut Page) {
+    let mut one = Page::new(page.alloc());
+    let mut other = Page::new(page.alloc());
+    put_run(text, &[], input, &mut one);
+    put_run(text, places, input, &mut other);
+    if let Some(why) = one.wrong() {
+        page.refuse(why);
+    }
+    if let Some(why) = other.wrong() {
+        page.refuse(why);
+    }
+    page.put(if one.bytes() == other.bytes() {
+        "same"
+    } else {
+        "differs"
+    });
+}
+
+fn put_run(text: &[u8], places: &[u8], input: &[u8], page: &mut Page) {
+    match parts_of(page.alloc(), text, places) {
+        Ok(Some(parts)) => put_image(&parts, input, page),
+        Ok(None) => page.refuse("a program that is too large"),
         Err(TextFault::Malformed(why)) => page.refuse(why),
         Err(TextFault::Memory) => page.lacks_memory(),
     }
 }
 
-/// The parts that a program is compiled to, if it is not too large.
-fn compiled(alloc: Global, core: &Core) -> Result<Option<Parts>, AllocError>
+fn parts_of(alloc: Global, text: &[u8], places: &[u8]) -> Result<Option<Parts>, TextFault> {
+    let core = program(alloc, text)?;
+    compiled(alloc, &core, places)
+}
+
+/// The parts that a program is compiled to with these places, if it is not too large.
+fn compiled(alloc: Global, core: &Core, places: &[u8]) -> Result<Option<Parts>, TextFault>
     requires whole { IsWellFormed (program_of core.now) }
     requires limits { IsWithinLimits (program_of core.now) }
     requires initial { length core.now.initial ≡ 8 }
@@ -54,7 +82,7 @@ fn compiled(alloc: Global, core: &Core) -> Result<Option<Parts>, AllocError>
     let tac = lower(alloc, core)?;
     match size_of(&tac) {
         Some(size) if size <= 4_000_000 => {
-            let placed = assign(alloc, &tac)?;
+            let placed = with_moves(alloc, assign(alloc, &tac)?, places)?;
             let lines = emit(alloc, &placed)?;
             Ok(Some(assemble(alloc, &lines)?))
         }
