@@ -1,4 +1,5 @@
 //! Cases of `ccc` over objects in memory: lines that are done one after another.
+use crate::lean::LeanStore;
 use crate::notation::{bytes_of, image_of, number_of, numbers_of, split_word, words_of};
 use crate::statuses::status_of;
 use crate::watching::{put_stores, run_watched};
@@ -111,6 +112,7 @@ impl<'a> Desk<'a> {
         match key {
             "input" => self.input = bytes_of(rest, page),
             "ccc" => self.call(store, rest, page),
+            "lean" => self.call(&mut LeanStore::new(), rest, page),
             "report" => self.report(rest, page),
             "watch" => self.watch(store, rest, page),
             "stores" => self.judge_stores(rest, page),
@@ -166,8 +168,8 @@ impl<'a> Desk<'a> {
         }
     }
 
-    /// `ccc WORDS`: makes the next call.
-    fn call(&mut self, store: &mut MemStore<'_>, rest: &str, page: &mut Page) {
+    /// `ccc WORDS`: makes the next call. `lean WORDS`: with a store that has no memory.
+    fn call<F: Store>(&mut self, store: &mut F, rest: &str, page: &mut Page) {
         self.settle(page);
         let words = words_of(rest, page);
         let mut room = Vec::new(page.alloc());

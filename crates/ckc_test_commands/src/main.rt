@@ -5,6 +5,7 @@
 mod code;
 mod commands;
 mod labelled;
+mod lean;
 mod machine;
 mod notation;
 mod pages;
