@@ -1,0 +1,2 @@
+//! The grammar of Checked C, as the language has it.
+#![tactic(auto)]
