@@ -87,7 +87,7 @@ used place x f = f x.pos
 used whole x f = f x
 
 -- what is made of the symbols of a derivation
-pub result : {ss : List Symbol} {xs : List Word} {e : Bool} → Derivation ss xs e → (X : Type 0) → Makes ss X → X
+unfoldable pub result : {ss : List Symbol} {xs : List Word} {e : Bool} → Derivation ss xs e → (X : Type 0) → Makes ss X → X
 result nil X f = f
 result (read {u = u} {ss = ss} {x = x} h d) X f = result d X (used u x.token f)
 result (by {p = p} c xs ys d d2 h) X f = result d2 X (f (result d (Meaning p) (chosen (productions p) c).made))
