@@ -1,0 +1,5 @@
+pub mod Derivation
+pub mod Makers
+pub mod Productions
+pub mod Text
+pub mod Trees

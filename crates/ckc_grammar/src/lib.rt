@@ -1,0 +1,7 @@
+//! The grammar of Checked C, as the language has it: its productions in the order of docs/language.md, each with what
+//! it stands for, and how tokens derive a text.
+#![tactic(auto)]
+
+mod laws;
+
+pub use laws::no_tokens_are_a_text;

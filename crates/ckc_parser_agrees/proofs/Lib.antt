@@ -1,0 +1,3 @@
+pub mod Onto
+pub mod Pieces
+pub mod Tokens
