@@ -3,7 +3,6 @@ use Rattle.std.proofs.Common.{◌≡◌, ℕ, zero, suc, List, [], ◌∷◌, �
 use Rattle.std.specs.Prelude.{Option, None, Some, codes}
 use Rattle.ckc_base.specs.declared.places.Pos.{Pos}
 use Rattle.ckc_base.specs.declared.arithmetic.Mode.{Mode}
-use Rattle.ckc_base.specs.declared.arithmetic.Mode.TheVariants as modes
 use Rattle.ckc_syntax.specs.Spelled.{Spelled}
 use Rattle.ckc_syntax.specs.declared.tree.Length.{Length}
 use Rattle.ckc_syntax.specs.declared.tree.Length.TheVariants as lengths
@@ -19,7 +18,6 @@ use Rattle.ckc_parser_grammar.specs.declared.kind.Kind.TheVariants as k
 use Rattle.ckc_parser_grammar.specs.declared.parts.Step as table
 use Rattle.ckc_parser_grammar.specs.declared.parts.Arms.{Arms}
 use Rattle.ckc_parser_grammar.specs.declared.parts.Post.{Post}
-use Rattle.ckc_parser_grammar.specs.declared.parts.Post.TheVariants as behind
 use Rattle.ckc_parser_grammar.specs.Kinds.{kind_of_token, is_sign, is_operator, is_literal, sign_op, binary_op}
 use Rattle.ckc_parser_grammar.specs.Grammar.{Rule, Fits, left, right, allowed, not_else, is_name, is_greater}
 use Rattle.ckc_parser_grammar.specs.Grammar as g
@@ -28,12 +26,12 @@ use Rattle.ckc_parser_grammar.specs.Derives.{Sign, before, Derives}
 use Rattle.ckc_parser_grammar.specs.Derives as D
 use Rattle.ckc_parser_grammar.specs.Trees as T
 use Rattle.ckc_parser_grammar.specs.Values as v
-use Rattle.ckc_parser_grammar.specs.Values.{Value, made, called, whole, as_token, as_items, as_items_of_name, as_items_of_base, as_items_of_declarator, as_item_of_head, as_decl, as_decls, as_decl_of_base, as_decls_of_base, as_decl_of_name, as_length, as_size, as_init, as_mode, as_type, as_stars, as_limits, as_declared_limits, as_limits_at, as_limits_of_unknown, as_expr, as_exprs, as_value, as_expr_behind, as_expr_of_name, as_expr_of_less, as_arms, as_next, as_steps, as_post, as_posts, as_stmt, as_part, as_stmts, as_stmt_of_name, as_op, type_of, operand_of, limits_of, place}
+use Rattle.ckc_parser_grammar.specs.Values.{Value, made, called, whole, as_items, as_items_of_name, as_items_of_base, as_items_of_declarator, as_item_of_head, as_decl, as_decls, as_decl_of_base, as_decls_of_base, as_decl_of_name, as_length, as_size, as_init, as_mode, as_type, as_stars, as_limits, as_declared_limits, as_limits_at, as_limits_of_unknown, as_expr, as_exprs, as_value, as_expr_behind, as_expr_of_name, as_expr_of_less, as_arms, as_next, as_steps, as_post, as_posts, as_stmt, as_part, as_stmts, as_stmt_of_name, as_op, type_of, operand_of, limits_of, place}
 use Rattle.ckc_grammar.specs.Trees as L
 use Rattle.ckc_grammar.specs.Trees.{Item, Head, TypeTree, Decl, Init, Limits, Expr, Stmt, Step, starred, expr_at}
 use Rattle.ckc_grammar.specs.Makers.{flat, given, applied, mode_of, length_of, init_of, initial_of, directive_of, head_of, function_of, declared}
 use Rattle.ckc_grammar.specs.Productions as l
-use Rattle.ckc_grammar.specs.Productions.{Terminal, Symbol, n, Makes, key, sign, sign_at, name, keyword, mark, word, any_name, any_number, any_character, any_string, any_directive, opt, many, commas, after, range}
+use Rattle.ckc_grammar.specs.Productions.{Terminal, Symbol, n, Makes, key, sign, sign_at, name, keyword, mark, word, any_name, opt, many, commas, after, range}
 use Rattle.ckc_grammar.specs.Derivation.{Word, is_mark, fits, before_else, adjoins, words_after, words}
 use Rattle.ckc_grammar.specs.Text.{DerivesText, DerivesTree}
 use Rattle.ckc_parser_agrees.proofs.Tokens.{sign_of, reads, read_as, name_read, word_name, mark_kind, greater_read, else_agrees}
@@ -759,7 +757,7 @@ after_same x (y ∷ ys) =
     ap (λ z. record { kind = glued z (kind_of_token y); token = y } ∷ map sign_of (words_after y ys)) a
     ∙ ap (λ z. record { kind = kind_after x y; token = y } ∷ z) (after_same y ys)
 
-words_same : (xs : List Spelled) → map sign_of (words xs) ≡ signs xs
+pub words_same : (xs : List Spelled) → map sign_of (words xs) ≡ signs xs
 words_same [] = refl
 words_same (x ∷ xs) =
     ap (λ z. record { kind = z; token = x } ∷ map sign_of (words_after x xs)) (glued_alone (kind_of_token x))

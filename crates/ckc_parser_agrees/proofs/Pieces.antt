@@ -1,6 +1,6 @@
 -- Derivations of the grammar with their values, put together.
 use Rattle.std.proofs.Common.{◌≡◌, List, [], ◌∷◌, ◌++◌, Bool, true, false, inl, inr, refl, sym, ap, subst, ◌∙◌, append_assoc, append-nil}
-use Rattle.std.specs.Prelude.{Option, None, Some, codes}
+use Rattle.std.specs.Prelude.{None, Some, codes}
 use Rattle.ckc_grammar.specs.Productions.{Terminal, keyword, mark, Use, Part, Symbol, t, n, no_else, Meaning, Makes, productions, opt, many, commas, after}
 use Rattle.ckc_grammar.specs.Derivation.{Word, fits, before_else, Choice, chosen, parts_of, Derivation, used, result}
 use Rattle.ckc_grammar.specs.Derivation as D

@@ -3,7 +3,6 @@ use Rattle.std.proofs.Common.{◌≡◌, ℕ, List, [], ◌∷◌, Bool, true, f
 use Rattle.std.proofs.lemmas.Bool.Decides.{nat_tests}
 use Rattle.std.specs.Prelude.{if◌then◌else◌, codes}
 use Rattle.ckc_base.specs.declared.places.Pos.{Pos}
-use Rattle.ckc_syntax.specs.Spelled.{Spelled}
 use Rattle.ckc_syntax.specs.declared.tokens.TokenKind.{TokenKind}
 use Rattle.ckc_syntax.specs.declared.tokens.TokenKind.TheVariants as kinds
 use Rattle.ckc_syntax.specs.declared.tokens.Directive.{Directive}
@@ -296,6 +295,55 @@ named_by _ text s h = absurd (cc)
 
 pub word_name : (s : List ℕ) (w : Word) → fits (word s) w ≡ true → fits any_name w ≡ true
 word_name s w h = named_by w.token.kind w.token.text s h
+
+abbrev fits_names : Kind → Word → Bool
+fits_names k w = implies (fits any_name w) (is_name k)
+
+fits_after : Keeps fits_names true
+fits_after = record { on_names = λ p. refl; on_keywords = λ p. refl; on_marks = λ p. refl; other_name = λ t p. refl; other_keyword = λ t p. refl; other_mark = λ t p. refl; on_number = λ m u t p. refl; on_character = λ m t p. refl; on_text = λ t p. refl; on_directive = λ d t p. refl }
+
+fits_alone : Keeps fits_names false
+fits_alone = record { on_names = λ p. refl; on_keywords = λ p. refl; on_marks = λ p. refl; other_name = λ t p. refl; other_keyword = λ t p. refl; other_mark = λ t p. refl; on_number = λ m u t p. refl; on_character = λ m t p. refl; on_text = λ t p. refl; on_directive = λ d t p. refl }
+
+-- the kinds of tokens of a class
+pub name_kind : (w : Word) → fits any_name w ≡ true → is_name (sign_of w).kind ≡ true
+name_kind w h = subst (λ b. implies b (is_name (sign_of w).kind) ≡ true) h (kept fits_names fits_after fits_alone w)
+
+number_by : (k : TokenKind) (text : List ℕ) (b : Bool) → is_of any_number k ≡ true → glued b (kind_by k text) ≡ kind.Number
+number_by (kinds.Number m u) text b h = refl
+number_by _ text b h = absurd (cc)
+
+pub number_kind : (w : Word) → fits any_number w ≡ true → (sign_of w).kind ≡ kind.Number
+number_kind w h = number_by w.token.kind w.token.text w.glued h
+
+character_by : (k : TokenKind) (text : List ℕ) (b : Bool) → is_of any_character k ≡ true → glued b (kind_by k text) ≡ kind.Character
+character_by (kinds.Character m) text b h = refl
+character_by _ text b h = absurd (cc)
+
+pub character_kind : (w : Word) → fits any_character w ≡ true → (sign_of w).kind ≡ kind.Character
+character_kind w h = character_by w.token.kind w.token.text w.glued h
+
+string_by : (k : TokenKind) (text : List ℕ) (b : Bool) → is_of any_string k ≡ true → glued b (kind_by k text) ≡ kind.Text
+string_by kinds.Text text b h = refl
+string_by _ text b h = absurd (cc)
+
+pub string_kind : (w : Word) → fits any_string w ≡ true → (sign_of w).kind ≡ kind.Text
+string_kind w h = string_by w.token.kind w.token.text w.glued h
+
+directive_by : (k : TokenKind) (text : List ℕ) (b : Bool) → is_of any_directive k ≡ true → glued b (kind_by k text) ≡ kind.Directive
+directive_by (kinds.Directive d) text b h = refl
+directive_by _ text b h = absurd (cc)
+
+pub directive_kind : (w : Word) → fits any_directive w ≡ true → (sign_of w).kind ≡ kind.Directive
+directive_kind w h = directive_by w.token.kind w.token.text w.glued h
+
+-- a mark by itself
+plain_by : (k : TokenKind) (text s : List ℕ) → is_mark k text s ≡ true → kind_by k text ≡ kind_of_mark s
+plain_by kinds.Mark text s h = ap (λ z. kind_of_mark z) (same_text text s h)
+plain_by _ text s h = absurd (cc)
+
+pub plain_kind : (s : List ℕ) (w : Word) → fits (mark s) w ≡ true → kind_of_token w.token ≡ kind_of_mark s
+plain_kind s w h = plain_by w.token.kind w.token.text s h
 
 -- a token before which `else` is told the same
 else_or : (a b : Bool) → (a ≡ false → b ≡ true) → (b ≡ true → a ≡ false) → b ≡ (if a then false else true)

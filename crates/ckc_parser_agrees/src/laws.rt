@@ -1,22 +1,23 @@
-ghost use Rattle.std.specs.Prelude.{◌++◌, List, [], ◌∷◌};
+ghost use Rattle.std.specs.Prelude.{◌↔◌, List};
+ghost use Rattle.ckc_base.specs.declared.places.Pos.{Pos};
+ghost use Rattle.ckc_base.specs.declared.places.Refusal.{Refusal};
 ghost use Rattle.ckc_syntax.specs.Spelled.{Spelled};
-ghost use Rattle.ckc_parser_grammar.specs.declared.kind.Kind.TheVariants as kind;
-ghost use Rattle.ckc_parser_grammar.specs.Derives.{Derives};
-ghost use Rattle.ckc_parser_grammar.specs.Grammar as g;
-ghost use Rattle.ckc_parser_grammar.specs.Grammar.{n};
-ghost use Rattle.ckc_parser_grammar.specs.Signs.{signs};
-ghost use Rattle.ckc_parser_grammar.specs.Values.{Value, tree};
-ghost use Rattle.ckc_grammar.specs.Text.{DerivesTree, Viable};
+ghost use Rattle.ckc_grammar.specs.Text.{DerivesTree, Viable, FirstFault};
 ghost use Rattle.ckc_grammar.specs.Trees.{Tree};
+ghost use Rattle.ckc_parser_agrees.specs.Table.{TreeByTable, ViableByTable, FirstFaultByTable};
 
-/// Each tree that tokens derive by the parser's table is one that they derive by the grammar.
-pub fn trees_of_table()
-    ensures { (xs : List Spelled) (whole : Tree)
-        → Derives (n g.text ∷ []) (signs xs) kind.End (tree whole ∷ []) → DerivesTree xs whole }
+/// Tokens derive the same trees by the grammar and by the parser's table.
+pub fn same_trees()
+    ensures { (xs : List Spelled) (whole : Tree) → DerivesTree xs whole ↔ TreeByTable xs whole }
 {}
 
-/// Tokens that begin a text by the table begin one by the grammar.
-pub fn beginnings_of_table()
-    ensures { (xs ys : List Spelled) (x : Value)
-        → Derives (n g.text ∷ []) (signs (xs ++ ys)) kind.End (x ∷ []) → Viable xs }
+/// Tokens begin a text by the grammar exactly when they begin one by the table.
+pub fn same_beginnings()
+    ensures { (xs : List Spelled) → Viable xs ↔ ViableByTable xs }
+{}
+
+/// Tokens are refused for the same first fault by the grammar and by the table.
+pub fn same_faults()
+    ensures { (xs : List Spelled) (end : Pos) (r : Refusal)
+        → FirstFault xs end r ↔ FirstFaultByTable xs end r }
 {}

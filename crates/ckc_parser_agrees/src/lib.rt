@@ -1,6 +1,6 @@
-//! What the parser's table derives is what the grammar of the language derives.
+//! The parser's table and the grammar of the language derive the same trees, and refuse tokens for the same first fault.
 #![tactic(auto)]
 
 mod laws;
 
-pub use laws::{beginnings_of_table, trees_of_table};
+pub use laws::{same_beginnings, same_faults, same_trees};
