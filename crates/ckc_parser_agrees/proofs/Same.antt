@@ -15,7 +15,7 @@ use Rattle.ckc_grammar.specs.Productions.{productions}
 use Rattle.ckc_grammar.specs.Derivation.{Word, before_else, chosen, Derivation, used, result, value}
 use Rattle.ckc_grammar.specs.Derivation as E
 use Rattle.ckc_grammar.specs.Text.{DerivesText, DerivesTree, Viable, FaultAt, FirstFault}
-use Rattle.ckc_parser_agrees.specs.Table.{DerivesByTable, TreeByTable, ViableByTable, FaultAtByTable, FirstFaultByTable}
+use Rattle.ckc_parser.specs.Text.{DerivesValue as DerivesByTable, DerivesTokens as TreeByTable, Viable as ViableByTable, FaultAt as FaultAtByTable, FirstFault as FirstFaultByTable}
 use Rattle.ckc_parser_agrees.proofs.Pieces.{cut}
 use Rattle.ckc_parser_agrees.proofs.Onto.{trees, texts, words_same}
 use Rattle.ckc_parser_agrees.proofs.Back.{All, t_moved, Got, end, token, piece, sole, worth}
