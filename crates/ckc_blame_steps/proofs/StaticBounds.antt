@@ -63,8 +63,8 @@ join : (a b : Bool) → a ≡ true → b ≡ true → (a && b) ≡ true
 join true b e f = f
 join false b e f = absurd cc
 
-small_between : (c : ℤ) → neg_ℤ (pos (2 ^ 40)) ≤ℤ c → c ≤ℤ pos (2 ^ 40) → is_small c ≡ true
-small_between c l h = join (int_le (neg_ℤ (pos (2 ^ 40))) c) (int_le c (pos (2 ^ 40))) (most _ c l) (most c _ h)
+small_between : (c : ℤ) → neg_ℤ (pos (2 ^ 42)) ≤ℤ c → c ≤ℤ pos (2 ^ 42) → is_small c ≡ true
+small_between c l h = join (int_le (neg_ℤ (pos (2 ^ 42))) c) (int_le c (pos (2 ^ 42))) (most _ c l) (most c _ h)
 
 record IsNear (c : ℤ) : Type 0 where
   pub low : neg_ℤ (pos (2 ^ 24)) ≤ℤ c
@@ -79,10 +79,10 @@ small_near c n = let l = n.low in let h = n.high in small_between c (omega (arit
 fits_signed : (c : ℤ) → neg_ℤ (pos (2 ^ 24)) ≤ℤ c → c ≤ℤ pos (2 ^ 24) → FitsSigned w32 c
 fits_signed c l h = omega (arith, ints, l, h)
 
-fits_low : (c : ℤ) → FitsSigned w32 c → neg_ℤ (pos (2 ^ 40)) ≤ℤ c
+fits_low : (c : ℤ) → FitsSigned w32 c → neg_ℤ (pos (2 ^ 42)) ≤ℤ c
 fits_low c f = omega (arith, ints, f)
 
-fits_high : (c : ℤ) → FitsSigned w32 c → c ≤ℤ pos (2 ^ 40)
+fits_high : (c : ℤ) → FitsSigned w32 c → c ≤ℤ pos (2 ^ 42)
 fits_high c f = omega (arith, ints, f)
 
 positive : (n : ℕ) → nat_lt 0 n ≡ true → 0 < n

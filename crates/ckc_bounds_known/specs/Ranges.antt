@@ -36,9 +36,9 @@ with_range x (Some r) facts = with_fact (record { x = 0; y = x; c = neg_ℤ r.lo
 abbrev pub forgotten : ℕ → Known → Known
 forgotten x facts = record facts { list = filter (λ f. not (names x f)) facts.list }
 
--- The number of an integer form is within 2^40: a thousand numbers of 32 bits sum to less.
+-- The number of an integer form is within 2^42: the 1,000 nodes of a function add at most 2^32 each.
 abbrev pub is_small : ℤ → Bool
-is_small n = is_within (2 ^ 40) n
+is_small n = is_within (2 ^ 42) n
 
 -- the fact that a form is at most the greatest number of a range
 abbrev pub below : Form → Interval → Fact

@@ -36,15 +36,15 @@ pub fn range_of(t: &CType) -> Option<Interval>
     }
 }
 
-/// Whether a number may be that of a form: it is within 2^40.
+/// Whether a number may be that of a form: it is within 2^42.
 pub fn is_small(n: i64) -> bool
     ensures { result ≡ is_small n }
 {
-    is_within(1 << 40, n)
+    is_within(1 << 42, n)
 }
 
 fn below(f: Form, r: Interval) -> Fact
-    requires { IsWithin (2 ^ 40) f.add }
+    requires { IsWithin (2 ^ 42) f.add }
     ensures { result ≡ below f r }
 {
     Fact {
@@ -55,7 +55,7 @@ fn below(f: Form, r: Interval) -> Fact
 }
 
 fn above(f: Form, r: Interval) -> Fact
-    requires { IsWithin (2 ^ 40) f.add }
+    requires { IsWithin (2 ^ 42) f.add }
     ensures { result ≡ above f r }
 {
     Fact {
@@ -65,7 +65,7 @@ fn above(f: Form, r: Interval) -> Fact
     }
 }
 
-/// Whether facts show that a form, with a number within 2^40, lies in an interval.
+/// Whether facts show that a form, with a number within 2^42, lies in an interval.
 pub fn is_between(work: &mut Work, facts: &Facts, f: Form, r: Interval) -> Result<bool, AllocError>
     ensures { IfOk result (λ b. b ≡ (is_small f.add
         && (is_shown (known facts.now) (below f r) && is_shown (known facts.now) (above f r)))) }

@@ -148,10 +148,10 @@ pub fn same_form(f: &Form, g: &Form) -> bool
 
 /// That `x <= y`, of forms with one base or none.
 pub fn at_most(x: Form, y: Form) -> Fact
-    requires left { IsWithin (2 ^ 40) x.add }
-    requires right { IsWithin (2 ^ 40) y.add }
+    requires left { IsWithin (2 ^ 42) x.add }
+    requires right { IsWithin (2 ^ 42) y.add }
     ensures value { result ≡ at_most x y }
-    ensures small { IsWithin (2 ^ 41) result.c }
+    ensures small { IsWithin (2 ^ 43) result.c }
 {
     Fact {
         x: x.var,
@@ -161,8 +161,8 @@ pub fn at_most(x: Form, y: Form) -> Fact
 }
 
 fn at_less(x: Form, y: Form) -> Fact
-    requires left { IsWithin (2 ^ 40) x.add }
-    requires right { IsWithin (2 ^ 40) y.add }
+    requires left { IsWithin (2 ^ 42) x.add }
+    requires right { IsWithin (2 ^ 42) y.add }
     ensures { result ≡ at_less x y }
 {
     let f = at_most(x, y);

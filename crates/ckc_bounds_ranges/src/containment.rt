@@ -30,8 +30,8 @@ fn is_at_most(work: &mut Work, facts: &Facts, f: Form, g: Form) -> Result<bool, 
 }
 
 fn at_most_far(f: Form, g: Form) -> Fact
-    requires left { IsWithin (2 ^ 40) f.add }
-    requires right { IsWithin (2 ^ 40) g.add }
+    requires left { IsWithin (2 ^ 42) f.add }
+    requires right { IsWithin (2 ^ 42) g.add }
     ensures { result ≡ at_most_far f g }
 {
     let order = at_most(f, g);
