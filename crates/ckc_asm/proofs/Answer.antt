@@ -19,7 +19,7 @@ use Rattle.ckc_asm.specs.Program as program
 use Rattle.ckc_asm.specs.Program.{width_of, size_of, offset_of, address_of, HasLabel, IsLabelAt, IsWordOf, IsValue, IsBytes, no_place, of_word, IsEntry, IsEntryOf, Enters, bytes_at, IsImage, AreSingle, AreStatements, AsmOf}
 use Rattle.ckc_asm.specs.Faults as faults
 use Rattle.ckc_base.specs.Places.{longest_text}
-use Rattle.ckc_asm.specs.Faults.{place_of, HasEntry, IsFirst, NoneHas, HasNoForm, HasOldLabel, NamesNothing, HasNoWord, IsNoImage, AreFormed, IsAt, IsLabel, IsOperand, WholeFault, NumberFault, NameFault, LabelFault, FormFault, IsFirstFault}
+use Rattle.ckc_asm.specs.Faults.{place_of, HasEntry, IsFirstWith, NoneHas, HasNoForm, HasOldLabel, NamesNothing, HasNoWord, IsNoImage, AreFormed, IsAt, IsLabel, IsOperand, WholeFault, NumberFault, NameFault, LabelFault, FormFault, IsFirstFault}
 use Rattle.ckc_asm.specs.code.Outcome.{AreFaults}
 use Rattle.ckc_asm.proofs.Grammatical.{reading_found, reading_made, lines_made}
 use Rattle.ckc_asm.proofs.Shaped.{named_shape}
@@ -28,13 +28,13 @@ use Rattle.ckc_asm_lines.proofs.WholePieces.{pieces_once}
 
 -- ---- lists
 
-first_once : {A : Type 0} (P : ℕ → A → Type 0) (xs : List A) (j k : ℕ) (x y : A) → IsFirst P xs j x → IsFirst P xs k y → j ≡ k
+first_once : {A : Type 0} (P : ℕ → A → Type 0) (xs : List A) (j k : ℕ) (x y : A) → IsFirstWith P xs j x → IsFirstWith P xs k y → j ≡ k
 first_once P xs j k x y f g = ⊎_elim
     (λ (l : j < k). absurd (g.none_before j x l f.stands f.holds))
     (λ m. ⊎_elim (λ (l : k < j). absurd (f.none_before k y l g.stands g.holds)) (λ (e : j ≡ k). e) m)
     (order j k)
 
-first_same : {A : Type 0} (P : ℕ → A → Type 0) (xs : List A) (j k : ℕ) (x y : A) → IsFirst P xs j x → IsFirst P xs k y → x ≡ y
+first_same : {A : Type 0} (P : ℕ → A → Type 0) (xs : List A) (j k : ℕ) (x y : A) → IsFirstWith P xs j x → IsFirstWith P xs k y → x ≡ y
 first_same P xs j k x y f g = same_Some x y (sym f.stands ∙ (ap (slice_get xs) (first_once P xs j k x y f g) ∙ g.stands))
 
 at_once : (P : ℕ → Statement → Type 0) (at : Statement → Word → Type 0) (statements : List Statement) (a b : Pos)

@@ -19,7 +19,7 @@ use Rattle.ckc_asm.specs.Grammar.{HaveStatements}
 use Rattle.ckc_asm.specs.Program as program
 use Rattle.ckc_asm.specs.Program.{width_of, size_of, address_of, IsValue, IsBytes, no_place, of_word, data_bytes, IsEntry, IsEntryOf, Enters, AreSingle, AreStatements, AsmOf}
 use Rattle.ckc_asm.specs.Faults as faults
-use Rattle.ckc_asm.specs.Faults.{line_front, place_of, IsFirst, NoneHas, HasNoForm, HasOldLabel, NamesNothing, HasNoWord, IsNoImage, AreFormed, WholeFault, NumberFault, NameFault, LabelFault, IsFirstFault}
+use Rattle.ckc_asm.specs.Faults.{line_front, place_of, IsFirstWith, NoneHas, HasNoForm, HasOldLabel, NamesNothing, HasNoWord, IsNoImage, AreFormed, WholeFault, NumberFault, NameFault, LabelFault, IsFirstFault}
 use Rattle.ckc_asm.specs.Phase.{assembling}
 use Rattle.ckc_asm.specs.code.Reading.{HaveTargets, HasTarget, AreRead}
 use Rattle.ckc_asm.proofs.Answer.{parts_once, fault_once, parts_or_fault}
@@ -30,7 +30,7 @@ use Rattle.ckc_asm.proofs.LabelUses.{four_bytes, AreWordsBelow, words_none, word
 -- ---- lists
 
 -- if nothing is the first with a property, nothing has it
-none_of : {A : Type 0} (P : ℕ → A → Type 0) (xs : List A) → ((k : ℕ) (x : A) → IsFirst P xs k x → ⊥) → NoneHas P xs
+none_of : {A : Type 0} (P : ℕ → A → Type 0) (xs : List A) → ((k : ℕ) (x : A) → IsFirstWith P xs k x → ⊥) → NoneHas P xs
 none_of {A} P xs never k x at p = below (suc k) k x (omega arith) at p
   where
     below : (n k : ℕ) (x : A) → k < n → slice_get xs k ≡ Some x → P k x → ⊥

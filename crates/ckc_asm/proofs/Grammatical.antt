@@ -22,7 +22,7 @@ use Rattle.ckc_asm.specs.code.Found.{is_sign, one, two, three, based, one_regist
 use Rattle.ckc_asm.specs.Grammar as grammar
 use Rattle.ckc_asm.specs.Grammar.{pair, triple, based_on, IsPlain, IsTarget, OfOne, OfTwo, OfThree, OfBase, OfWord, OfNothing, AreBytes, OfBytes, HasWords, IsItem, HasColon, Says, IsStatement, HasStatement, HaveStatements}
 use Rattle.ckc_asm.specs.Program.{IsEntry}
-use Rattle.ckc_asm.specs.Faults.{IsFirst, NoneHas, HasEntry, HasNoForm}
+use Rattle.ckc_asm.specs.Faults.{IsFirstWith, NoneHas, HasEntry, HasNoForm}
 use Rattle.ckc_asm.specs.code.Reading.{ReadsEntry, IsUnread}
 use Rattle.ckc_asm.proofs.Numbers.{most, register_back, number_no_name}
 use Rattle.ckc_asm.proofs.Spelling as spelling
@@ -418,8 +418,8 @@ unread : (lines : List (List ℕ)) (k : ℕ) (line : List ℕ) → HasNoForm lin
 unread lines k line (inl never) = inl (none_at line (reading line) refl never)
 unread lines k line (inr w) = inr (w.0, reading w.1, w.2, read_at lines w.0 w.1 w.3, entry_made w.1 w.4, entry_made line w.5)
 
-pub first_no_form : (lines : List (List ℕ)) (k : ℕ) (o : Option Statement) → IsFirst (IsUnread (map reading lines)) (map reading lines) k o
-    → (line : List ℕ) × IsFirst (HasNoForm lines) lines k line
+pub first_no_form : (lines : List (List ℕ)) (k : ℕ) (o : Option Statement) → IsFirstWith (IsUnread (map reading lines)) (map reading lines) k o
+    → (line : List ℕ) × IsFirstWith (HasNoForm lines) lines k line
 first_no_form lines k o f =
     let r = line_read lines k o f.stands in (
       r.0,

@@ -21,7 +21,7 @@ use Rattle.ckc_asm.specs.code.Found.{reading}
 use Rattle.ckc_asm.specs.Program.{width_of, size_of, Enters, IsImage, AreSingle, AsmOf, data_bytes}
 use Rattle.ckc_base.specs.Phases.{Answers, viewed}
 use Rattle.ckc_base.specs.Places.{longest_text}
-use Rattle.ckc_asm.specs.Faults.{IsFirst, NoneHas, HasOldLabel, IsNoImage, no_code, bad_entry, LabelFault, IsFirstFault, in_form, in_whole}
+use Rattle.ckc_asm.specs.Faults.{IsFirstWith, NoneHas, HasOldLabel, IsNoImage, no_code, bad_entry, LabelFault, IsFirstFault, in_form, in_whole}
 use Rattle.ckc_asm.specs.Phase.{assembling, parts_in}
 use Rattle.ckc_asm.specs.declared.statements.Row.{Row}
 use Rattle.ckc_asm.specs.code.Rows.{statements_in}
@@ -168,7 +168,7 @@ whole_fault text lines statements code place same h read bad =
 pub form_fault : (text : List ℕ) (lines : List (Bor (List ℕ))) (code : ℕ) (place : Pos) → map (λ l. l.now) lines ≡ lines_of text
     → length text ≤ longest_text → IsFormFault (readings_in lines) code place → IsFirstFault text code place
 form_fault text lines code place same h bad =
-    let first = subst (λ (l : List (List ℕ)). IsFirst (IsUnread (map reading l)) (map reading l) bad.0 bad.1) same bad.2 in
+    let first = subst (λ (l : List (List ℕ)). IsFirstWith (IsUnread (map reading l)) (map reading l) bad.0 bad.1) same bad.2 in
     let line = first_no_form (lines_of text) bad.0 bad.1 first in
     in_form h (bad.0, line.0, line.1, bad.3, bad.4)
 

@@ -16,7 +16,7 @@ use Rattle.ckc_asm_lines.specs.Assembled.{distance}
 use Rattle.ckc_asm.specs.Items.{Statement}
 use Rattle.ckc_asm.specs.Program.{size_of, offset_of, address_of, IsLabelAt, IsWordOf, IsValue, IsBytes, no_place, of_word, data_bytes, IsEntry, IsEntryOf, Enters, bytes_at}
 use Rattle.ckc_asm.specs.Program as program
-use Rattle.ckc_asm.specs.Faults.{IsFirst, NoneHas, NamesNothing, HasNoWord, IsAt, IsOperand}
+use Rattle.ckc_asm.specs.Faults.{IsFirstWith, NoneHas, NamesNothing, HasNoWord, IsAt, IsOperand}
 use Rattle.ckc_asm.specs.code.Outcome.{IfRefused}
 use Rattle.ckc_asm.specs.code.Reading.{IsExact, IsWhole, ValueIs, EntryIs, StandsFor, LacksWord}
 use Rattle.ckc_asm.proofs.LabelsBelow.{offset_more}
@@ -46,7 +46,7 @@ none_more P statements k s here not below j t l there p = ⊎_elim (λ (b : j < 
 pub none_all : (P : ℕ → Statement → Type 0) (statements : List Statement) (k : ℕ) → length statements ≤ k → NoneBelow P statements k → NoneHas P statements
 none_all P statements k h below j s there p = below j s (omega (arith, slice_get_within statements j s there)) there p
 
-pub first_here : (P : ℕ → Statement → Type 0) (statements : List Statement) (k : ℕ) (s : Statement) → slice_get statements k ≡ Some s → P k s → NoneBelow P statements k → IsFirst P statements k s
+pub first_here : (P : ℕ → Statement → Type 0) (statements : List Statement) (k : ℕ) (s : Statement) → slice_get statements k ≡ Some s → P k s → NoneBelow P statements k → IsFirstWith P statements k s
 first_here P statements k s here p below = record { stands = here; holds = p; none_before = below }
 
 pub unknown_names : (at : List ℕ → Option ℕ) (statements : List Statement) (k : ℕ) (s : Statement) → IsExact at statements → (s.item.operand ≡ Named) × (at s.operand.text ≡ None) → NamesNothing statements k s

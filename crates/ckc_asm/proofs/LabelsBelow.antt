@@ -15,7 +15,7 @@ use Rattle.ckc_asm.specs.declared.statements.Row as kept
 use Rattle.ckc_asm.specs.Cut.{Word}
 use Rattle.ckc_asm.specs.Items.{Statement}
 use Rattle.ckc_asm.specs.Program.{width_of, size_of, offset_of, address_of, HasLabel}
-use Rattle.ckc_asm.specs.Faults.{IsFirst, NoneHas, HasOldLabel, IsAt, IsLabel}
+use Rattle.ckc_asm.specs.Faults.{IsFirstWith, NoneHas, HasOldLabel, IsAt, IsLabel}
 use Rattle.ckc_asm.specs.code.Outcome.{IfRefused}
 use Rattle.ckc_asm.specs.code.Reading.{IsExact}
 use Rattle.ckc_asm.specs.code.Rows.{word_of, statement_in, statements_in}
@@ -111,7 +111,7 @@ some_of (Some a) h = (a, refl)
 
 -- a label in the table is one that stands before
 pub labels_stop : (at : List ℕ → Option ℕ) (statements : List Statement) (k : ℕ) (s : Statement) (w : Word) → slice_get statements k ≡ Some s → s.label ≡ Some w
-    → IsSome (at w.text) → AreLabelsBelow at statements k → IsFirst (HasOldLabel statements) statements k s
+    → IsSome (at w.text) → AreLabelsBelow at statements k → IsFirstWith (HasOldLabel statements) statements k s
 labels_stop at statements k s w here label there below =
     let a = some_of (at w.text) there in
     let old = below.sound w.text a.0 a.1 in

@@ -12,7 +12,7 @@ use Rattle.ckc_asm.specs.Items.{Statement}
 use Rattle.ckc_asm.specs.code.Found.{reading}
 use Rattle.ckc_asm.specs.code.Outcome.{IfRefused}
 use Rattle.ckc_asm.specs.Program.{IsEntry}
-use Rattle.ckc_asm.specs.Faults.{IsFirst}
+use Rattle.ckc_asm.specs.Faults.{IsFirstWith}
 use Rattle.ckc_asm.specs.code.Reading.{ReadsEntry, IsUnread, HasTarget, HaveTargets, AreRead, IsRefusedLine, IsFormFault, readings_in}
 use Rattle.ckc_asm_lines.proofs.Cases.{bool_cases, last_or_before}
 
@@ -83,7 +83,7 @@ rows_more lines k entered next statements s at once target now below = record {
 
 -- a line that is refused is the first with a fault of form
 pub rows_stop : (lines : List (Option Statement)) (k : ℕ) (entered : Bool) (statements : List Statement) (line : Option Statement) → slice_get lines k ≡ Some line
-    → IsRefusedLine entered line → AreRowsBelow lines k entered statements → IsFirst (IsUnread lines) lines k line
+    → IsRefusedLine entered line → AreRowsBelow lines k entered statements → IsFirstWith (IsUnread lines) lines k line
 rows_stop lines k entered statements line at refused below = record {
   stands = at;
   holds = ⊎_elim (λ (n : line ≡ None). inl n) (λ w. let e = below.some_entry w.0 in inr (e.0, e.1, e.2, e.3, e.4, w.1)) refused;

@@ -25,7 +25,7 @@ place_of k w = record { line = k + 1; col = w.col }
 -- ---- the first of a list with a property
 
 -- The k-th of the list has the property, and none before it has.
-pub record IsFirst {A : Type 0} (P : ℕ → A → Type 0) (xs : List A) (k : ℕ) (x : A) : Type 0 where
+pub record IsFirstWith {A : Type 0} (P : ℕ → A → Type 0) (xs : List A) (k : ℕ) (x : A) : Type 0 where
   pub stands : slice_get xs k ≡ Some x
   pub holds : P k x
   pub none_before : (j : ℕ) (y : A) → j < k → slice_get xs j ≡ Some y → P j y → ⊥
@@ -109,7 +109,7 @@ pub data IsNoImage (statements : List Statement) : Type 0 where
 
 -- at the word that the first statement with the property has
 abbrev pub IsAt : (ℕ → Statement → Type 0) → (Statement → Word → Type 0) → List Statement → Pos → Type 0
-IsAt P at statements place = (k : ℕ) × (s : Statement) × (w : Word) × IsFirst P statements k s × at s w × (place ≡ place_of k w)
+IsAt P at statements place = (k : ℕ) × (s : Statement) × (w : Word) × IsFirstWith P statements k s × at s w × (place ≡ place_of k w)
 
 -- The word is the label of the statement.
 abbrev pub IsLabel : Statement → Word → Type 0
@@ -144,7 +144,7 @@ LabelFault statements code place =
 -- E801, at column 1 of the first line that has no form or is a second `.entry`
 abbrev pub FormFault : List ℕ → ℕ → Pos → Type 0
 FormFault text code place =
-    (k : ℕ) × (line : List ℕ) × IsFirst (HasNoForm (lines_of text)) (lines_of text) k line × (code ≡ no_form) × (place ≡ line_front k)
+    (k : ℕ) × (line : List ℕ) × IsFirstWith (HasNoForm (lines_of text)) (lines_of text) k line × (code ≡ no_form) × (place ≡ line_front k)
 
 -- the first fault of a text: its code and its place
 pub data IsFirstFault (text : List ℕ) (code : ℕ) (place : Pos) : Type 0 where

@@ -22,7 +22,7 @@ use Rattle.ckc_frame.specs.declared.code.Placed.{Placed}
 use Rattle.ckc_frame.specs.Meaning.{placed_detail}
 use Rattle.ckc_frame.specs.WellFormed.{IsPlacedWhole, IsWellFormed, code_of, program_size}
 use Rattle.ckc_assign.specs.declared.ranges.Range.{Range}
-use Rattle.ckc_assign.specs.Apart.{IsPlace, AreApart, KeepsLive}
+use Rattle.ckc_assign.specs.Apart.{IsPoint, HasOwnPlaces, KeepsLive}
 use Rattle.ckc_assign.specs.Slots.{IsUsedAt, live_there, written_there, entered_there, IsInRange, UsesFewSlots}
 use Rattle.ckc_assign.specs.code.Assigned.{IsAssigned, AreAssigned}
 use Rattle.ckc_assign.specs.code.Homes.{home_of, BeginLate, IsFair, LieApart}
@@ -123,19 +123,19 @@ module _ (f : TacFunc) (ranges : List Range) (homes : List Place) (kept : List (
   apart_at : (r q p : ℕ) → r < f.regs → q < f.regs → r ≢ q → Covers ranges r p → Covers ranges q p → home homes r ≢ home homes q
   apart_at r q p h k ne c d = l.apart r q p (there r h) (there q k) ne c d
 
-  live_at : (b : ℕ) (block : TacBlock) (front ops : List TacOp) (r : ℕ) → IsPlace f b block front ops → r < f.regs → IsLive f.blocks r ops block.end
+  live_at : (b : ℕ) (block : TacBlock) (front ops : List TacOp) (r : ℕ) → IsPoint f b block front ops → r < f.regs → IsLive f.blocks r ops block.end
       → Covers ranges r (first_place f b + length front)
   live_at b block front ops r at h live =
       let (old, m) = s.blocks b block (slice_get_within f.blocks b block at.there) at.there in
       live_covers f block (first_place f b) old ranges m front ops r h at.split live
 
-  written_at : (b : ℕ) (block : TacBlock) (front ops : List TacOp) (op : TacOp) (t : ℕ) → IsPlace f b block front (op ∷ ops) → t < f.regs → target_of op ≡ Some t
+  written_at : (b : ℕ) (block : TacBlock) (front ops : List TacOp) (op : TacOp) (t : ℕ) → IsPoint f b block front (op ∷ ops) → t < f.regs → target_of op ≡ Some t
       → Covers ranges t (first_place f b + length front + 1)
   written_at b block front ops op t at h e =
       let (old, m) = s.blocks b block (slice_get_within f.blocks b block at.there) at.there in
       written_covers f block (first_place f b) old ranges m front ops op t at.split h e
 
-  behind_at : (b : ℕ) (block : TacBlock) (front ops : List TacOp) (op : TacOp) (r : ℕ) → IsPlace f b block front (op ∷ ops) → r < f.regs → IsLive f.blocks r ops block.end
+  behind_at : (b : ℕ) (block : TacBlock) (front ops : List TacOp) (op : TacOp) (r : ℕ) → IsPoint f b block front (op ∷ ops) → r < f.regs → IsLive f.blocks r ops block.end
       → Covers ranges r (first_place f b + length front + 1)
   behind_at b block front ops op r at h live =
       let n : first_place f b + length (front ++ op ∷ []) ≡ first_place f b + length front + 1 = (let m = length-append front (op ∷ []) in omega (arith, m)) in
@@ -144,7 +144,7 @@ module _ (f : TacFunc) (ranges : List Range) (homes : List Place) (kept : List (
   first_is : first_place f 0 ≡ 1
   first_is = omega arith
 
-  pub are_apart : AreApart placed
+  pub are_apart : HasOwnPlaces placed
   are_apart = record {
     live = λ b block front ops r q at h k ne live too. apart_at r q (first_place f b + length front) h k ne (live_at b block front ops r at h live) (live_at b block front ops q at k too);
     written = λ b block front ops op t q at h k ne e live.
@@ -200,7 +200,7 @@ pub none_assigned : AreAssigned [] []
 none_assigned = record {
   code = refl;
   whole = All-nil IsPlacedWhole;
-  apart = All-nil AreApart;
+  apart = All-nil HasOwnPlaces;
   keeps = All-nil KeepsLive;
   slots = All-nil UsesFewSlots;
 }
@@ -209,7 +209,7 @@ pub one_assigned : (fs : List TacFunc) (ps : List PlacedFunc) (f : TacFunc) (p :
 one_assigned fs ps f p a i = record {
   code = map-append (λ (q : PlacedFunc). q.code) ps (p ∷ []) ∙ ap (λ l. l ++ p.code ∷ []) a.code ∙ ap (λ (g : TacFunc). fs ++ g ∷ []) i.code;
   whole = All-push IsPlacedWhole ps p a.whole i.whole;
-  apart = All-push AreApart ps p a.apart i.apart;
+  apart = All-push HasOwnPlaces ps p a.apart i.apart;
   keeps = All-push KeepsLive ps p a.keeps i.keeps;
   slots = All-push UsesFewSlots ps p a.slots i.slots;
 }

@@ -13,16 +13,16 @@ use Rattle.ckc_frame.specs.declared.code.Placed.{Placed}
 use Rattle.ckc_frame.specs.declared.code.PlacedFunc.{PlacedFunc}
 use Rattle.ckc_frame.specs.Meaning as meant
 use Rattle.ckc_frame.specs.WellFormed.{IsWellFormed, IsPlacedWhole, code_of}
-use Rattle.ckc_assign.specs.Apart.{AreApart, KeepsLive}
+use Rattle.ckc_assign.specs.Apart.{HasOwnPlaces, KeepsLive}
 use Rattle.ckc_assign.proofs.Simulated.{IsFine, all_get, functions, starts}
 
-module _ (p : Placed) (whole : IsWellFormed p) (apart : All AreApart p.funcs) (keeps : All KeepsLive p.funcs) where
+module _ (p : Placed) (whole : IsWellFormed p) (apart : All HasOwnPlaces p.funcs) (keeps : All KeepsLive p.funcs) where
   fine_at : (k : ℕ) (f : PlacedFunc) → slice_get p.funcs k ≡ Some f → IsFine p.funcs f
   fine_at k f e = record {
     over = all_get (IsFunctionOver (functions p.funcs)) (functions p.funcs) k f.code whole.code.functions
         (slice_get-map (λ (g : PlacedFunc). g.code) p.funcs k ∙ ap (option_map (λ (g : PlacedFunc). g.code)) e);
     homes = (all_get IsPlacedWhole p.funcs k f whole.placed e).homes;
-    apart = all_get AreApart p.funcs k f apart e;
+    apart = all_get HasOwnPlaces p.funcs k f apart e;
     keeps = all_get KeepsLive p.funcs k f keeps e;
   }
 

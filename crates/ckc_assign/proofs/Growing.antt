@@ -11,7 +11,7 @@ use Rattle.ckc_tac.specs.declared.code.TacFunc.{TacFunc}
 use Rattle.ckc_tac.specs.declared.code.TacOp.{TacOp}
 use Rattle.ckc_flow.specs.Live.{read_here, IsExact, reads, target_of}
 use Rattle.ckc_assign.specs.declared.ranges.Range.{Range}
-use Rattle.ckc_assign.specs.Apart.{IsPlace}
+use Rattle.ckc_assign.specs.Apart.{IsPoint}
 use Rattle.ckc_assign.specs.Slots.{IsUsedAt, live_there, written_there, entered_there, number_at, places_in}
 use Rattle.ckc_assign.specs.code.Ranges.{unused, range_of, Covers, AreTight, HasRange, IsUsedIn, IsUsedInBlock, PassesBlock, reach, Sees, SeesOps, SeesBlock, SeesFirst, no_op, first_place}
 
@@ -216,7 +216,7 @@ module _ (f : TacFunc) (b : ℕ) (block : TacBlock) (at : slice_get f.blocks b �
   split_at : (i : ℕ) → i < length block.ops → block.ops ≡ take i block.ops ++ get_or block.ops i no_op ∷ drop (i + 1) block.ops
   split_at i h = sym (take-append-drop i block.ops) ∙ ap (λ l. take i block.ops ++ l) (drop_more block.ops i no_op h)
 
-  place_at : (i : ℕ) → i < length block.ops → IsPlace f b block (take i block.ops) (get_or block.ops i no_op ∷ drop (i + 1) block.ops)
+  place_at : (i : ℕ) → i < length block.ops → IsPoint f b block (take i block.ops) (get_or block.ops i no_op ∷ drop (i + 1) block.ops)
   place_at i h = record { there = at; split = split_at i h }
 
   number_is : (i : ℕ) → i < length block.ops → number_at f b (take i block.ops) ≡ first_place f b + i

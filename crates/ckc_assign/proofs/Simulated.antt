@@ -37,7 +37,7 @@ use Rattle.ckc_frame.specs.declared.code.Place.TheVariants.{Slot}
 use Rattle.ckc_frame.specs.declared.code.PlacedFunc.{PlacedFunc}
 use Rattle.ckc_frame.specs.Meaning as frame
 use Rattle.ckc_frame.specs.Places.{home, registers_in, entry_places, places_kept, marks_of}
-use Rattle.ckc_assign.specs.Apart.{IsPlace, AreApart, KeepsLive, calls_before}
+use Rattle.ckc_assign.specs.Apart.{IsPoint, HasOwnPlaces, KeepsLive, calls_before}
 use Rattle.ckc_assign.proofs.Values.{written_same, written_other, entry_at, kept_at}
 use Rattle.ckc_assign.proofs.Outcomes.{same_test, GoesTo, goes_to_target, Same, same_of, outcome_same, compared_same, returned_same, values_same, length-values_in}
 
@@ -59,7 +59,7 @@ module _ (placed : List PlacedFunc) where
   pub record IsFine (f : PlacedFunc) : Type 0 where
     pub over : IsFunctionOver functions f.code
     pub homes : length f.homes ≡ f.code.regs
-    pub apart : AreApart f
+    pub apart : HasOwnPlaces f
     pub keeps : KeepsLive f
 
   module _ (fine_at : (k : ℕ) (f : PlacedFunc) → slice_get placed k ≡ Some f → IsFine f) where
@@ -79,7 +79,7 @@ module _ (placed : List PlacedFunc) where
       pub registers : Values
       pub places : Values
       pub fine : IsFine function
-      pub at : IsPlace function.code number block front ops
+      pub at : IsPoint function.code number block front ops
       pub count : ℕ
       pub counted : count ≡ calls_before function.code number front
       pub agree : Agree function ops block.end awaits registers places
@@ -142,10 +142,10 @@ module _ (placed : List PlacedFunc) where
     some_apart : (t r : ℕ) → t ≢ r → Some t ≢ Some r
     some_apart t r apart e = apart (let f : t ≡ r = cc in f)
 
-    at_begin : (f : TacFunc) (b : ℕ) (block : TacBlock) → slice_get f.blocks b ≡ Some block → IsPlace f b block [] block.ops
+    at_begin : (f : TacFunc) (b : ℕ) (block : TacBlock) → slice_get f.blocks b ≡ Some block → IsPoint f b block [] block.ops
     at_begin f b block e = record { there = e; split = refl }
 
-    at_next : (f : TacFunc) (b : ℕ) (block : TacBlock) (front ops : List TacOp) (op : TacOp) → IsPlace f b block front (op ∷ ops) → IsPlace f b block (front ++ op ∷ []) ops
+    at_next : (f : TacFunc) (b : ℕ) (block : TacBlock) (front ops : List TacOp) (op : TacOp) → IsPoint f b block front (op ∷ ops) → IsPoint f b block (front ++ op ∷ []) ops
     at_next f b block front ops op at = record { there = at.there; split = at.split ∙ sym (append_assoc front (op ∷ []) ops) }
 
     begin_calls : (f : TacFunc) (b : ℕ) → frame.calls_in_front f.blocks b ≡ calls_before f b []
@@ -154,7 +154,7 @@ module _ (placed : List PlacedFunc) where
     next_calls : (f : TacFunc) (b : ℕ) (front : List TacOp) (op : TacOp) → calls_before f b (front ++ op ∷ []) ≡ calls_before f b front + frame.is_call op
     next_calls f b front op = let e = sum_by_push frame.is_call front op in omega (arith, e)
 
-    ops_over : (f : PlacedFunc) (b : ℕ) (block : TacBlock) (front ops : List TacOp) → IsFine f → IsPlace f.code b block front ops → All (IsOpOver functions f.code.regs) ops
+    ops_over : (f : PlacedFunc) (b : ℕ) (block : TacBlock) (front ops : List TacOp) → IsFine f → IsPoint f.code b block front ops → All (IsOpOver functions f.code.regs) ops
     ops_over f b block front ops fine at =
         let block_over = all_get (IsBlockOver functions (length f.code.blocks) f.code.regs) f.code.blocks b block fine.over.2 at.there in
         all_behind (IsOpOver functions f.code.regs) front ops (subst (All (IsOpOver functions f.code.regs)) at.split block_over.0)
@@ -315,8 +315,8 @@ module _ (placed : List PlacedFunc) where
       abbrev f : PlacedFunc
       f = p.frame.function
 
-      here : IsPlace f.code p.frame.number p.frame.block p.frame.front (op ∷ ops)
-      here = subst (λ l. IsPlace f.code p.frame.number p.frame.block p.frame.front l) is p.frame.at
+      here : IsPoint f.code p.frame.number p.frame.block p.frame.front (op ∷ ops)
+      here = subst (λ l. IsPoint f.code p.frame.number p.frame.block p.frame.front l) is p.frame.at
 
       over : IsOpOver functions f.code.regs op
       over = All-head (IsOpOver functions f.code.regs) op ops (ops_over f p.frame.number p.frame.block p.frame.front (op ∷ ops) p.frame.fine here)
@@ -404,8 +404,8 @@ module _ (placed : List PlacedFunc) where
       abbrev g : PlacedFunc
       g = p.frame.function
 
-      there : IsPlace g.code p.frame.number p.frame.block p.frame.front (call ∷ ops)
-      there = subst (λ l. IsPlace g.code p.frame.number p.frame.block p.frame.front l) is p.frame.at
+      there : IsPoint g.code p.frame.number p.frame.block p.frame.front (call ∷ ops)
+      there = subst (λ l. IsPoint g.code p.frame.number p.frame.block p.frame.front l) is p.frame.at
 
       abbrev marks : List Bool
       marks = marks_of (slice_get g.kept p.frame.count)

@@ -7,7 +7,7 @@ use Rattle.ckc_tac.specs.declared.code.TacOp.{TacOp}
 use Rattle.ckc_flow.specs.Live.{IsLive, target_of}
 use Rattle.ckc_frame.specs.declared.code.PlacedFunc.{PlacedFunc}
 use Rattle.ckc_frame.specs.declared.code.Place.TheVariants.{Slot}
-use Rattle.ckc_assign.specs.Apart.{IsPlace}
+use Rattle.ckc_assign.specs.Apart.{IsPoint}
 
 abbrev pub places_in : TacBlock → ℕ
 places_in block = length block.ops + 1
@@ -19,10 +19,10 @@ number_at f b front = 1 + sum_by places_in (take b f.blocks) + length front
 -- A register is in use at a place: it is live there, it is written by the operation in front of the place, or it is a
 -- parameter and the place is the entry.
 pub data IsUsedAt (f : TacFunc) (r n : ℕ) : Type 0 where
-  live_there : (b : ℕ) (block : TacBlock) (front ops : List TacOp) → IsPlace f b block front ops
+  live_there : (b : ℕ) (block : TacBlock) (front ops : List TacOp) → IsPoint f b block front ops
       → number_at f b front ≡ n → IsLive f.blocks r ops block.end → IsUsedAt f r n
   written_there : (b : ℕ) (block : TacBlock) (front ops : List TacOp) (op : TacOp)
-      → IsPlace f b block front (op ∷ ops) → number_at f b front + 1 ≡ n → target_of op ≡ Some r → IsUsedAt f r n
+      → IsPoint f b block front (op ∷ ops) → number_at f b front + 1 ≡ n → target_of op ≡ Some r → IsUsedAt f r n
   entered_there : n ≡ 1 → r < f.params → IsUsedAt f r n
 
 -- The live range of a register reaches from the first to the last place at which it is in use.

@@ -5,7 +5,7 @@ ghost use Rattle.ckc_tac.specs.Meaning.{tac_detail};
 ghost use Rattle.ckc_frame.specs.Meaning.{placed_detail};
 ghost use Rattle.ckc_frame.specs.WellFormed as frame;
 ghost use Rattle.ckc_tac.specs.Sizes.{program_size as tac_size};
-ghost use Rattle.ckc_assign.specs.Apart.{AreApart, KeepsLive};
+ghost use Rattle.ckc_assign.specs.Apart.{HasOwnPlaces, KeepsLive};
 ghost use Rattle.ckc_assign.specs.Slots.{UsesFewSlots};
 ghost use Rattle.ckc_assign.specs.code.Assigned.{AreAssigned, IsAssigned};
 
@@ -28,7 +28,7 @@ pub fn assign(alloc: Global, t: &Tac) -> Result<Placed, AllocError>
     requires few { tac.HasFewRegisters t.now }
     ensures code { IfOk result (λ p. frame.code_of p ≡ t.now) }
     ensures whole { IfOk result (λ p. frame.IsWellFormed p) }
-    ensures apart { IfOk result (λ p. All AreApart p.funcs) }
+    ensures apart { IfOk result (λ p. All HasOwnPlaces p.funcs) }
     ensures keeps { IfOk result (λ p. All KeepsLive p.funcs) }
     ensures slots { IfOk result (λ p. All UsesFewSlots p.funcs) }
     ensures size { IfOk result (λ p. frame.program_size p ≡ tac_size t.now) }

@@ -16,7 +16,7 @@ use Rattle.ckc_typed.specs.declared.environment.Variable.{Variable}
 use Rattle.ckc_typed.specs.declared.typed.Note.{Note}
 use Rattle.ckc_typed.specs.declared.typed.Typed.{Typed}
 use Rattle.ckc_typed.specs.Expressions.{is_object_form, is_placed}
-use Rattle.ckc_typed.specs.Statements.{is_variable_form, is_function, is_call_form, is_named, is_text_call}
+use Rattle.ckc_typed.specs.Statements.{is_variable_form, is_function_name, is_call_form, is_named, is_text_call}
 use Rattle.ckc_typed.specs.Trees.{NotedExpr, NotedLayer, NotedStmt}
 use Rattle.ckc_typed.specs.Types.{kind_of}
 use Rattle.ckc_typed_welltyped.specs.Statements.{IsTarget}
@@ -81,7 +81,7 @@ module _ (p : Typed) (locals : List Variable) (k : ℕ) where
 -- ---- an assignment alone
 
 module _ (p : Typed) (locals : List Variable) (at : Spot) (to : Destination) (k : ℕ) where
-  called_safe : (n : Name) (es : List NotedExpr) (pos : Pos) → is_function n ≡ false → stores_raw (called p locals at to k n es pos End) ≡ false → goes_raw to.target ≡ false
+  called_safe : (n : Name) (es : List NotedExpr) (pos : Pos) → is_function_name n ≡ false → stores_raw (called p locals at to k n es pos End) ≡ false → goes_raw to.target ≡ false
   called_safe (name.Function f) es pos none h = absurd (cc)
   called_safe name.Getchar es pos none h = h
   called_safe name.Putchar es pos none h = h

@@ -14,7 +14,7 @@ Holds files name bytes = (here : Files) → files ≡ Some here → fin.get here
 
 -- what keeping the bytes under a name leaves, if the files are told
 abbrev pub Kept : Option Files → List ℕ → List ℕ → Result (Unit {0}) StoreError → Option Files → Type 0
-Kept files name bytes result files' = (here : Files) → files ≡ Some here → outside.Keeps here name bytes result files'
+Kept files name bytes result files' = (here : Files) → files ≡ Some here → outside.TakesFile here name bytes result files'
 
 -- nothing was kept
 pub record Unkept (before after : Stored) : Type 0 where

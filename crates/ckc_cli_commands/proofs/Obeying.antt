@@ -80,10 +80,10 @@ module _ (before after : World) (same : Untouched) (s : Status) where
 
 -- what one call of keep leaves, if nothing was kept before it
 pub kept_once : (before middle after : Stored) (name bytes : List ℕ) (given result : Result (Unit {0}) errors.StoreError) → given ≡ result → Unkept before middle
-    → ((here : Files) → middle.files ≡ Some here → outside.Keeps here name bytes given after.files)
+    → ((here : Files) → middle.files ≡ Some here → outside.TakesFile here name bytes given after.files)
     → after.keeps ≡ one_more middle.keeps → after.kept ≡ after_keep given middle.kept → KeptOnce before after name bytes result
 kept_once before middle after name bytes given result is u told once done = record {
-  files = λ here e. subst (λ (r : Result (Unit {0}) errors.StoreError). outside.Keeps here name bytes r after.files) is (told here (u.files ∙ e));
+  files = λ here e. subst (λ (r : Result (Unit {0}) errors.StoreError). outside.TakesFile here name bytes r after.files) is (told here (u.files ∙ e));
   keeps = once ∙ ap one_more u.keeps;
   kept = subst (λ (r : Result (Unit {0}) errors.StoreError). after.kept ≡ after_keep r before.kept) is (done ∙ ap (after_keep given) u.kept);
 }

@@ -89,10 +89,10 @@ IsWithin limit (Err e) = Unit {0}
 
 -- What keep leaves: the bytes under the name. After an Err that name may hold anything, and every other name
 -- holds what it held.
-abbrev pub Keeps : Files → List ℕ → List ℕ → Result (Unit {0}) errors.StoreError → Option Files
+abbrev pub TakesFile : Files → List ℕ → List ℕ → Result (Unit {0}) errors.StoreError → Option Files
     → Type 0
-Keeps files name bytes (Ok done) after = after ≡ Some (map.insert files name bytes)
-Keeps files name bytes (Err e) after =
+TakesFile files name bytes (Ok done) after = after ≡ Some (map.insert files name bytes)
+TakesFile files name bytes (Err e) after =
     (kept : Files) × (after ≡ Some kept)
     × ((other : List ℕ) → other ≢ name → map.get kept other ≡ map.get files other)
 

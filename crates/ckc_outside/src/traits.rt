@@ -1,6 +1,6 @@
 ghost use Rattle.std.specs.Prelude.{◌≡◌, ◌≢◌, ℕ, List, Ok, Err, None, Some, IsTrue, IsErrOf};
 ghost use Rattle.std.specs.FinMap as map;
-ghost use Rattle.ckc_outside.specs.Outside.{one_more, faults_after, store_faults_after, Files, SeenSink, SeenSource, Stored, GivesNext, GivesNothing, after_next, Puts, IsWithin, GivesFile, Keeps, after_keep};
+ghost use Rattle.ckc_outside.specs.Outside.{one_more, faults_after, store_faults_after, Files, SeenSink, SeenSource, Stored, GivesNext, GivesNothing, after_next, Puts, IsWithin, GivesFile, TakesFile, after_keep};
 
 use ckc_base::Bytes;
 use std::alloc::Global;
@@ -88,7 +88,7 @@ pub trait Store {
         ensures unasked { (seen self.new).fetches ≡ (seen self.old).fetches }
         ensures limited { (seen self.new).limit ≡ (seen self.old).limit }
         ensures told { (here : Files) → (seen self.old).files ≡ Some here
-            → Keeps here name.now bytes.now result (seen self.new).files }
+            → TakesFile here name.now bytes.now result (seen self.new).files }
         ensures steady { IsTrue (seen self.old).steady → IsTrue (seen self.new).steady
             × (result ≢ Err StoreError.Failed) }
         ensures once { (seen self.new).keeps ≡ one_more (seen self.old).keeps }

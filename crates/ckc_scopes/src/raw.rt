@@ -2,7 +2,7 @@
 
 ghost use Rattle.std.specs.Prelude.{◌≡◌, flat_map};
 ghost use Rattle.ckc_typed.specs.Raw.{has_raw, stars, brackets, raws_of_decl, raws_of_head};
-ghost use Rattle.ckc_typed.specs.Scoped.{is_function, is_raw_head, is_raw_item, is_raw_function, is_some_place};
+ghost use Rattle.ckc_typed.specs.Scoped.{names_function, is_raw_head, is_raw_item, is_raw_function, is_some_place};
 ghost use Rattle.ckc_scopes.specs.code.Verdict.{first};
 
 use ckc_base::Pos;

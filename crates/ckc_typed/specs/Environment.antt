@@ -62,9 +62,9 @@ abbrev pub signature_declared : {A : Type 0} → heads.Head Name A → Signature
 signature_declared h = record { name = h.name; result = type_written h.result; params = map type_declared h.params }
 
 -- the object that an item of a source file declares, if it declares one
-abbrev pub objects_of_item : {A : Type 0} → Item Name A → List Object
-objects_of_item (item.Static d) = object_declared d ∷ []
-objects_of_item _ = []
+abbrev pub objects_declared_by : {A : Type 0} → Item Name A → List Object
+objects_declared_by (item.Static d) = object_declared d ∷ []
+objects_declared_by _ = []
 
 -- A prototype adds none, since its function has the same head.
 abbrev pub signatures_of_item : {A : Type 0} → Item Name A → List Signature
@@ -73,7 +73,7 @@ signatures_of_item _ = []
 
 -- the objects of file scope, in the order of the source file
 abbrev pub objects_of : {A : Type 0} → List (Item Name A) → List Object
-objects_of items = flat_map objects_of_item items
+objects_of items = flat_map objects_declared_by items
 
 -- `int getchar(void)` and `int putchar(int)` stand for every text.
 abbrev pub getchar : Signature

@@ -16,9 +16,9 @@ use Rattle.ckc_typed.specs.Raw.{has_raw, raws_of_head}
 use Rattle.ckc_typed.specs.Walk.{Matter, written, value, called, assumed, Spot, walk}
 
 -- whether a name means the function with the number k
-abbrev pub is_function : ℕ → Name → Bool
-is_function k (name.Function j) = j == k
-is_function k _ = false
+abbrev pub names_function : ℕ → Name → Bool
+names_function k (name.Function j) = j == k
+names_function k _ = false
 
 -- whether a list of places is not empty
 abbrev pub is_some_place : List Pos → Bool
@@ -27,7 +27,7 @@ is_some_place (at ∷ rest) = true
 
 -- whether a head is that of the function with the number, and has an unchecked pointer or array in a type of its
 abbrev pub is_raw_head : ℕ → Head Name Note → Bool
-is_raw_head k h = is_function k h.name && is_some_place (raws_of_head h)
+is_raw_head k h = names_function k h.name && is_some_place (raws_of_head h)
 
 -- the same of the head of an item, if it has one
 abbrev pub is_raw_item : ℕ → Item Name Note → Bool

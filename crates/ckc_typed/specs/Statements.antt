@@ -36,13 +36,13 @@ is_variable_form variables (Node-F.Name n) = is_some (variable_named variables n
 is_variable_form variables _ = false
 
 -- whether a name means a function of the source file
-abbrev pub is_function : Name → Bool
-is_function (name.Function k) = true
-is_function _ = false
+abbrev pub is_function_name : Name → Bool
+is_function_name (name.Function k) = true
+is_function_name _ = false
 
 -- whether a node is a call of a function of the source file
 abbrev pub is_call_form : {A L M E : Type 0} → Node-F Name A L M E → Bool
-is_call_form (Node-F.Call n es) = is_function n
+is_call_form (Node-F.Call n es) = is_function_name n
 is_call_form _ = false
 
 -- A named target is a local, or an object of file scope that is no array.

@@ -1,7 +1,7 @@
 //! What a text declares: its objects, its functions and the variables of a function.
 
 ghost use Rattle.std.specs.Prelude.{◌≡◌, [], ◌∷◌, ◌++◌, IfOk, OnOk, map};
-ghost use Rattle.ckc_typed.specs.Environment.{object_declared, variable_declared, type_declared, signature_declared, objects_of_item, signatures_of_item, objects_of, getchar, putchar, signatures_of};
+ghost use Rattle.ckc_typed.specs.Environment.{object_declared, variable_declared, type_declared, signature_declared, objects_declared_by, signatures_of_item, objects_of, getchar, putchar, signatures_of};
 
 use ckc_base::Seq;
 use ckc_syntax::{Decl, Head, Item, Name};
@@ -71,7 +71,7 @@ fn signature_declared(alloc: Global, h: &Head<Name, ()>) -> Result<Signature, Al
 }
 
 fn add_object(alloc: Global, all: &mut Seq<Object>, item: &Item<Name, ()>) -> Result<(), AllocError>
-    ensures { OnOk result (all.new ≡ all.old ++ objects_of_item item.now) }
+    ensures { OnOk result (all.new ≡ all.old ++ objects_declared_by item.now) }
 {
     match item {
         Item::Static(d) => {

@@ -4,7 +4,7 @@ ghost use Rattle.std.specs.Prelude.{◌≡◌};
 ghost use Rattle.ckc_syntax.specs.declared.tree.Node.{out-Node};
 ghost use Rattle.ckc_typed.specs.Environment.{object_named};
 ghost use Rattle.ckc_typed.specs.Expressions.{is_no_array, is_target_op, is_placed, is_object, has_address, is_no_allocation};
-ghost use Rattle.ckc_typed.specs.Statements.{is_variable_form, is_named, is_function, is_text_call, is_target, is_result};
+ghost use Rattle.ckc_typed.specs.Statements.{is_variable_form, is_named, is_function_name, is_text_call, is_target, is_result};
 
 use crate::scope::FileScope;
 use ckc_base::Boxed;
@@ -77,8 +77,8 @@ fn is_named(globals: &FileScope, variables: &[Variable], e: &Expr<Name, Note>) -
     is_variable(variables, e) || is_object(globals, e)
 }
 
-fn is_function(n: Name) -> bool
-    ensures { result ≡ is_function n }
+fn is_function_name(n: Name) -> bool
+    ensures { result ≡ is_function_name n }
 {
     match n {
         Name::Function(_) => true,
@@ -90,7 +90,7 @@ fn is_text_call(e: &Expr<Name, Note>) -> bool
     ensures { result ≡ is_text_call e.now }
 {
     match &e.node {
-        Node::Call(n, _) => is_function(*n),
+        Node::Call(n, _) => is_function_name(*n),
         _ => false,
     }
 }

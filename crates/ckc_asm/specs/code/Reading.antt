@@ -11,7 +11,7 @@ use Rattle.ckc_asm_lines.specs.Assembled.{distance}
 use Rattle.ckc_asm.specs.Items.{Statement}
 use Rattle.ckc_asm.specs.code.Found.{reading}
 use Rattle.ckc_asm.specs.Program.{size_of, address_of, IsLabelAt, IsWordOf, IsBytes, IsEntry, bytes_at}
-use Rattle.ckc_asm.specs.Faults.{IsFirst, NoneHas, line_front, no_form}
+use Rattle.ckc_asm.specs.Faults.{IsFirstWith, NoneHas, line_front, no_form}
 
 -- ---- the lines
 
@@ -46,7 +46,7 @@ pub record AreRead (lines : List (Option Statement)) (statements : List Statemen
 -- the first line with a fault of form
 abbrev pub IsFormFault : List (Option Statement) → ℕ → Pos → Type 0
 IsFormFault lines code place =
-    (k : ℕ) × (line : Option Statement) × IsFirst (IsUnread lines) lines k line × (code ≡ no_form) × (place ≡ line_front k)
+    (k : ℕ) × (line : Option Statement) × IsFirstWith (IsUnread lines) lines k line × (code ≡ no_form) × (place ≡ line_front k)
 
 -- the line has no statement, or a second `.entry`
 abbrev pub IsRefusedLine : Bool → Option Statement → Type 0

@@ -1,7 +1,7 @@
 ghost use Rattle.std.specs.Prelude.{◌≡◌, ◌≢◌, ℕ, List, Option, Some, None, Bool, IsTrue, OnOk, OnErr, IsErrOf, Err, is_none, ◌||◌};
 ghost use Rattle.std.specs.FinMap as map;
 ghost use Rattle.std.specs.Option.{option_copied};
-ghost use Rattle.ckc_outside.specs.Outside.{one_more, store_faults_after, Files, IsWithin, GivesFile, Keeps, after_keep};
+ghost use Rattle.ckc_outside.specs.Outside.{one_more, store_faults_after, Files, IsWithin, GivesFile, TakesFile, after_keep};
 ghost use Rattle.ckc_outside.specs.Memory.{is_listed, after_call};
 ghost use Rattle.ckc_outside.specs.MemStore.{files_of, files_in, plan_of, is_steady, seen_of, has_failed};
 
@@ -113,7 +113,7 @@ impl<'a> Store for MemStore<'a> {
         ensures unasked { (seen_of self.new).fetches ≡ (seen_of self.old).fetches }
         ensures limited { (seen_of self.new).limit ≡ (seen_of self.old).limit }
         ensures told { (here : Files) → Some (files_of self.old) ≡ Some here
-            → Keeps here name.now bytes.now result (Some (files_of self.new)) }
+            → TakesFile here name.now bytes.now result (Some (files_of self.new)) }
         ensures steady { IsTrue (is_steady self.old) → IsTrue (is_steady self.new)
             × (result ≢ Err StoreError.Failed) }
         ensures once { (seen_of self.new).keeps ≡ one_more (seen_of self.old).keeps }
