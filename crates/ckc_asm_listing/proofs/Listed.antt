@@ -13,7 +13,7 @@ use Rattle.ckc_asm.specs.declared.items.Operand.TheVariants.{Nothing, Number, Na
 use Rattle.std.proofs.lemmas.Grind.{common_steps}
 use Rattle.std.specs.Int.{w32, from_le_bytes}
 use Rattle.ckc_rv.specs.declared.instructions.Instr.{Instr}
-use Rattle.ckc_rv.specs.Decoded.{decoded}
+use Rattle.ckc_rv.specs.code.Decoded.{decoded}
 use Rattle.ckc_rv.proofs.Rows.{decoded_law}
 use Rattle.ckc_asm_listing.specs.Listing.{text_of, instr_or_word, word_line, data_line, word_lines, data_lines, entry_text, format_text, listing_lines, listing, shown_lines, shown_image}
 use Rattle.ckc_asm.specs.Cut.{lines_of}

@@ -5,7 +5,7 @@ use Rattle.std.specs.List.{list_all}
 use Rattle.std.proofs.lemmas.Bool.{and_parts, ltb-true, lt-ltb}
 use Rattle.ckc_syntax.specs.Digits.{is_digit_in, value_in}
 use Rattle.ckc_syntax.specs.Literals.{simple_escape}
-use Rattle.ckc_syntax.specs.Decoded.{are_digits_after, is_plain_piece, is_simple, is_octal, is_hexadecimal, hexadecimal_value, octal_value, simple_value, piece_value, or_shorter, longest_piece, with_rest, characters_behind, decoded}
+use Rattle.ckc_syntax.specs.code.Decoded.{are_digits_after, is_plain_piece, is_simple, is_octal, is_hexadecimal, hexadecimal_value, octal_value, simple_value, piece_value, or_shorter, longest_piece, with_rest, characters_behind, decoded}
 use Rattle.ckc_blame_words.specs.Literals.{are_bytes}
 use Rattle.ckc_blame_words.proofs.Tokens.{plain_small, simple_small}
 

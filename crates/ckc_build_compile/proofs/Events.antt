@@ -25,7 +25,7 @@ use Rattle.ckc_frame.specs.Meaning as F
 use Rattle.ckc_rv.specs.declared.instructions.Instr.{Instr}
 use Rattle.ckc_rv.specs.declared.registers.Outcome as rv
 use Rattle.ckc_rv.specs.declared.registers.Outcome.TheVariants as effect
-use Rattle.ckc_rv.specs.Decoded.{decoded}
+use Rattle.ckc_rv.specs.code.Decoded.{decoded}
 use Rattle.ckc_rv.specs.Effects.{effect_of, load_bytes, store_bytes}
 use Rattle.ckc_rv.specs.Machine as M
 use Rattle.ckc_rv.specs.Detailed.{with_writes, writes_of, writes_by, writes_at, detailed_step}

@@ -1,4 +1,4 @@
-//! From the plain program of a text to core code, with all checks written out.
+//! From the program of a text to core code, with all checks written out.
 #![tactic(auto)]
 
 mod code;

@@ -31,7 +31,7 @@ abbrev pub turn_code : ℕ → source.Expr → source.Code → Code
 turn_code t e body = operand_code e t (If (operand e t) End (Break End) (statements t body))
 
 module _ (functions : List source.Function) where
-  -- statements in the integer form, in front of so many lists of them, which are small together
+  -- statements that can be compiled, in front of so many lists of them, which are small together
   pub record Stands (t : ℕ) (looped : Bool) (behind : ℕ) (code : source.Code) : Type 0 where
     pub form : IsCompilableCode functions t looped code
     pub few : code_nodes code + behind ≤ 6000

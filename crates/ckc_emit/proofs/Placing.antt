@@ -7,7 +7,7 @@ use Rattle.std.proofs.lemmas.List.{get_or-take, get_or-drop, take-take, drop-tak
 use Rattle.std.proofs.lemmas.Bool.Decides.{nat_tests}
 use Rattle.ckc_rv.specs.declared.instructions.Instr.{Instr}
 use Rattle.ckc_rv.specs.declared.instructions.Instr.TheVariants as instr
-use Rattle.ckc_rv.specs.Decoded.{decoded}
+use Rattle.ckc_rv.specs.code.Decoded.{decoded}
 use Rattle.ckc_rv.specs.Machine.{Parts, flat, loaded, is_code, code_start}
 use Rattle.ckc_rv.proofs.Rows.{decoded_law}
 use Rattle.ckc_image.specs.Image.{word_bytes}

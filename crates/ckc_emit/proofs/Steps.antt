@@ -17,7 +17,7 @@ use Rattle.ckc_rv.specs.declared.instructions.Instr.TheVariants.{Lui, Auipc, Jal
 use Rattle.ckc_rv.specs.declared.registers.Outcome.{Outcome}
 use Rattle.ckc_rv.specs.declared.registers.Outcome.TheVariants as outcome
 use Rattle.ckc_rv.specs.Effects.{effect_of, following, moved, reg_value, reg_form, is_taken, load_bytes, store_bytes, load_value}
-use Rattle.ckc_rv.specs.Decoded.{decoded}
+use Rattle.ckc_rv.specs.code.Decoded.{decoded}
 use Rattle.ckc_rv.specs.Machine.{Parts, Memory, State, flat, loaded, stored, is_code, is_writable, data_start, memory_end, machine_step, executes, by_outcome, faults, register, with_register, next_with, gets, stops, loads}
 use Rattle.ckc_rv.specs.Detailed.{MachineEvent, Outside, Wrote, writes_of, writes_by, with_writes, detailed_step}
 use Rattle.ckc_emit.proofs.Local.{changed, changed_same, changed_other, table, table_at, table_set, Local, memory_of, memory_below, state_of}

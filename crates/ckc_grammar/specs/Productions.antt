@@ -5,7 +5,7 @@ use Rattle.std.specs.Prelude.{ℕ, List, [], ◌∷◌, Option, None, Some, fals
 use Rattle.ckc_base.specs.declared.places.Pos.{Pos}
 use Rattle.ckc_base.specs.declared.arithmetic.Mode.{Mode}
 use Rattle.ckc_base.specs.declared.arithmetic.Mode.TheVariants as modes
-use Rattle.ckc_syntax.specs.Decoded.{decoded}
+use Rattle.ckc_syntax.specs.code.Decoded.{decoded}
 use Rattle.ckc_syntax.specs.Spelled.{Spelled}
 use Rattle.ckc_syntax.specs.declared.tree.Item.TheVariants as items
 use Rattle.ckc_syntax.specs.declared.tree.TypeTree.TheVariants as ctype

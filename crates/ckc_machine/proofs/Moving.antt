@@ -9,7 +9,7 @@ use Rattle.ckc_rv.specs.declared.instructions.Instr.{Instr}
 use Rattle.ckc_rv.specs.declared.registers.Outcome.{Outcome}
 use Rattle.ckc_rv.specs.declared.registers.Outcome.TheVariants as outcome
 use Rattle.ckc_rv.specs.Effects.{effect_of, load_bytes, load_value, store_bytes}
-use Rattle.ckc_rv.specs.Decoded.{decoded}
+use Rattle.ckc_rv.specs.code.Decoded.{decoded}
 use Rattle.ckc_rv.specs.Machine.{Parts, State, loaded, machine_step, executes, faults, by_outcome, loads, calls, stops, gets, register, with_register, next_with, stored}
 use Rattle.ckc_machine.specs.Points.{taken}
 

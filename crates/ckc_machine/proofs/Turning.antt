@@ -5,7 +5,7 @@ use Rattle.ckc_rv.specs.declared.instructions.Instr.TheVariants.{Lui, Auipc, Jal
 use Rattle.ckc_rv.specs.declared.registers.Outcome.{Outcome}
 use Rattle.ckc_rv.specs.declared.registers.Outcome.TheVariants as outcome
 use Rattle.ckc_rv.specs.Effects.{effect_of, jumps, moved, following, writes}
-use Rattle.ckc_rv.specs.Decoded.{decoded}
+use Rattle.ckc_rv.specs.code.Decoded.{decoded}
 use Rattle.ckc_rv.specs.Outcomes.{effect_if, outcome_of}
 use Rattle.ckc_rv.specs.Machine.{Parts, State, loaded, is_code, machine_step, executes, faults, by_outcome, calls, stops, register}
 use Rattle.ckc_base.specs.Checks.{check_with}

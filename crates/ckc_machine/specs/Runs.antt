@@ -5,7 +5,7 @@ use Rattle.ckc_base.specs.Traces as standings
 use Rattle.ckc_outside.specs.Outside.{one_more}
 pub use Rattle.ckc_outside.specs.Given.{AreBytes, Called, Gave, MayCome, OverAny, Took, Printed, PrintedFront}
 use Rattle.ckc_rv.specs.declared.instructions.Instr.TheVariants.{Ecall}
-use Rattle.ckc_rv.specs.Decoded.{decoded}
+use Rattle.ckc_rv.specs.code.Decoded.{decoded}
 use Rattle.ckc_rv.specs.Machine.{Parts, State, is_code, loaded, register, machine}
 use Rattle.ckc_machine.specs.declared.observed.FaultKind.{FaultKind}
 use Rattle.ckc_machine.specs.declared.observed.FaultKind.TheVariants.{Fetch, Word, Align, Load, Store, Break, Call}

@@ -26,7 +26,7 @@ use Rattle.ckc_parser_grammar.specs.declared.parts.Post.TheVariants as behind
 use Rattle.ckc_parser_grammar.specs.Kinds.{kind_of_token, sign_op, binary_op}
 use Rattle.ckc_parser_grammar.specs.Grammar as g
 use Rattle.ckc_parser_grammar.specs.Grammar.{Rule}
-use Rattle.ckc_syntax.specs.Decoded.{decoded}
+use Rattle.ckc_syntax.specs.code.Decoded.{decoded}
 use Rattle.ckc_parser_grammar.specs.Trees.{Name, Tree, Item, TypeTree, Decl, Init, Limits, Expr, Stmt, expr_at, stmt_at, starred, statics, local_of, locals, function_of, posted, joined, picked, literal}
 
 -- A value of some part. A part that stands after something has what it makes of that: a name, a type, a place.

@@ -6,7 +6,7 @@ use Rattle.ckc_rv.specs.declared.registers.Outcome.{Outcome}
 use Rattle.ckc_rv.specs.declared.registers.Outcome.TheVariants as outcome
 use Rattle.ckc_rv.specs.Table.{InRange}
 use Rattle.ckc_rv.specs.Effects.{effect_of, is_taken, moved, following}
-use Rattle.ckc_rv.specs.Decoded.{decoded}
+use Rattle.ckc_rv.specs.code.Decoded.{decoded}
 use Rattle.ckc_rv.specs.Outcomes.{effect_if, outcome_of, NamesRegister}
 use Rattle.ckc_rv.proofs.Rows.{decoded_fits}
 

@@ -12,7 +12,7 @@ use Rattle.ckc_rv_operations.specs.declared.operations.RegOp.{RegOp}
 use Rattle.ckc_rv.specs.declared.instructions.Instr.{Instr}
 use Rattle.ckc_rv.specs.declared.instructions.Instr.TheVariants.{Lui, Auipc, Jal, Jalr, Branch, Load, Store, Imm, Reg, Fence, Ecall, Ebreak}
 use Rattle.ckc_rv.specs.Table.{InRange, Decodes, IsSigned, IsOffset, IsImmediate, row_word, r_word, i_word, s_word, b_word, u_word, j_word, low_bits, imm_bits, branch_funct3, load_funct3, store_funct3, imm_funct3, reg_funct3, reg_funct7}
-use Rattle.ckc_rv.specs.Decoded.{decoded, by_opcode, decoded_jalr, decoded_branch, decoded_load, decoded_store, decoded_imm, decoded_reg, decoded_fence, decoded_system, signed_from, i_immediate, s_immediate, b_offset, j_offset, imm_of, rd_of, rs1_of, rs2_of, funct3_of, funct7_of, branch_op, load_op, store_op, imm_op, reg_op}
+use Rattle.ckc_rv.specs.code.Decoded.{decoded, by_opcode, decoded_jalr, decoded_branch, decoded_load, decoded_store, decoded_imm, decoded_reg, decoded_fence, decoded_system, signed_from, i_immediate, s_immediate, b_offset, j_offset, imm_of, rd_of, rs1_of, rs2_of, funct3_of, funct7_of, branch_op, load_op, store_op, imm_op, reg_op}
 
 -- ---- signed numbers and their lowest bits
 

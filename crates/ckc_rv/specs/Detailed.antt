@@ -7,7 +7,7 @@ use Rattle.ckc_rv.specs.declared.instructions.Instr.{Instr}
 use Rattle.ckc_rv.specs.declared.registers.Outcome.{Outcome}
 use Rattle.ckc_rv.specs.declared.registers.Outcome.TheVariants.{Store}
 use Rattle.ckc_rv.specs.Effects.{effect_of, store_bytes}
-use Rattle.ckc_rv.specs.Decoded.{decoded}
+use Rattle.ckc_rv.specs.code.Decoded.{decoded}
 use Rattle.ckc_rv.specs.Machine.{Parts, State, loaded, machine_step, first_state}
 
 -- What a machine does, in detail: an event of input or output, or a store of so many bytes at an address, with the

@@ -1,5 +1,4 @@
 pub mod Table
-pub mod Decoded
 pub mod Effects
 pub mod Machine
 pub mod Detailed

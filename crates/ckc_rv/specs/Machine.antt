@@ -13,7 +13,7 @@ use Rattle.ckc_rv.specs.declared.instructions.Instr.{Instr}
 use Rattle.ckc_rv.specs.declared.registers.Outcome.{Outcome}
 use Rattle.ckc_rv.specs.declared.registers.Outcome.TheVariants.{Next, Load, Store, Call, Break, BadTarget}
 use Rattle.ckc_rv.specs.Effects.{effect_of, following, load_bytes, store_bytes, load_value}
-use Rattle.ckc_rv.specs.Decoded.{decoded}
+use Rattle.ckc_rv.specs.code.Decoded.{decoded}
 
 -- the parts of an image: the entry address, the bytes of the code, and the first bytes of the data region
 pub record Parts : Type 0 where

@@ -5,7 +5,7 @@ use Rattle.ckc_rv.specs.declared.instructions.Instr.{Instr}
 use Rattle.ckc_rv.specs.declared.registers.Outcome.{Outcome}
 use Rattle.ckc_rv.specs.declared.registers.Outcome.TheVariants.{Next, Load}
 use Rattle.ckc_rv.specs.Effects.{effect_of}
-use Rattle.ckc_rv.specs.Decoded.{decoded}
+use Rattle.ckc_rv.specs.code.Decoded.{decoded}
 
 -- the effect of an instruction that may be there
 abbrev pub effect_if : Option Instr → ℕ → List ℕ → Option Outcome

@@ -1,6 +1,6 @@
 ghost use Rattle.std.specs.Prelude.{◌≡◌, ◌↔◌, ℕ, ◌*◌, ◌^◌, ◌<◌, IfSome};
 ghost use Rattle.ckc_rv.specs.Table.{Decodes, InRange};
-ghost use Rattle.ckc_rv.specs.Decoded.{decoded, decoded_jalr, decoded_branch, decoded_load, decoded_store, decoded_imm, decoded_reg, decoded_fence, decoded_system, signed_from, i_immediate, s_immediate, b_offset, j_offset, imm_of, rd_of, rs1_of, rs2_of, funct3_of};
+ghost use Rattle.ckc_rv.specs.code.Decoded.{decoded, decoded_jalr, decoded_branch, decoded_load, decoded_store, decoded_imm, decoded_reg, decoded_fence, decoded_system, signed_from, i_immediate, s_immediate, b_offset, j_offset, imm_of, rd_of, rs1_of, rs2_of, funct3_of};
 
 use crate::instructions::Instr;
 use ckc_rv_operations::{BranchOp, ImmOp, LoadOp, RegOp, StoreOp};
@@ -17,7 +17,7 @@ pub fn decode(word: u32) -> Option<Instr>
 }
 
 /// Splits by opcode. The law of `decoded` is applied once, in `decode`.
-#[tactic(auto, using(crate::proofs::Rows::decoded_by), unfolding(crate::specs::Decoded::by_opcode))]
+#[tactic(auto, using(crate::proofs::Rows::decoded_by), unfolding(crate::specs::code::Decoded::by_opcode))]
 fn row_of(word: u32) -> Option<Instr>
     ensures { result ≡ decoded word }
 {

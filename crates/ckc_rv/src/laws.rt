@@ -3,7 +3,7 @@ ghost use Rattle.std.specs.Prelude.{◌≡◌, ◌↔◌, ℕ, List, Some};
 ghost use Rattle.ckc_base.specs.Traces.{narrowed};
 ghost use Rattle.ckc_rv.specs.declared.instructions.Instr.{Instr};
 ghost use Rattle.ckc_rv.specs.Table.{Decodes};
-ghost use Rattle.ckc_rv.specs.Decoded.{decoded};
+ghost use Rattle.ckc_rv.specs.code.Decoded.{decoded};
 ghost use Rattle.ckc_rv.specs.Machine.{Parts, machine};
 ghost use Rattle.ckc_rv.specs.Detailed.{outside_events, detailed_machine};
 

@@ -2,7 +2,7 @@
 //! codes of the word. Each function is inlined into the run, so that each case has its operation as a constant. Each
 //! takes the pc and the registers, whether it needs them or not.
 ghost use Rattle.std.specs.Prelude.{◌≡◌, IfSome};
-ghost use Rattle.ckc_rv.specs.Decoded.{decoded_jalr, decoded_branch, decoded_load, decoded_store, decoded_imm, decoded_reg, decoded_fence, decoded_system, funct3_of};
+ghost use Rattle.ckc_rv.specs.code.Decoded.{decoded_jalr, decoded_branch, decoded_load, decoded_store, decoded_imm, decoded_reg, decoded_fence, decoded_system, funct3_of};
 ghost use Rattle.ckc_rv_operations.specs.code.Codes.{base_op, product_op};
 ghost use Rattle.ckc_rv.specs.Outcomes.{effect_if, outcome_of, NamesRegister};
 ghost use Rattle.ckc_rv.specs.code.Outcomes.{branch_effect, load_effect, store_effect, imm_effect, reg_effect};
@@ -27,7 +27,7 @@ pub fn word_effect(word: u32, pc: u32, regs: &Regs) -> Option<Outcome>
 
 /// Splits by opcode.
 #[inline(always)]
-#[tactic(auto, using(crate::proofs::Rows::decoded_by), unfolding(crate::specs::Decoded::by_opcode))]
+#[tactic(auto, using(crate::proofs::Rows::decoded_by), unfolding(crate::specs::code::Decoded::by_opcode))]
 fn outcome_at(word: u32, pc: u32, regs: &Regs) -> Option<Outcome>
     ensures { result ≡ outcome_of word pc regs.now.x }
 {

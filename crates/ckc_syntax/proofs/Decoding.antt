@@ -8,7 +8,7 @@ use Rattle.ckc_syntax.specs.Bytes.{AllBytes}
 use Rattle.ckc_syntax.specs.Longest.{Longest, NoFront}
 use Rattle.ckc_syntax.specs.Digits.{is_digit_in, value_in}
 use Rattle.ckc_syntax.specs.Literals.{is_plain, simple_escape, IsDigitsAfter, simple, octal, hexadecimal, IsPiece, plain, escape, Characters, ends, next, IsLiteral}
-use Rattle.ckc_syntax.specs.Decoded.{are_digits_after, is_plain_piece, is_simple, is_octal, is_hexadecimal, hexadecimal_value, octal_value, simple_value, piece_value, or_shorter, longest_piece, with_rest, characters_behind, decoded}
+use Rattle.ckc_syntax.specs.code.Decoded.{are_digits_after, is_plain_piece, is_simple, is_octal, is_hexadecimal, hexadecimal_value, octal_value, simple_value, piece_value, or_shorter, longest_piece, with_rest, characters_behind, decoded}
 use Rattle.ckc_syntax.proofs.Pieces.{piece_once}
 
 all_bytes : (p : ℕ → Bool) (w : List ℕ) → list_all p w ≡ true → AllBytes p w

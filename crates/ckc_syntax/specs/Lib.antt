@@ -1,5 +1,4 @@
 pub mod Bytes
-pub mod Decoded
 pub mod Digits
 pub mod Literals
 pub mod Inside

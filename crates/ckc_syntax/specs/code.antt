@@ -1,2 +1,3 @@
+pub mod Decoded
 pub mod DigitReading
 pub mod SameParts

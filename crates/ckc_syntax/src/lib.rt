@@ -3,6 +3,7 @@
 
 mod copies;
 mod digits;
+pub mod laws;
 mod literals;
 mod pointers;
 mod same;

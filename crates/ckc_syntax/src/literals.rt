@@ -1,7 +1,7 @@
 ghost use Rattle.std.specs.Prelude.{◌≡◌, ℕ, ◌+◌, ◌<◌, ◌≤◌, List, length, slice_index, MatchOption, IfOk};
 ghost use Rattle.ckc_syntax.specs.Longest.{Longest, NoFront};
 ghost use Rattle.ckc_syntax.specs.Literals.{is_plain, simple_escape, IsPiece, IsDigitsAfter, IsEscape, IsLiteral};
-ghost use Rattle.ckc_syntax.specs.Decoded.{decoded};
+ghost use Rattle.ckc_syntax.specs.code.Decoded.{decoded};
 ghost use Rattle.ckc_syntax.specs.code.DigitReading.{IsMostDigits};
 
 use crate::digits::digit_value;

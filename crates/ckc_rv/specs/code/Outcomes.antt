@@ -9,7 +9,7 @@ use Rattle.ckc_rv.specs.declared.instructions.Instr.TheVariants as instr
 use Rattle.ckc_rv.specs.declared.registers.Outcome.{Outcome}
 use Rattle.ckc_rv.specs.declared.registers.Outcome.TheVariants.{Load}
 use Rattle.ckc_rv.specs.Effects.{effect_of}
-use Rattle.ckc_rv.specs.Decoded.{rd_of, rs1_of, rs2_of, i_immediate, s_immediate, b_offset, imm_of}
+use Rattle.ckc_rv.specs.code.Decoded.{rd_of, rs1_of, rs2_of, i_immediate, s_immediate, b_offset, imm_of}
 
 -- the effect of a word whose operation is known
 abbrev pub branch_effect : BranchOp → ℕ → ℕ → List ℕ → Outcome

@@ -1,6 +1,6 @@
 use Rattle.std.proofs.Common.{arith}
 use Rattle.std.proofs.lemmas.Bool.Decides.{nat_tests}
-use Rattle.ckc_rv.specs.Decoded.{by_opcode}
+use Rattle.ckc_rv.specs.code.Decoded.{by_opcode}
 use Rattle.ckc_rv.proofs.Rows.{decoded_by}
 use Rattle.ckc_rv.proofs.outcomes.outcome_at.Goals as goal
 

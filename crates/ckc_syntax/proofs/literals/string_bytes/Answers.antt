@@ -2,7 +2,7 @@ use Rattle.std.proofs.Common.{◌∙◌, ◌+◌, List, ◌++◌, ℕ, sym, ap, 
 use Rattle.std.proofs.lemmas.List.{take_rest}
 use Rattle.ckc_syntax.specs.Longest.{Longest, NoFront}
 use Rattle.ckc_syntax.specs.Literals.{IsPiece}
-use Rattle.ckc_syntax.specs.Decoded.{decoded, characters_behind}
+use Rattle.ckc_syntax.specs.code.Decoded.{decoded, characters_behind}
 use Rattle.ckc_syntax.proofs.Decoding.{no_spelling, empty_length, one_more, no_more, literal_decoded}
 use Rattle.ckc_syntax.proofs.literals.string_bytes.Goals as goal
 

@@ -1,5 +1,5 @@
 use Rattle.std.proofs.Common.{◌≡◌, ◌-◌, ◌≤◌, ◌++◌, length}
-use Rattle.ckc_syntax.specs.Decoded.{decoded, characters_behind}
+use Rattle.ckc_syntax.specs.code.Decoded.{decoded, characters_behind}
 use Rattle.ckc_syntax.proofs.literals.string_bytes.Given as goal
 
 -- the bytes so far, with those of the characters after them, are those of the whole

@@ -1,5 +1,6 @@
--- The bytes that a string's spelling stands for, as a function. If the spelling is no literal, they are those of
--- the characters that it has in front.
+-- The bytes that a string's spelling stands for, as a function. It need not be believed: the law
+-- `literals_have_bytes` says that they are those of the literal that the spelling is. If it is none, they are those
+-- of the characters that it has in front.
 use Rattle.std.specs.Prelude.{ℕ, zero, suc, ◌+◌, ◌-◌, Bool, ◌&&◌, ◌==◌, nat_lt, nat_le, if◌then◌else◌, List, [], ◌∷◌, length, take, drop, slice_index, Option, Some, None, is_some}
 use Rattle.std.specs.Option.{unwrap_or}
 use Rattle.std.specs.List.{list_all}

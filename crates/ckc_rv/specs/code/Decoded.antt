@@ -1,5 +1,5 @@
--- The instruction of a word as a function: which row has the word. Its law is that it answers exactly when the
--- table relates word and instruction.
+-- The instruction of a word as a function, which the machine runs by. It need not be believed: the law
+-- `decoded_by_rows` says that it answers exactly where the table relates word and instruction.
 use Rattle.std.specs.Prelude.{ℕ, ◌+◌, ◌*◌, ◌/◌, ◌%◌, ◌^◌, ◌==◌, ◌&&◌, nat_lt, if◌then◌else◌, ℤ, pos, ◌-ℤ◌, Some, None, Option}
 use Rattle.std.specs.Option.{option_map}
 pub use Rattle.ckc_rv_operations.specs.Codes.{branch_op, load_op, store_op, imm_op, reg_op}
