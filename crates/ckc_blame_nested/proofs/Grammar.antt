@@ -9,14 +9,16 @@ use Rattle.ckc_syntax.specs.Spelled.{Spelled}
 use Rattle.ckc_syntax.specs.declared.tree.Act.{Act-F, map-Act, roll-Act, fold-roll-Act}
 use Rattle.ckc_syntax.specs.declared.tree.Act.TheVariants as act
 use Rattle.ckc_syntax.specs.declared.tree.Stmt.{fold-roll-Stmt}
+use Rattle.ckc_grammar.specs.Text.{DerivesTree}
 use Rattle.ckc_parser_grammar.specs.declared.kind.Kind.{Kind}
-use Rattle.ckc_parser_grammar.specs.Grammar.{Part, Symbol, t, n, Rule, left, right}
-use Rattle.ckc_parser_grammar.specs.Grammar as g
-use Rattle.ckc_parser_grammar.specs.Trees.{Name, Tree, Item, Head, TypeTree, Decl, Expr, Stmt, Act, stmt_at, statics, local_of, locals, function_of}
-use Rattle.ckc_parser_grammar.specs.Values as v
-use Rattle.ckc_parser_grammar.specs.Values.{Value, made, as_token, as_items, as_items_of_name, as_items_of_base, as_items_of_declarator, as_item_of_head, as_decls_of_base, as_decl_of_name, as_stmt, as_part, as_stmts, as_stmt_of_name}
-use Rattle.ckc_parser_grammar.specs.Derives.{Sign, Derives}
-use Rattle.ckc_parser_grammar.specs.Derives as D
+use Rattle.ckc_parser_grammar.specs.code.Grammar.{Part, Symbol, t, n, Rule, left, right}
+use Rattle.ckc_parser_grammar.specs.code.Grammar as g
+use Rattle.ckc_parser_grammar.specs.code.Trees.{Name, Tree, Item, Head, TypeTree, Decl, Expr, Stmt, Act, stmt_at, statics, local_of, locals, function_of}
+use Rattle.ckc_parser_grammar.specs.code.Values as v
+use Rattle.ckc_parser_grammar.specs.code.Values.{Value, made, as_token, as_items, as_items_of_name, as_items_of_base, as_items_of_declarator, as_item_of_head, as_decls_of_base, as_decl_of_name, as_stmt, as_part, as_stmts, as_stmt_of_name}
+use Rattle.ckc_parser_grammar.specs.code.Derives.{Sign, Derives}
+use Rattle.ckc_parser_grammar.specs.code.Derives as D
+use Rattle.ckc_parser_grammar.proofs.Same.{same_tree}
 use Rattle.ckc_blame_nested.specs.Nested.{Nesting, plain, is_branch, begins, steps, nesting_by, nesting_in, nesting_of_act, nesting_of}
 use Rattle.ckc_blame_nested.proofs.Items.{is_nested, all_joined, first_of}
 
@@ -216,5 +218,8 @@ good (D.by {p = p} r us ys ws l d al mk d2 e) = cons (subst (λ z. Good p z) mk 
 one_good : {s : Symbol} {x : Value} → AllGood (s ∷ []) (x ∷ []) → GoodSymbol s x
 one_good (cons h nil) = h
 
-pub tree_nested : (xs : List Sign) (last : Kind) (w : Tree) → Derives (n g.text ∷ []) xs last (v.tree w ∷ []) → list_all is_nested w.items ≡ true
-tree_nested xs last w d = one_good (good d)
+tree_good : (xs : List Sign) (last : Kind) (w : Tree) → Derives (n g.text ∷ []) xs last (v.tree w ∷ []) → list_all is_nested w.items ≡ true
+tree_good xs last w d = one_good (good d)
+
+pub tree_nested : (xs : List Spelled) (w : Tree) → DerivesTree xs w → list_all is_nested w.items ≡ true
+tree_nested xs w d = tree_good _ _ w ((same_tree xs w).0 d)

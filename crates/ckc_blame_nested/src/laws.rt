@@ -1,14 +1,10 @@
 //! What follows from the definitions alone, each the contract of a function that does nothing.
 
-ghost use Rattle.std.specs.Prelude.{List, [], ◌∷◌};
-ghost use Rattle.ckc_syntax.specs.Spelled.{Tokens};
+ghost use Rattle.std.specs.Prelude.{List};
+ghost use Rattle.ckc_syntax.specs.Spelled.{Spelled, Tokens};
+ghost use Rattle.ckc_syntax.specs.Trees.{Tree};
 ghost use Rattle.ckc_syntax.specs.declared.tree.NamedText.{NamedText};
-ghost use Rattle.ckc_parser_grammar.specs.declared.kind.Kind.{Kind};
-ghost use Rattle.ckc_parser_grammar.specs.Grammar as g;
-ghost use Rattle.ckc_parser_grammar.specs.Grammar.{n};
-ghost use Rattle.ckc_parser_grammar.specs.Trees.{Tree};
-ghost use Rattle.ckc_parser_grammar.specs.Values.{tree};
-ghost use Rattle.ckc_parser_grammar.specs.Derives.{Sign, Derives};
+ghost use Rattle.ckc_grammar.specs.Text.{DerivesTree};
 ghost use Rattle.ckc_parser.specs.Phase.{parsing};
 ghost use Rattle.ckc_resolve.specs.Phase.{naming};
 ghost use Rattle.ckc_typed.specs.declared.typed.Typed.{Typed};
@@ -18,8 +14,8 @@ ghost use Rattle.ckc_blame_nested.specs.Nested.{AreNested};
 /// In the tree that tokens derive no branch of an `if` and no body of a loop is a declaration, and a `for` begins with a
 /// declaration, an assignment or nothing and steps with an assignment or nothing.
 pub fn texts_are_nested()
-    ensures nested { (xs : List Sign) (next : Kind) (whole : Tree) →
-        Derives (n g.text ∷ []) xs next (tree whole ∷ []) → AreNested whole.items }
+    ensures nested { (xs : List Spelled) (whole : Tree) → DerivesTree xs whole
+        → AreNested whole.items }
 {}
 
 /// So it is in the text that these tokens make once its names and types are known, before its bounds are judged.

@@ -4,7 +4,7 @@ use Rattle.std.proofs.lemmas.Bool.Decides.{nat_tests}
 use Rattle.std.proofs.lemmas.List.Elements.{All-nil, All-cons, All-head, All-tail}
 use Rattle.std.proofs.lemmas.List.Folds.{list_all-append}
 use Rattle.std.specs.Prelude.{Option, Some, None, IfSome}
-use Rattle.std.specs.List.{list_all, AllByRecursion}
+use Rattle.std.specs.List.{All, list_all, AllByRecursion}
 use Rattle.ckc_base.specs.declared.places.Pos.{Pos}
 use Rattle.ckc_base.specs.declared.arithmetic.Mode.{Mode}
 use Rattle.ckc_syntax.specs.Inside.{all_have, inside_if, inside_each}
@@ -22,19 +22,19 @@ use Rattle.ckc_syntax.specs.declared.tree.Stmt.{fold-roll-Stmt}
 use Rattle.ckc_syntax.specs.declared.tree.TreeOp.{TreeOp}
 use Rattle.ckc_syntax.specs.declared.tree.TreeOp.TheVariants as op
 use Rattle.ckc_parser_grammar.specs.declared.kind.Kind.{Kind}
-use Rattle.ckc_parser_grammar.specs.declared.parts.Step.{Step}
 use Rattle.ckc_parser_grammar.specs.declared.parts.Arms.{Arms}
 use Rattle.ckc_parser_grammar.specs.declared.parts.Post.{Post}
 use Rattle.ckc_parser_grammar.specs.declared.parts.Post.TheVariants as behind
-use Rattle.ckc_parser_grammar.specs.Grammar.{Part, Symbol, t, n, Rule, left, right}
-use Rattle.ckc_parser_grammar.specs.Grammar as g
-use Rattle.ckc_parser_grammar.specs.Trees.{Name, Tree, Item, Head, TypeTree, Decl, Limits, Expr, Node, Stmt, Act, expr_at, stmt_at, statics, local_of, locals, function_of, posted, joined_at, joined_to, joined, level, picked, literal}
-use Rattle.ckc_parser_grammar.specs.Values as v
-use Rattle.ckc_parser_grammar.specs.Values.{Value, made, named, called, whole, step, as_token, as_items, as_items_of_name, as_items_of_base, as_items_of_declarator, as_item_of_head, as_decl, as_decls, as_decl_of_base, as_decls_of_base, as_decl_of_name, as_init, as_limits, as_declared_limits, as_limits_at, as_limits_of_unknown, as_expr, as_exprs, as_value, as_expr_behind, as_expr_of_name, as_expr_of_less, as_arms, as_steps, as_post, as_posts, as_stmt, as_part, as_stmts, as_stmt_of_name, operand_of, limits_of, as_type, name_of}
-use Rattle.ckc_parser_grammar.specs.Derives.{Sign, Derives}
-use Rattle.ckc_parser_grammar.specs.Derives as D
+use Rattle.ckc_parser_grammar.specs.code.Grammar.{Part, Symbol, t, n, Rule, left, right}
+use Rattle.ckc_parser_grammar.specs.code.Grammar as g
+use Rattle.ckc_parser_grammar.specs.code.Trees.{Name, Tree, Item, Head, TypeTree, Decl, Limits, Expr, Node, Stmt, Act, expr_at, stmt_at, statics, local_of, locals, function_of, posted, joined_at, joined_to, joined, level, picked, literal}
+use Rattle.ckc_grammar.specs.declared.chain.Step.{Step}
+use Rattle.ckc_parser_grammar.specs.code.Values as v
+use Rattle.ckc_parser_grammar.specs.code.Values.{Value, made, named, called, whole, step, as_token, as_items, as_items_of_name, as_items_of_base, as_items_of_declarator, as_item_of_head, as_decl, as_decls, as_decl_of_base, as_decls_of_base, as_decl_of_name, as_init, as_limits, as_declared_limits, as_limits_at, as_limits_of_unknown, as_expr, as_exprs, as_value, as_expr_behind, as_expr_of_name, as_expr_of_less, as_arms, as_steps, as_post, as_posts, as_stmt, as_part, as_stmts, as_stmt_of_name, operand_of, limits_of, as_type, name_of}
+use Rattle.ckc_parser_grammar.specs.code.Derives.{Sign, Derives}
+use Rattle.ckc_parser_grammar.specs.code.Derives as D
 use Rattle.ckc_blame_words.proofs.Strings.{decoded_bytes}
-use Rattle.ckc_blame_words.specs.Literals.{HoldsWord, SignsHoldWords, are_bytes, is_word, limits_by_parts, node_by_parts, expr_by_parts, limits_have_words, expr_has_words, init_has_words, decl_has_words, act_by_parts, stmt_by_parts, stmt_has_words, head_has_words, item_has_words, tree_has_words}
+use Rattle.ckc_blame_words.specs.Literals.{HoldsWord, are_bytes, is_word, limits_by_parts, node_by_parts, expr_by_parts, limits_have_words, expr_has_words, init_has_words, decl_has_words, act_by_parts, stmt_by_parts, stmt_has_words, head_has_words, item_has_words, tree_has_words}
 
 abbrev C : Expr → Type 0
 C e = expr_has_words e ≡ true
@@ -527,6 +527,10 @@ good_made _ _ = tt
 
 abbrev Holds : Sign → Type 0
 Holds x = HoldsWord x.token.kind
+
+-- each token with its kind holds a word, if it holds a number
+abbrev pub SignsHoldWords : List Sign → Type 0
+SignsHoldWords xs = All Holds xs
 
 front : (xs ys : List Sign) → SignsHoldWords (xs ++ ys) → SignsHoldWords xs
 front [] ys h = All-nil Holds

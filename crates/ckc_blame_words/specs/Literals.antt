@@ -15,7 +15,6 @@ use Rattle.ckc_syntax.specs.declared.tree.Node.{Node-F}
 use Rattle.ckc_syntax.specs.declared.tree.Expr.{Expr, Expr-F, fold-Expr}
 use Rattle.ckc_syntax.specs.declared.tree.Act.{Act-F}
 use Rattle.ckc_syntax.specs.declared.tree.Stmt.{Stmt, Stmt-F, fold-Stmt}
-use Rattle.ckc_parser_grammar.specs.Derives.{Sign}
 
 -- ---- tokens
 
@@ -28,10 +27,6 @@ HoldsWord _ = Unit {0}
 -- this of each token
 abbrev pub TokensHoldWords : List Spelled → Type 0
 TokensHoldWords tokens = All (λ t. HoldsWord t.kind) tokens
-
--- this of tokens with their kinds
-abbrev pub SignsHoldWords : List Sign → Type 0
-SignsHoldWords xs = All (λ x. HoldsWord x.token.kind) xs
 
 -- ---- trees, whatever stands for a name and whatever is noted
 

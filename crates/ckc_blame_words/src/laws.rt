@@ -1,16 +1,11 @@
 //! What follows from the definitions alone, each the contract of a function that does nothing.
 
-ghost use Rattle.std.specs.Prelude.{◌≡◌, ℕ, List, [], ◌∷◌, true};
+ghost use Rattle.std.specs.Prelude.{◌≡◌, ℕ, List, true};
 ghost use Rattle.ckc_base.specs.Phases.{◌>=>◌};
 ghost use Rattle.ckc_syntax.specs.Spelled.{Tokens};
+ghost use Rattle.ckc_syntax.specs.Trees.{Tree};
 ghost use Rattle.ckc_syntax.specs.declared.tree.NamedText.{NamedText};
 ghost use Rattle.ckc_lexer.specs.Phase.{lexing};
-ghost use Rattle.ckc_parser_grammar.specs.declared.kind.Kind.{Kind};
-ghost use Rattle.ckc_parser_grammar.specs.Grammar as g;
-ghost use Rattle.ckc_parser_grammar.specs.Grammar.{n};
-ghost use Rattle.ckc_parser_grammar.specs.Trees.{Tree};
-ghost use Rattle.ckc_parser_grammar.specs.Values.{tree};
-ghost use Rattle.ckc_parser_grammar.specs.Derives.{Sign, Derives};
 ghost use Rattle.ckc_parser.specs.Phase.{parsing};
 ghost use Rattle.ckc_resolve.specs.Phase.{naming};
 ghost use Rattle.ckc_scopes.specs.Phase.{scoping};
@@ -18,7 +13,7 @@ ghost use Rattle.ckc_bounds.specs.Phase.{bounding};
 ghost use Rattle.ckc_typed.specs.declared.typed.Typed.{Typed};
 ghost use Rattle.ckc_typed_welltyped.specs.Texts.{TypedAs};
 ghost use Rattle.ckc_blame_sound.specs.Words.{HaveWords};
-ghost use Rattle.ckc_blame_words.specs.Literals.{TokensHoldWords, SignsHoldWords, tree_has_words};
+ghost use Rattle.ckc_blame_words.specs.Literals.{TokensHoldWords, tree_has_words};
 
 /// The tokens of a text hold words: the lexer refuses a larger number, and a character is a byte.
 pub fn tokens_hold_words()
@@ -29,9 +24,7 @@ pub fn tokens_hold_words()
 /// In the tree that such tokens derive each literal number is a word, and each string is made of
 /// bytes.
 pub fn trees_have_words()
-    ensures derived { (xs : List Sign) (next : Kind) (whole : Tree) → SignsHoldWords xs
-        → Derives (n g.text ∷ []) xs next (tree whole ∷ []) → tree_has_words whole ≡ true }
-    ensures parsed { (tokens : Tokens) (whole : Tree) → TokensHoldWords tokens.list
+    ensures { (tokens : Tokens) (whole : Tree) → TokensHoldWords tokens.list
         → parsing.Makes tokens whole → tree_has_words whole ≡ true }
 {}
 

@@ -18,15 +18,17 @@ is [] (c ∷ cs) = false
 is (b ∷ bs) [] = false
 is (b ∷ bs) (c ∷ cs) = b == c && is bs cs
 
--- whether a token is this keyword, this mark, or this name
+-- whether a token is this keyword
 abbrev pub is_keyword : TokenKind → List ℕ → List ℕ → Bool
 is_keyword kinds.Keyword text s = is text s
 is_keyword _ text s = false
 
+-- whether a token is this mark
 abbrev pub is_mark : TokenKind → List ℕ → List ℕ → Bool
 is_mark kinds.Mark text s = is text s
 is_mark _ text s = false
 
+-- whether a token is this name
 abbrev pub is_word : TokenKind → List ℕ → List ℕ → Bool
 is_word kinds.Name text s = is text s
 is_word _ text s = false
@@ -54,11 +56,12 @@ abbrev pub before_else : List Word → Bool → Bool
 before_else [] e = e
 before_else (x ∷ xs) e = fits (keyword (codes "else")) x
 
--- one of a list
+-- a place in a list
 abbrev pub Choice : {A : Type 0} → List A → Type 0
 Choice [] = ⊥
 Choice (x ∷ xs) = Unit {0} ⊎ Choice xs
 
+-- what stands there
 abbrev pub chosen : {A : Type 0} → (xs : List A) → Choice xs → A
 chosen [] c = absurd c
 chosen (x ∷ xs) (inl c) = x

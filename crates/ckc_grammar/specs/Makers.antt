@@ -28,28 +28,32 @@ abbrev pub applied : Expr → List (Expr → Expr) → Expr
 applied e [] = e
 applied e (f ∷ fs) = applied (f e) fs
 
--- what stands in an option, or what holds without it
+-- the mode of a function, if it has one
 abbrev pub mode_of : Option (Mode × Pos) → Option Mode
 mode_of None = None
 mode_of (Some m) = Some m.0
 
+-- the length of an object: that of its array, or else it is none
 abbrev pub length_of : Option Length → Length
 length_of None = lengths.Plain
 length_of (Some l) = l
 
+-- the initialiser of a local: what stands behind its `=`, if something does
 abbrev pub init_of : Option Expr → Init
 init_of None = inits.Nothing
 init_of (Some e) = inits.One e
 
+-- the initialiser of an object, if it has one
 abbrev pub initial_of : Option Init → Init
 initial_of None = inits.Nothing
 initial_of (Some i) = i
 
--- the directive and the number that a token is
+-- the directive that a token is
 abbrev pub directive_of : TokenKind → Directive
 directive_of (kinds.Directive d) = d
 directive_of _ = directives.Stdio
 
+-- the number that a token is
 abbrev pub number_of : TokenKind → ℕ
 number_of (kinds.Number number unsigned) = number
 number_of _ = 0

@@ -162,22 +162,27 @@ infixr 10 ◌⇒◌
 abbrev pub ◌⇒◌ : {p : Part} → (ss : List Symbol) → Makes ss (Meaning p) → Alternative p
 ◌⇒◌ ss f = record { right = ss; made = f }
 
--- a keyword or mark, without and with its place
+-- a keyword
 abbrev pub key : String → Symbol
 key s = t (keyword (codes s)) unused
 
+-- a keyword with its place
 abbrev pub key_at : String → Symbol
 key_at s = t (keyword (codes s)) place
 
+-- a keyword with either of two spellings, with its place
 abbrev pub two_at : String → String → Symbol
 two_at s r = t (either (codes s) (codes r)) place
 
+-- a keyword with either of two spellings
 abbrev pub two : String → String → Symbol
 two s r = t (either (codes s) (codes r)) unused
 
+-- a mark
 abbrev pub sign : String → Symbol
 sign s = t (mark (codes s)) unused
 
+-- a mark with its place
 abbrev pub sign_at : String → Symbol
 sign_at s = t (mark (codes s)) place
 
@@ -185,7 +190,7 @@ sign_at s = t (mark (codes s)) place
 abbrev pub word_at : String → Symbol
 word_at s = t (word (codes s)) place
 
--- a token of a class
+-- any name
 abbrev pub name : Symbol
 name = t any_name whole
 
@@ -193,13 +198,15 @@ name = t any_name whole
 abbrev pub range : Part
 range = opt (after (mark (codes ":")) limits)
 
--- the alternatives of a pointer type, of an operator between operands, of one before an operand
+-- a pointer type
 abbrev pub pointer : String → String → (TypeTree → TypeTree) → Alternative base
 pointer s r f = two s r ∷ sign "<" ∷ n type_name ∷ sign ">" ∷ [] ⇒ f
 
+-- an operator between operands
 abbrev pub infix_op : String → TreeOp → Alternative operator
 infix_op s o = sign_at s ∷ [] ⇒ λ at. (o, at)
 
+-- an operator before an operand
 abbrev pub prefix_op : String → TreeOp → Alternative unary
 prefix_op s o = sign_at s ∷ n unary ∷ [] ⇒ λ at e. expr_at (node.Un o e) at
 

@@ -1,5 +1,6 @@
 -- What the trees of a text are made of.
 pub use Rattle.ckc_syntax.specs.Trees.{Spelling as Name, Tree, Item, Head, TypeTree, Decl, Init, Limits, Expr, Node, Stmt, Act}
+pub use Rattle.ckc_grammar.specs.declared.chain.Step.{Step}
 use Rattle.std.specs.Prelude.{ℕ, zero, suc, ◌==◌, List, [], ◌∷◌, Option, None, Some, false, if◌then◌else◌}
 use Rattle.ckc_base.specs.declared.places.Pos.{Pos}
 use Rattle.ckc_syntax.specs.declared.tokens.TokenKind.{TokenKind}
@@ -10,12 +11,6 @@ use Rattle.ckc_syntax.specs.declared.tree.Node.TheVariants as node
 use Rattle.ckc_syntax.specs.declared.tree.Act.TheVariants as act
 use Rattle.ckc_syntax.specs.declared.tree.TreeOp.{TreeOp}
 use Rattle.ckc_syntax.specs.declared.tree.TreeOp.TheVariants as op
-
--- a binary operator with its place, and its right operand
-pub record Step : Type 0 where
-  pub op : TreeOp
-  pub pos : Pos
-  pub operand : Expr
 
 -- an expression of the tree, at its place
 abbrev pub expr_at : Node → Pos → Expr

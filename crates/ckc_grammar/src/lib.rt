@@ -2,6 +2,8 @@
 //! it stands for, and how tokens derive a text.
 #![tactic(auto)]
 
+mod chain;
 mod laws;
 
+pub use chain::Step;
 pub use laws::no_tokens_are_a_text;

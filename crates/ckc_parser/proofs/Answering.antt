@@ -2,18 +2,19 @@
 use Rattle.std.proofs.Common.{◌≡◌, List, [], ◌∷◌, ◌++◌, sym, ap, subst, ◌∙◌, append_assoc, append-nil}
 use Rattle.ckc_base.specs.declared.places.Pos.{Pos}
 use Rattle.ckc_syntax.specs.Spelled.{Spelled}
-use Rattle.ckc_parser_grammar.specs.Trees.{Tree}
-use Rattle.ckc_parser_grammar.specs.Values.{Value, tree}
-use Rattle.ckc_parser.specs.Text.{DerivesValue, Viable, FaultAt, IsFault}
+use Rattle.ckc_grammar.specs.Trees.{Tree}
+use Rattle.ckc_grammar.specs.Text.{DerivesText, DerivesTree, Viable, FaultAt, IsFault}
+use Rattle.ckc_parser_grammar.specs.code.Values.{tree}
+use Rattle.ckc_parser_grammar.proofs.Same.{same_tree}
 use Rattle.ckc_parser_grammar.proofs.Theory.{same_read}
 use Rattle.ckc_parser.proofs.Top.{whole_taken}
 
-pub one_tree : (xs : List Spelled) (a b : Tree) → DerivesValue xs (tree a) → DerivesValue xs (tree b) → a ≡ b
-one_tree xs a b d e = let h = (same_read (whole_taken xs (tree a) d) (tree b ∷ []) [] (whole_taken xs (tree b) e)).0 in cc
+pub one_tree : (xs : List Spelled) (a b : Tree) → DerivesTree xs a → DerivesTree xs b → a ≡ b
+one_tree xs a b d e = let h = (same_read (whole_taken xs (tree a) ((same_tree xs a).0 d)) (tree b ∷ []) [] (whole_taken xs (tree b) ((same_tree xs b).0 e))).0 in cc
 
 -- what begins a list that begins a text, begins one
 viable_front : (a b : List Spelled) → Viable (a ++ b) → Viable a
-viable_front a b v = (b ++ v.0, v.1, subst (λ z. DerivesValue z v.1) (append_assoc a b v.0) v.2)
+viable_front a b v = (b ++ v.0, subst (λ z. DerivesText z) (append_assoc a b v.0) v.1)
 
 at_once : (f r : List Spelled) (end a b : Pos) → FaultAt f r end a → FaultAt f r end b → a ≡ b
 at_once f [] end a b h k = h.0 ∙ sym k.0
@@ -42,9 +43,9 @@ compare p (x ∷ g) r (y ∷ h) s end a b e v w f k =
 pub one_fault : (xs : List Spelled) (end a b : Pos) → IsFault xs end a → IsFault xs end b → a ≡ b
 one_fault xs end a b f g = compare [] f.0 f.1 g.0 g.1 end a b (sym f.2 ∙ g.2) f.3 g.3 f.4 g.4
 
-derived_or : (front rest : List Spelled) (end pos : Pos) (v : Value) → DerivesValue (front ++ rest) v → FaultAt front rest end pos → ⊥
-derived_or front [] end pos v d h = h.1 v (subst (λ z. DerivesValue z v) (append-nil front) d)
-derived_or front (x ∷ more) end pos v d h = h.1 (more, v, subst (λ z. DerivesValue z v) (sym (append_assoc front (x ∷ []) more)) d)
+derived_or : (front rest : List Spelled) (end pos : Pos) → DerivesText (front ++ rest) → FaultAt front rest end pos → ⊥
+derived_or front [] end pos d h = h.1 (subst (λ z. DerivesText z) (append-nil front) d)
+derived_or front (x ∷ more) end pos d h = h.1 (more, subst (λ z. DerivesText z) (sym (append_assoc front (x ∷ []) more)) d)
 
-pub tree_or_fault : (xs : List Spelled) (a : Tree) (end pos : Pos) → DerivesValue xs (tree a) → IsFault xs end pos → ⊥
-tree_or_fault xs a end pos d f = derived_or f.0 f.1 end pos (tree a) (subst (λ z. DerivesValue z (tree a)) f.2 d) f.4
+pub text_or_fault : (xs : List Spelled) (end pos : Pos) → DerivesText xs → IsFault xs end pos → ⊥
+text_or_fault xs end pos d f = derived_or f.0 f.1 end pos (subst (λ z. DerivesText z) f.2 d) f.4

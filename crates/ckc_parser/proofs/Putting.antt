@@ -3,9 +3,9 @@ use Rattle.std.proofs.Common.{◌≡◌, List, [], ◌∷◌, ◌++◌, true, re
 use Rattle.std.specs.Prelude.{Some, Result}
 use Rattle.ckc_parser_grammar.specs.declared.kind.Kind.{Kind}
 use Rattle.ckc_parser_grammar.specs.declared.parts.Stop.{Stop}
-use Rattle.ckc_parser_grammar.specs.Grammar.{Part, Symbol, n, Rule, right, allowed}
-use Rattle.ckc_parser_grammar.specs.Values.{Value, made}
-use Rattle.ckc_parser_grammar.specs.Derives.{Sign}
+use Rattle.ckc_parser_grammar.specs.code.Grammar.{Part, Symbol, n, Rule, right, allowed}
+use Rattle.ckc_parser_grammar.specs.code.Values.{Value, made}
+use Rattle.ckc_parser_grammar.specs.code.Derives.{Sign}
 use Rattle.ckc_parser_grammar.specs.code.Reading.{kind_of, pick, Takes, Stops}
 use Rattle.ckc_parser_grammar.specs.code.Marked.{Answered, Reads}
 use Rattle.ckc_parser.specs.code.Parts.{Puts}

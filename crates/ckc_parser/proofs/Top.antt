@@ -1,4 +1,4 @@
--- The outcome of reading a whole list of tokens.
+-- The outcome of reading a whole list of tokens, by the grammar.
 use Rattle.std.proofs.Common.{◌≡◌, List, [], ◌∷◌, ◌++◌, refl, sym, ap, subst, ◌∙◌, append_assoc, append-nil, map}
 use Rattle.std.proofs.lemmas.List.{append_cancel_right}
 use Rattle.ckc_base.specs.declared.places.Pos.{Pos}
@@ -6,19 +6,24 @@ use Rattle.ckc_syntax.specs.Spelled.{Spelled}
 use Rattle.ckc_syntax.specs.declared.tokens.TokenKind.TheVariants as kinds
 use Rattle.ckc_parser_grammar.specs.declared.kind.Kind.{Kind}
 use Rattle.ckc_parser_grammar.specs.declared.kind.Kind.TheVariants as kind
-use Rattle.ckc_parser_grammar.specs.Kinds.{kind_of_token}
-use Rattle.ckc_parser_grammar.specs.Grammar.{Terminal, Part, n}
-use Rattle.ckc_parser_grammar.specs.Values.{Value}
-use Rattle.ckc_parser_grammar.specs.Signs.{signs, signs_after, kind_after}
+use Rattle.ckc_parser_grammar.specs.code.Kinds.{kind_of_token}
+use Rattle.ckc_parser_grammar.specs.code.Grammar.{Terminal, Part, n}
+use Rattle.ckc_parser_grammar.specs.code.Values.{Value, tree}
+use Rattle.ckc_parser_grammar.specs.code.Trees.{Tree}
+use Rattle.ckc_parser_grammar.specs.code.Signs.{signs, signs_after, kind_after}
 use Rattle.ckc_parser_grammar.specs.code.Marked.{place_of}
-use Rattle.ckc_parser_grammar.specs.Derives.{Sign, before, Derives}
-use Rattle.ckc_parser_grammar.specs.Derives as D
+use Rattle.ckc_parser_grammar.specs.code.Derives.{Sign, before, Derives}
+use Rattle.ckc_parser_grammar.specs.code.Derives as D
 use Rattle.ckc_parser_grammar.specs.code.Reading.{kind_of, Takes, Stops}
-use Rattle.ckc_parser.specs.Text.{start, DerivesValue, Viable, FaultAt, IsFault}
+use Rattle.ckc_parser_grammar.specs.code.Text.{start, DerivesValue}
+use Rattle.ckc_grammar.specs.Text.{DerivesTree, Viable, FaultAt, IsFault}
+use Rattle.ckc_grammar.specs.Derivation.{value}
 use Rattle.ckc_parser_grammar.proofs.Marks.{last_of, signs_both, glued_no}
 use Rattle.ckc_parser_grammar.proofs.Samples.{sample, sample_token}
 use Rattle.ckc_parser_grammar.proofs.Theory.{complete, read_of, same_read, clash}
 use Rattle.ckc_parser_grammar.proofs.Prefixes.{stopped_of, begun_of, relax}
+use Rattle.ckc_parser_grammar.proofs.Onto.{trees, texts}
+use Rattle.ckc_parser_grammar.proofs.Same.{back}
 
 -- no token, after which the first one stands
 abbrev pub nobody : Spelled
@@ -62,7 +67,7 @@ viable_by fs front cs vs e real d =
     let ys = map sample_token cs in
     let same : front ++ map sample cs ≡ signs (fs ++ ys) =
     ap (λ z. z ++ map sample cs) e ∙ ap (λ z. signs_after nobody fs ++ z) (sym (real (last_of nobody fs))) ∙ sym (signs_both nobody fs ys) ∙ sym (signs_is (fs ++ ys)) in
-    (ys, v.0, subst (λ z. Derives (n start ∷ []) z kind.End (v.0 ∷ [])) same (subst (λ z. Derives (n start ∷ []) (front ++ map sample cs) kind.End z) v.1 d))
+    (ys, texts (fs ++ ys) v.0 (subst (λ z. Derives (n start ∷ []) z kind.End (v.0 ∷ [])) same (subst (λ z. Derives (n start ∷ []) (front ++ map sample cs) kind.End z) v.1 d)))
 
 -- the tokens with one more, and what may follow it
 more_signs : (fs : List Spelled) (x : Spelled) (ys : List Spelled) → signs ((fs ++ x ∷ []) ++ ys) ≡ signs_after nobody fs ++ (record { kind = kind_after (last_of nobody fs) x; token = x } ∷ signs_after x ys)
@@ -77,15 +82,16 @@ stop_at : (xs : List Spelled) (end : Pos) (b : List Sign) (pos : Pos) (fs gs : L
     b ≡ signs_after (last_of nobody fs) gs → Stops (n start ∷ []) (signs xs) b →
     ((other : List Sign) → kind_of other ≡ kind_of b → Stops (n start ∷ []) (front ++ other) other) → IsPlace gs end pos → FaultAt fs gs end pos
 stop_at xs end b pos fs [] front w f e s moved h =
-    (h, λ v d. clash (whole_taken fs v d) b (subst (λ z. Stops (n start ∷ []) (signs z) b) (w ∙ append-nil fs) s))
+    (h, λ d. clash (whole_taken fs (tree (value d)) (back fs d)) b (subst (λ z. Stops (n start ∷ []) (signs z) b) (w ∙ append-nil fs) s))
 stop_at xs end b pos fs (x ∷ more) front w f e s moved h = (
   h,
   λ viable.
       let ys = viable.0 in
       let other : List Sign = record { kind = kind_after (last_of nobody fs) x; token = x } ∷ signs_after x ys in
-      let taken = whole_taken ((fs ++ x ∷ []) ++ ys) viable.1 viable.2 in
+      let whole = tree (value viable.1) in
+      let taken = whole_taken ((fs ++ x ∷ []) ++ ys) whole (back ((fs ++ x ∷ []) ++ ys) viable.1) in
       let split : signs ((fs ++ x ∷ []) ++ ys) ≡ front ++ other = more_signs fs x ys ∙ ap (λ z. z ++ other) (sym f) in
-      clash (subst (λ z. Takes (n start ∷ []) z (viable.1 ∷ []) []) split taken) other (moved other (ap kind_of (sym e))),
+      clash (subst (λ z. Takes (n start ∷ []) z (whole ∷ []) []) split taken) other (moved other (ap kind_of (sym e))),
 )
 
 pub stop_fault : (xs : List Spelled) (end : Pos) (b : List Sign) → Stops (n start ∷ []) (signs xs) b → (pos : Pos) →
@@ -111,9 +117,10 @@ take_at xs end b v pos fs (x ∷ more) front f e some moved h = (
   λ viable.
       let ys = viable.0 in
       let other : List Sign = record { kind = kind_after (last_of nobody fs) x; token = x } ∷ signs_after x ys in
-      let taken = whole_taken ((fs ++ x ∷ []) ++ ys) viable.1 viable.2 in
+      let whole = tree (value viable.1) in
+      let taken = whole_taken ((fs ++ x ∷ []) ++ ys) whole (back ((fs ++ x ∷ []) ++ ys) viable.1) in
       let split : signs ((fs ++ x ∷ []) ++ ys) ≡ front ++ other = more_signs fs x ys ∙ ap (λ z. z ++ other) (sym f) in
-      let none : other ≡ [] = (same_read (moved other (ap kind_of (sym e))) (viable.1 ∷ []) [] (subst (λ z. Takes (n start ∷ []) z (viable.1 ∷ []) []) split taken)).1 in
+      let none : other ≡ [] = (same_read (moved other (ap kind_of (sym e))) (whole ∷ []) [] (subst (λ z. Takes (n start ∷ []) z (whole ∷ []) []) split taken)).1 in
       absurd (cc),
 )
 
@@ -138,13 +145,13 @@ place_is [] y b end e = ap (λ z. place_of z end) e
 place_is (x ∷ gs) y b end e = ap (λ z. place_of z end) e
 
 -- the answers of a parser of the start
-pub good_answer : {X : Type 0} (f : X → Value) (xs : List Spelled) (x : X) (a b : List Sign) → a ≡ signs xs → Takes (n start ∷ []) a (f x ∷ []) b → b ≡ [] → DerivesValue xs (f x)
-good_answer f xs x a b e d h = all_taken xs (f x) (subst (λ z. Takes (n start ∷ []) (signs xs) (f x ∷ []) z) h (subst (λ z. Takes (n start ∷ []) z (f x ∷ []) b) e d))
+pub good_answer : (xs : List Spelled) (x : Tree) (a b : List Sign) → a ≡ signs xs → Takes (n start ∷ []) a (tree x ∷ []) b → b ≡ [] → DerivesTree xs x
+good_answer xs x a b e d h = trees xs x (all_taken xs (tree x) (subst (λ z. Takes (n start ∷ []) (signs xs) (tree x ∷ []) z) h (subst (λ z. Takes (n start ∷ []) z (tree x ∷ []) b) e d)))
 
 module _ (xs : List Spelled) (end : Pos) where
-  pub more_answer : {X : Type 0} (f : X → Value) (x : X) (a b : List Sign) (pos : Pos) → a ≡ signs xs → Takes (n start ∷ []) a (f x ∷ []) b → (b ≡ [] → ⊥) → pos ≡ place_of b end → IsFault xs end pos
-  more_answer f x a b pos e d h k =
-      take_fault xs end b (f x) (subst (λ z. Takes (n start ∷ []) z (f x ∷ []) b) e d) h pos
+  pub more_answer : (x : Tree) (a b : List Sign) (pos : Pos) → a ≡ signs xs → Takes (n start ∷ []) a (tree x ∷ []) b → (b ≡ [] → ⊥) → pos ≡ place_of b end → IsFault xs end pos
+  more_answer x a b pos e d h k =
+      take_fault xs end b (tree x) (subst (λ z. Takes (n start ∷ []) z (tree x ∷ []) b) e d) h pos
       (λ fs gs w is. subst (λ z. IsPlace gs end z) (sym k) (place_is gs (last_of nobody fs) b end is))
 
   pub stop_answer : (a b : List Sign) (pos : Pos) → a ≡ signs xs → Stops (n start ∷ []) a b → pos ≡ place_of b end → IsFault xs end pos

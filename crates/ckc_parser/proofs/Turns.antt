@@ -3,11 +3,11 @@ use Rattle.std.proofs.Common.{◌≡◌, List, [], ◌∷◌, ◌++◌, true, sy
 use Rattle.std.specs.Prelude.{Some, Result}
 use Rattle.ckc_parser_grammar.specs.declared.kind.Kind.{Kind}
 use Rattle.ckc_parser_grammar.specs.declared.parts.Stop.{Stop}
-use Rattle.ckc_parser_grammar.specs.Grammar.{Symbol, n, Rule, right, allowed}
-use Rattle.ckc_parser_grammar.specs.Grammar as g
-use Rattle.ckc_parser_grammar.specs.Trees.{Item}
-use Rattle.ckc_parser_grammar.specs.Values.{Value, made, as_items}
-use Rattle.ckc_parser_grammar.specs.Derives.{Sign}
+use Rattle.ckc_parser_grammar.specs.code.Grammar.{Symbol, n, Rule, right, allowed}
+use Rattle.ckc_parser_grammar.specs.code.Grammar as g
+use Rattle.ckc_parser_grammar.specs.code.Trees.{Item}
+use Rattle.ckc_parser_grammar.specs.code.Values.{Value, made, as_items}
+use Rattle.ckc_parser_grammar.specs.code.Derives.{Sign}
 use Rattle.ckc_parser_grammar.specs.code.Reading.{kind_of, pick, Takes, Stops}
 use Rattle.ckc_parser_grammar.specs.code.Marked.{Answered, Reads}
 use Rattle.ckc_parser.specs.code.Turns.{IsItem}

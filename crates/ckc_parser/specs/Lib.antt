@@ -1,3 +1,2 @@
 pub mod Phase
-pub mod Text
 pub mod code

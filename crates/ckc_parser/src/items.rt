@@ -1,8 +1,8 @@
 ghost use Rattle.std.specs.Prelude.{◌≡◌, ◌≤◌, ◌<◌, ◌∷◌, [], ◌++◌, true, Option, Some, None, IfOk};
 ghost use Rattle.ckc_syntax.specs.Spelled.{spelled};
-ghost use Rattle.ckc_parser_grammar.specs.Grammar as g;
-ghost use Rattle.ckc_parser_grammar.specs.Trees as trees;
-ghost use Rattle.ckc_parser_grammar.specs.Values as v;
+ghost use Rattle.ckc_parser_grammar.specs.code.Grammar as g;
+ghost use Rattle.ckc_parser_grammar.specs.code.Trees as trees;
+ghost use Rattle.ckc_parser_grammar.specs.code.Values as v;
 ghost use Rattle.ckc_parser_grammar.specs.code.Forms.{has_more};
 ghost use Rattle.ckc_parser.specs.code.Parts.{PutsMembers, Puts};
 ghost use Rattle.ckc_parser.specs.code.Turns.{IsItem};

@@ -9,5 +9,5 @@ mod statements;
 mod text;
 
 pub use ckc_parser_grammar::SYNTAX_ERROR;
-pub use laws::{codes, is_exact, values_have_shapes};
+pub use laws::{codes, is_exact};
 pub use text::parse;

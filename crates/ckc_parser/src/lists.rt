@@ -3,8 +3,8 @@ ghost use Rattle.ckc_syntax.specs.Spelled.{spelled};
 ghost use Rattle.ckc_syntax.specs.declared.tree.Item.TheVariants as item;
 ghost use Rattle.ckc_syntax.specs.declared.tree.Length.TheVariants as lengths;
 ghost use Rattle.ckc_syntax.specs.declared.tree.Init.TheVariants as inits;
-ghost use Rattle.ckc_parser_grammar.specs.Trees as trees;
-ghost use Rattle.ckc_parser_grammar.specs.Values as v;
+ghost use Rattle.ckc_parser_grammar.specs.code.Trees as trees;
+ghost use Rattle.ckc_parser_grammar.specs.code.Values as v;
 ghost use Rattle.ckc_parser.specs.code.Parts.{HoldsOrMemory};
 
 use ckc_base::{Boxed, Seq};

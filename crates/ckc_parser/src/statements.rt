@@ -1,8 +1,8 @@
 ghost use Rattle.std.specs.Prelude.{◌≡◌, ◌≤◌, ◌<◌, ◌∷◌, [], ◌++◌, Option, Some, None};
 ghost use Rattle.ckc_syntax.specs.Spelled.{spelled};
-ghost use Rattle.ckc_parser_grammar.specs.Grammar as g;
-ghost use Rattle.ckc_parser_grammar.specs.Trees as trees;
-ghost use Rattle.ckc_parser_grammar.specs.Values as v;
+ghost use Rattle.ckc_parser_grammar.specs.code.Grammar as g;
+ghost use Rattle.ckc_parser_grammar.specs.code.Trees as trees;
+ghost use Rattle.ckc_parser_grammar.specs.code.Values as v;
 ghost use Rattle.ckc_parser_grammar.specs.code.Marked.{ahead, remaining, Gives, Reads};
 ghost use Rattle.ckc_parser.specs.code.Parts.{HoldsOrMemory, Puts, ReadsAssignment, PutsAssignment, PutsBundle, ReadsBlock};
 ghost use Rattle.ckc_syntax.specs.declared.tree.Act.TheVariants as act;

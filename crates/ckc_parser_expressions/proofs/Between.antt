@@ -6,10 +6,10 @@ use Rattle.ckc_syntax.specs.declared.tree.Limits.TheVariants as bounds
 use Rattle.ckc_parser_grammar.specs.declared.kind.Kind.{Kind}
 use Rattle.ckc_parser_grammar.specs.declared.kind.Kind.TheVariants as kind
 use Rattle.ckc_parser_grammar.specs.code.Fits.{fits}
-use Rattle.ckc_parser_grammar.specs.Grammar.{Part, Symbol, t, n, k, Rule, right, allowed, is_name, is_name_but_unknown}
-use Rattle.ckc_parser_grammar.specs.Grammar as g
-use Rattle.ckc_parser_grammar.specs.Derives.{Sign}
-use Rattle.ckc_parser_grammar.specs.Values.{Value, token, made, as_expr, as_limits_at}
+use Rattle.ckc_parser_grammar.specs.code.Grammar.{Part, Symbol, t, n, k, Rule, right, allowed, is_name, is_name_but_unknown}
+use Rattle.ckc_parser_grammar.specs.code.Grammar as g
+use Rattle.ckc_parser_grammar.specs.code.Derives.{Sign}
+use Rattle.ckc_parser_grammar.specs.code.Values.{Value, token, made, as_expr, as_limits_at}
 use Rattle.ckc_parser_grammar.specs.code.Reading.{kind_of, pick, Takes, Stops}
 use Rattle.ckc_parser_grammar.specs.code.Reading as T
 use Rattle.ckc_parser_grammar.specs.code.Forms.{alone, is_unknown_alone}

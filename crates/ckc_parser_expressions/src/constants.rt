@@ -1,8 +1,8 @@
 ghost use Rattle.std.specs.Prelude.{◌≡◌, ◌≤◌, ◌∷◌, [], length, IfOk};
 ghost use Rattle.ckc_syntax.specs.Spelled.{spelled};
-ghost use Rattle.ckc_parser_grammar.specs.Grammar as g;
-ghost use Rattle.ckc_parser_grammar.specs.Trees.{literal};
-ghost use Rattle.ckc_parser_grammar.specs.Values.{Value, expr, named, as_token};
+ghost use Rattle.ckc_parser_grammar.specs.code.Grammar as g;
+ghost use Rattle.ckc_parser_grammar.specs.code.Trees.{literal};
+ghost use Rattle.ckc_parser_grammar.specs.code.Values.{Value, expr, named, as_token};
 ghost use Rattle.ckc_parser_grammar.specs.code.Marked.{ahead, remaining, Parses, Reads, Makes};
 
 use crate::types::type_in_parentheses;

@@ -1,13 +1,12 @@
 ghost use Rattle.std.specs.Prelude.{◌≡◌, ◌≢◌, ◌≤◌, ◌<◌, ◌∷◌, ◌++◌, [], length, MatchResult, IfOk, false};
 ghost use Rattle.ckc_base.specs.declared.places.Pos.{Pos};
 ghost use Rattle.ckc_syntax.specs.declared.tree.Limits.TheVariants as bounds;
-ghost use Rattle.ckc_parser_grammar.specs.Grammar as g;
-ghost use Rattle.ckc_parser_grammar.specs.Trees.{posted};
-ghost use Rattle.ckc_parser_grammar.specs.Values.{Value, expr, arms, limits, declared_limits, type_tree, made, as_steps, as_arms, as_post, as_posts, as_expr_behind};
+ghost use Rattle.ckc_parser_grammar.specs.code.Grammar as g;
+ghost use Rattle.ckc_parser_grammar.specs.code.Trees.{posted};
+ghost use Rattle.ckc_parser_grammar.specs.code.Values.{Value, expr, arms, limits, declared_limits, type_tree, made, as_steps, as_arms, as_post, as_posts, as_expr_behind};
 ghost use Rattle.ckc_parser_grammar.specs.code.Marked.{ahead, remaining, Answered, Parses, Gives, Reads, Makes};
 ghost use Rattle.ckc_parser_grammar.specs.code.Forms.{is_unknown_alone};
-ghost use Rattle.ckc_parser_expressions.specs.Forms.{Tells, in_parentheses, enclosed};
-ghost use Rattle.ckc_parser_expressions.specs.code.Forms.{cast_by, IsCast, cast_type, IsSecond, sized, IsSized, IsBetween, cast_of, sized_of};
+ghost use Rattle.ckc_parser_expressions.specs.code.Forms.{Tells, in_parentheses, enclosed, cast_by, IsCast, cast_type, IsSecond, sized, IsSized, IsBetween, cast_of, sized_of};
 ghost use Rattle.ckc_parser_grammar.specs.code.Reading.{Takes};
 
 use crate::constants::{constant, name_operand, size_of};

@@ -1,7 +1,7 @@
 ghost use Rattle.std.specs.Prelude.{◌≡◌, ◌≤◌, ◌<◌, length, MatchResult, if◌then◌else◌, IfOk};
 ghost use Rattle.ckc_syntax.specs.declared.tree.TreeOp.TheVariants as op;
-ghost use Rattle.ckc_parser_grammar.specs.Grammar as g;
-ghost use Rattle.ckc_parser_grammar.specs.Values.{operator, second};
+ghost use Rattle.ckc_parser_grammar.specs.code.Grammar as g;
+ghost use Rattle.ckc_parser_grammar.specs.code.Values.{operator, second};
 ghost use Rattle.ckc_parser_grammar.specs.code.Marked.{ahead, remaining, Parses, Reads, Makes};
 
 use ckc_parser_grammar::{Class, Kind, Operation, Reader, Stop, binary_op, is_greater, token_kind};

@@ -1,10 +1,9 @@
 ghost use Rattle.std.specs.Prelude.{◌≤◌, length, IfOk};
-ghost use Rattle.ckc_parser_grammar.specs.Grammar as g;
-ghost use Rattle.ckc_parser_grammar.specs.Trees.{starred};
-ghost use Rattle.ckc_parser_grammar.specs.Values.{nothing, type_tree, as_stars};
+ghost use Rattle.ckc_parser_grammar.specs.code.Grammar as g;
+ghost use Rattle.ckc_parser_grammar.specs.code.Trees.{starred};
+ghost use Rattle.ckc_parser_grammar.specs.code.Values.{nothing, type_tree, as_stars};
 ghost use Rattle.ckc_parser_grammar.specs.code.Marked.{ahead, remaining, Parses, Gives, Reads, Makes};
-ghost use Rattle.ckc_parser_expressions.specs.Forms.{Tells, in_parentheses, enclosed};
-ghost use Rattle.ckc_parser_expressions.specs.code.Forms.{in_angles};
+ghost use Rattle.ckc_parser_expressions.specs.code.Forms.{Tells, in_parentheses, enclosed, in_angles};
 
 use ckc_base::Boxed;
 use ckc_parser_grammar::{CType, Class, Kind, Reader, Stop};

@@ -1,9 +1,9 @@
 ghost use Rattle.std.specs.Prelude.{◌≡◌, ◌≤◌, ◌<◌, ◌∷◌, [], ◌++◌, length, true, MatchResult, Option, Some, None, IfOk};
 ghost use Rattle.ckc_syntax.specs.Spelled.{spelled};
 ghost use Rattle.ckc_syntax.specs.declared.tree.Node.TheVariants as node;
-ghost use Rattle.ckc_parser_grammar.specs.Grammar as g;
-ghost use Rattle.ckc_parser_grammar.specs.Trees as trees;
-ghost use Rattle.ckc_parser_grammar.specs.Values as v;
+ghost use Rattle.ckc_parser_grammar.specs.code.Grammar as g;
+ghost use Rattle.ckc_parser_grammar.specs.code.Trees as trees;
+ghost use Rattle.ckc_parser_grammar.specs.code.Values as v;
 ghost use Rattle.ckc_parser_expressions.specs.code.Allocations.{allocated_type, allocated_size, IsLead, IsFourth};
 ghost use Rattle.ckc_parser_grammar.specs.code.Marked.{ahead, remaining, Answered, Gives, Reads};
 

@@ -5,7 +5,7 @@ use Rattle.std.proofs.lemmas.Bool.{false≢true}
 use Rattle.ckc_parser_grammar.specs.code.Forms.{begins_type, has_more}
 use Rattle.ckc_parser_grammar.specs.declared.kind.Kind.{Kind}
 use Rattle.ckc_parser_grammar.specs.declared.kind.Kind.TheVariants as kind
-use Rattle.ckc_parser_grammar.specs.Grammar as g
+use Rattle.ckc_parser_grammar.specs.code.Grammar as g
 use Rattle.ckc_parser_grammar.specs.code.Reading.{pick}
 use Rattle.ckc_parser_grammar.proofs.Tables.{and_both}
 use Rattle.ckc_parser_grammar.proofs.Decided.{chooses}

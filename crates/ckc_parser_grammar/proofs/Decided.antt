@@ -1,7 +1,7 @@
 -- Facts about a token, decided for every kind.
 use Rattle.std.proofs.Common.{◌≡◌, List, [], ◌∷◌, Bool, true, false, not, ◌&&◌, ◌==◌, refl, sym, Some}
 use Rattle.ckc_parser_grammar.specs.declared.kind.Kind.{Kind}
-use Rattle.ckc_parser_grammar.specs.Grammar.{Part, Rule}
+use Rattle.ckc_parser_grammar.specs.code.Grammar.{Part, Rule}
 use Rattle.ckc_parser_grammar.specs.code.Fits.{number}
 use Rattle.ckc_parser_grammar.specs.code.Reading.{pick}
 use Rattle.ckc_parser_grammar.proofs.EveryKind.{all_kinds}

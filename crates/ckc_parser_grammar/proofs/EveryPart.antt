@@ -1,7 +1,7 @@
 -- The list of all parts.
 use Rattle.std.proofs.Common.{◌≡◌, ℕ, List, [], ◌∷◌, refl, get_or}
-use Rattle.ckc_parser_grammar.specs.Grammar.{Part, Rule}
-use Rattle.ckc_parser_grammar.specs.Grammar as g
+use Rattle.ckc_parser_grammar.specs.code.Grammar.{Part, Rule}
+use Rattle.ckc_parser_grammar.specs.code.Grammar as g
 
 -- the part of what is chosen
 abbrev pub part_number : Part → ℕ

@@ -5,9 +5,7 @@ use Rattle.std.proofs.lemmas.Bool.Decides.{nat_tests}
 use Rattle.ckc_syntax.specs.declared.tree.Node.TheVariants as node
 use Rattle.ckc_base.specs.declared.places.Pos.{Pos}
 use Rattle.ckc_syntax.specs.declared.tree.TreeOp.{TreeOp}
-use Rattle.ckc_parser_grammar.specs.declared.parts.Step.{Step}
-use Rattle.ckc_parser_grammar.specs.Trees.{Expr, expr_at, level, joined, joined_to, joined_at}
-use Rattle.ckc_parser_grammar.specs.code.Trees.{attached}
+use Rattle.ckc_parser_grammar.specs.code.Trees.{Expr, Step, attached, expr_at, level, joined, joined_to, joined_at}
 
 -- whether an operator is of a level, as a case
 same_level : (b : Bool) (e f : Expr) (l : ℕ) (s : Step) (ss : List Step) → (level s.op == l) ≡ b → b ≡ true → f ≡ expr_at (node.Bin s.op e s.operand) s.pos → joined_at l e (s ∷ ss) ≡ joined_at l f ss

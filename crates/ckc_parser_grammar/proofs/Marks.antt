@@ -4,8 +4,8 @@ use Rattle.std.proofs.lemmas.Bool.Decides.{nat_tests}
 use Rattle.ckc_syntax.specs.Spelled.{Spelled}
 use Rattle.ckc_parser_grammar.specs.declared.kind.Kind.{Kind}
 use Rattle.ckc_parser_grammar.specs.declared.kind.Kind.TheVariants as kind
-use Rattle.ckc_parser_grammar.specs.Kinds.{kind_of_token}
-use Rattle.ckc_parser_grammar.specs.Signs.{signs_after, kind_after, adjacent, glued, is_plain_greater}
+use Rattle.ckc_parser_grammar.specs.code.Kinds.{kind_of_token}
+use Rattle.ckc_parser_grammar.specs.code.Signs.{signs_after, kind_after, adjacent, glued, is_plain_greater}
 
 -- a list of tokens in two parts
 abbrev pub last_of : Spelled → List Spelled → Spelled

@@ -3,10 +3,10 @@ use Rattle.std.proofs.Common.{◌≡◌, [], ◌∷◌, true, false, not, ◌||�
 use Rattle.ckc_syntax.specs.declared.tree.TreeOp.TheVariants as op
 use Rattle.ckc_parser_grammar.specs.declared.kind.Kind.{Kind}
 use Rattle.ckc_parser_grammar.specs.declared.kind.Kind.TheVariants as kind
-use Rattle.ckc_parser_grammar.specs.Kinds.{is_sign, is_operator, is_literal, sign_op, binary_op}
-use Rattle.ckc_parser_grammar.specs.Grammar.{is_name, is_greater}
+use Rattle.ckc_parser_grammar.specs.code.Kinds.{is_sign, is_operator, is_literal, sign_op, binary_op}
+use Rattle.ckc_parser_grammar.specs.code.Grammar.{is_name, is_greater}
 use Rattle.ckc_parser_grammar.specs.code.Forms.{begins_step, begins_type, begins_post}
-use Rattle.ckc_parser_grammar.specs.Grammar as g
+use Rattle.ckc_parser_grammar.specs.code.Grammar as g
 use Rattle.ckc_parser_grammar.specs.code.Reading.{pick}
 use Rattle.ckc_parser_grammar.proofs.Decided.{chooses, fails, remains}
 

@@ -2,10 +2,10 @@
 use Rattle.std.proofs.Common.{◌≡◌, List, [], ◌∷◌, ◌++◌, Bool, true, false, ◌||◌, refl, sym, ap, subst, ◌∙◌, None, Some, append_assoc, map}
 use Rattle.ckc_parser_grammar.specs.declared.kind.Kind.{Kind}
 use Rattle.ckc_parser_grammar.specs.code.Fits.{fits}
-use Rattle.ckc_parser_grammar.specs.Grammar.{Terminal, Symbol, t, n, Rule, right, allowed, not_else}
-use Rattle.ckc_parser_grammar.specs.Values.{Value, token, made}
-use Rattle.ckc_parser_grammar.specs.Derives.{Sign, before, Derives}
-use Rattle.ckc_parser_grammar.specs.Derives as D
+use Rattle.ckc_parser_grammar.specs.code.Grammar.{Terminal, Symbol, t, n, Rule, right, allowed, not_else}
+use Rattle.ckc_parser_grammar.specs.code.Values.{Value, token, made}
+use Rattle.ckc_parser_grammar.specs.code.Derives.{Sign, before, Derives}
+use Rattle.ckc_parser_grammar.specs.code.Derives as D
 use Rattle.ckc_parser_grammar.specs.code.Reading.{kind_of, pick, Takes, Stops}
 use Rattle.ckc_parser_grammar.specs.code.Reading as T
 use Rattle.ckc_parser_grammar.proofs.Tables.{of_fits, plain, plain_all, opens, and_true, and_both, allowed_owed, pick_left, opens_owed, fits_here}

@@ -4,13 +4,13 @@ use Rattle.ckc_syntax.specs.Spelled.{Spelled}
 use Rattle.ckc_parser_grammar.specs.declared.kind.Kind.{Kind}
 use Rattle.ckc_parser_grammar.specs.declared.kind.Kind.TheVariants as kind
 use Rattle.ckc_parser_grammar.specs.code.Fits.{number, fits}
-use Rattle.ckc_parser_grammar.specs.Grammar.{Terminal, one, name, greater, sign, operator, literal, name_but_calloc, name_but_unknown, Part, Symbol, t, n, Rule, left, right, allowed, not_else}
-use Rattle.ckc_parser_grammar.specs.Grammar as g
-use Rattle.ckc_parser_grammar.specs.Values.{Value, token, made}
-use Rattle.ckc_parser_grammar.specs.Derives.{Sign, before, Derives}
-use Rattle.ckc_parser_grammar.specs.Derives as D
-use Rattle.ckc_parser_grammar.specs.Kinds.{kind_of_token}
-use Rattle.ckc_parser_grammar.specs.Signs.{signs_after, kind_after}
+use Rattle.ckc_parser_grammar.specs.code.Grammar.{Terminal, one, name, greater, sign, operator, literal, name_but_calloc, name_but_unknown, Part, Symbol, t, n, Rule, left, right, allowed, not_else}
+use Rattle.ckc_parser_grammar.specs.code.Grammar as g
+use Rattle.ckc_parser_grammar.specs.code.Values.{Value, token, made}
+use Rattle.ckc_parser_grammar.specs.code.Derives.{Sign, before, Derives}
+use Rattle.ckc_parser_grammar.specs.code.Derives as D
+use Rattle.ckc_parser_grammar.specs.code.Kinds.{kind_of_token}
+use Rattle.ckc_parser_grammar.specs.code.Signs.{signs_after, kind_after}
 use Rattle.ckc_parser_grammar.proofs.Spellings.{spelled, sample_kind}
 use Rattle.ckc_parser_grammar.proofs.Marks.{last_of, signs_both, kind_alone}
 use Rattle.ckc_parser_grammar.proofs.EveryPart.{all_parts, part_number, part_at}

@@ -2,8 +2,8 @@
 use Rattle.std.proofs.Common.{List, [], ◌∷◌, Bool, true, false, ◌||◌, ◌==◌}
 use Rattle.ckc_parser_grammar.specs.declared.kind.Kind.{Kind}
 use Rattle.ckc_parser_grammar.specs.declared.kind.Kind.TheVariants as kind
-use Rattle.ckc_parser_grammar.specs.Grammar.{Part, Rule}
-use Rattle.ckc_parser_grammar.specs.Grammar as g
+use Rattle.ckc_parser_grammar.specs.code.Grammar.{Part, Rule}
+use Rattle.ckc_parser_grammar.specs.code.Grammar as g
 use Rattle.ckc_parser_grammar.specs.code.Fits.{number}
 
 -- whether a kind is one of some

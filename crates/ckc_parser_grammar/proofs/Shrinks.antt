@@ -5,12 +5,12 @@ use Rattle.ckc_syntax.specs.Spelled.{Spelled, spelled}
 use Rattle.ckc_syntax.specs.declared.tokens.Token.{Token}
 use Rattle.ckc_parser_grammar.specs.declared.kind.Kind.{Kind}
 use Rattle.ckc_parser_grammar.specs.declared.reader.Reader.{Reader}
-use Rattle.ckc_parser_grammar.specs.Grammar.{Symbol, right}
-use Rattle.ckc_parser_grammar.specs.Values.{Value}
-use Rattle.ckc_parser_grammar.specs.Derives.{Sign}
+use Rattle.ckc_parser_grammar.specs.code.Grammar.{Symbol, right}
+use Rattle.ckc_parser_grammar.specs.code.Values.{Value}
+use Rattle.ckc_parser_grammar.specs.code.Derives.{Sign}
 use Rattle.ckc_parser_grammar.specs.code.Reading.{kind_of, Takes}
 use Rattle.ckc_parser_grammar.specs.code.Reading as T
-use Rattle.ckc_parser_grammar.specs.Signs.{signs_after}
+use Rattle.ckc_parser_grammar.specs.code.Signs.{signs_after}
 use Rattle.ckc_parser_grammar.specs.code.Marked.{signs_from, ahead}
 use Rattle.ckc_parser_grammar.proofs.Sets.{empty}
 use Rattle.ckc_parser_grammar.proofs.Tables.{empty_all, empty_owed, pick_left}

@@ -2,9 +2,10 @@
 use Rattle.std.proofs.Common.{◌≡◌, ℕ, List, [], ◌∷◌, Bool, true, false, cond, refl, ◌&&◌, ◌==◌, ◌∙◌, sym, ap, length, arith}
 use Rattle.std.specs.Prelude.{codes}
 use Rattle.std.proofs.lemmas.Bool.Decides.{nat_tests}
+use Rattle.ckc_grammar.specs.Derivation.{is}
 use Rattle.ckc_parser_grammar.specs.declared.kind.Kind.{Kind}
 use Rattle.ckc_parser_grammar.specs.declared.kind.Kind.TheVariants.{Name}
-use Rattle.ckc_parser_grammar.specs.Kinds.{is, kind_of_name, kind_of_mark, kind_of_long_operator}
+use Rattle.ckc_parser_grammar.specs.code.Kinds.{kind_of_name, kind_of_mark, kind_of_long_operator}
 
 same_number : (b c : ℕ) → (b == c) ≡ true → b ≡ c
 same_number b c e = grind (arith, nat_tests)
@@ -14,7 +15,7 @@ both true true b c bs cs e f g = let h = f refl in let i = g refl in cc
 both true false b c bs cs e f g = cc
 both false q b c bs cs e f g = cc
 
-is_same : (text word : List ℕ) → is text word ≡ true → text ≡ word
+pub is_same : (text word : List ℕ) → is text word ≡ true → text ≡ word
 is_same [] [] e = refl
 is_same [] (c ∷ cs) e = cc
 is_same (b ∷ bs) [] e = cc

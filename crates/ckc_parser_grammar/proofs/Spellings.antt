@@ -7,7 +7,7 @@ use Rattle.ckc_syntax.specs.declared.tokens.TokenKind.TheVariants as kinds
 use Rattle.ckc_syntax.specs.declared.tokens.Directive.TheVariants as directives
 use Rattle.ckc_parser_grammar.specs.declared.kind.Kind.{Kind}
 use Rattle.ckc_parser_grammar.specs.declared.kind.Kind.TheVariants as kind
-use Rattle.ckc_parser_grammar.specs.Grammar.{Terminal, one, name, greater, sign, operator, literal, name_but_calloc, name_but_unknown}
+use Rattle.ckc_parser_grammar.specs.code.Grammar.{Terminal, one, name, greater, sign, operator, literal, name_but_calloc, name_but_unknown}
 
 abbrev token_of : TokenKind → List ℕ → Spelled
 token_of k text = record { kind = k; text = text; pos = record { line = 0; col = 0 } }

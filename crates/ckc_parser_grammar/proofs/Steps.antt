@@ -4,9 +4,9 @@ use Rattle.ckc_syntax.specs.Spelled.{Spelled}
 use Rattle.ckc_parser_grammar.specs.declared.kind.Kind.{Kind}
 use Rattle.ckc_parser_grammar.specs.declared.kind.Kind.TheVariants as kind
 use Rattle.ckc_parser_grammar.specs.code.Fits.{number, fits}
-use Rattle.ckc_parser_grammar.specs.Grammar.{Terminal, one, Part, Symbol, t, n, Rule, right, allowed, is_name}
-use Rattle.ckc_parser_grammar.specs.Values.{Value, token, made}
-use Rattle.ckc_parser_grammar.specs.Derives.{Sign}
+use Rattle.ckc_parser_grammar.specs.code.Grammar.{Terminal, one, Part, Symbol, t, n, Rule, right, allowed, is_name}
+use Rattle.ckc_parser_grammar.specs.code.Values.{Value, token, made}
+use Rattle.ckc_parser_grammar.specs.code.Derives.{Sign}
 use Rattle.ckc_parser_grammar.specs.code.Reading.{kind_of, pick, Takes, Stops}
 use Rattle.ckc_parser_grammar.specs.code.Reading as T
 use Rattle.std.specs.Prelude.{Result, Ok, Err}

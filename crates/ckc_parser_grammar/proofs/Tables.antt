@@ -2,10 +2,10 @@
 use Rattle.std.proofs.Common.{arith, suc, zero, ◌≡◌, ℕ, List, [], ◌∷◌, Bool, true, false, ◌&&◌, ◌||◌, refl, get_or, sym, ap, subst, ◌∙◌, Option, None, Some, not, ◌==◌}
 use Rattle.ckc_parser_grammar.specs.declared.kind.Kind.{Kind}
 use Rattle.ckc_parser_grammar.specs.declared.kind.Kind.TheVariants as kind
-use Rattle.ckc_parser_grammar.specs.Grammar.{Terminal, one, name, greater, sign, operator, literal, name_but_calloc, name_but_unknown, Part, Symbol, t, n, Rule, left, right, Fits, allowed, not_else, is_name, is_greater}
-use Rattle.ckc_parser_grammar.specs.Grammar as g
+use Rattle.ckc_parser_grammar.specs.code.Grammar.{Terminal, one, name, greater, sign, operator, literal, name_but_calloc, name_but_unknown, Part, Symbol, t, n, Rule, left, right, Fits, allowed, not_else, is_name, is_greater}
+use Rattle.ckc_parser_grammar.specs.code.Grammar as g
 use Rattle.ckc_parser_grammar.specs.code.Fits.{number, fits}
-use Rattle.ckc_parser_grammar.specs.Kinds.{kind_of_token}
+use Rattle.ckc_parser_grammar.specs.code.Kinds.{kind_of_token}
 use Rattle.ckc_parser_grammar.proofs.Sets.{begins, follows, empty}
 use Rattle.ckc_parser_grammar.proofs.EveryKind.{all_kinds, kind_at}
 use Rattle.ckc_parser_grammar.proofs.EveryRule.{all_rules, rule_number, rule_at}

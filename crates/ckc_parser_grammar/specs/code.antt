@@ -1,7 +1,12 @@
 pub mod Classes
+pub mod Derives
 pub mod Fits
 pub mod Forms
+pub mod Grammar
+pub mod Kinds
 pub mod Marked
 pub mod Reading
-pub mod Shapes
+pub mod Signs
+pub mod Text
 pub mod Trees
+pub mod Values

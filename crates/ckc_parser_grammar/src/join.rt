@@ -1,13 +1,12 @@
 ghost use Rattle.std.specs.Prelude.{◌≡◌, ◌<◌, List, ◌∷◌, IfOk};
 ghost use Rattle.std.specs.Bool.{OnTrue, OnFalse};
 ghost use Rattle.ckc_syntax.specs.declared.tree.Node.TheVariants as node;
-ghost use Rattle.ckc_parser_grammar.specs.declared.parts.Step.{Step};
-ghost use Rattle.ckc_parser_grammar.specs.Trees.{expr_at, level, joined, joined_at, joined_to, picked};
-ghost use Rattle.ckc_parser_grammar.specs.code.Trees.{attached};
-ghost use Rattle.ckc_parser_grammar.specs.Values.{whole};
+ghost use Rattle.ckc_parser_grammar.specs.code.Trees.{Step, attached, expr_at, level, joined, joined_at, joined_to, picked};
+ghost use Rattle.ckc_parser_grammar.specs.code.Values.{whole};
 
-use crate::parts::{Arms, Expression, Rest, Step};
+use crate::parts::{Arms, Expression, Rest};
 use ckc_base::{Boxed, Pos, Seq};
+use ckc_grammar::Step;
 use ckc_syntax::{Expr, Node, TreeOp};
 use std::alloc::{AllocError, Global};
 

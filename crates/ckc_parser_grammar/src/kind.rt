@@ -1,6 +1,6 @@
 ghost use Rattle.std.specs.Prelude.{◌≡◌, ◌≢◌, ◌∷◌, [], length};
 ghost use Rattle.std.specs.Bool.{OnFalse};
-ghost use Rattle.ckc_parser_grammar.specs.Kinds.{kind_of_name, kind_of_keyword, kind_of_checked_keyword, kind_of_checked_word, kind_of_mark, kind_of_long_operator};
+ghost use Rattle.ckc_parser_grammar.specs.code.Kinds.{kind_of_name, kind_of_keyword, kind_of_checked_keyword, kind_of_checked_word, kind_of_mark, kind_of_long_operator};
 
 /// What the grammar tells apart: keywords and marks by their spelling, a few names that have a meaning in some
 /// places, and the end of the text. `GreaterNext` is a `>` that follows another directly.

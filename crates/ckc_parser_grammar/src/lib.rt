@@ -1,4 +1,5 @@
-//! The grammar of Checked C texts as data, a reader of tokens, and what trees are made of.
+//! The parser's table of productions, which derives what the grammar does, a reader of tokens, and what trees are
+//! made of.
 #![tactic(auto)]
 
 mod join;
@@ -8,6 +9,7 @@ mod operators;
 mod parts;
 mod reader;
 
+pub use ckc_grammar::Step;
 pub use join::whole;
 pub use kind::Kind;
 pub use make::{
@@ -17,7 +19,5 @@ pub use make::{
 pub use operators::{
     begins_post, begins_step, begins_type, binary_op, is_greater, is_sign, sign_op,
 };
-pub use parts::{
-    Arms, Bounds, CType, Declaration, Expression, Operation, Rest, Statement, Step, Stop,
-};
+pub use parts::{Arms, Bounds, CType, Declaration, Expression, Operation, Rest, Statement, Stop};
 pub use reader::{Class, Reader, SYNTAX_ERROR, is_name, token_kind};

@@ -1,7 +1,7 @@
 ghost use Rattle.std.specs.Prelude.{◌≡◌, ◌++◌, ◌∷◌, [], IfOk, OnOk, Option};
 ghost use Rattle.ckc_syntax.specs.Spelled.{spelled};
-ghost use Rattle.ckc_parser_grammar.specs.Trees as trees;
-ghost use Rattle.ckc_parser_grammar.specs.Values as v;
+ghost use Rattle.ckc_parser_grammar.specs.code.Trees as trees;
+ghost use Rattle.ckc_parser_grammar.specs.code.Values as v;
 
 use crate::parts::{Bounds, CType, Declaration, Expression, Statement};
 use ckc_base::{Boxed, Mode, Pos, Seq};

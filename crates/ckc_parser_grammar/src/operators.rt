@@ -1,7 +1,7 @@
 ghost use Rattle.std.specs.Prelude.{◌≡◌};
-ghost use Rattle.ckc_parser_grammar.specs.Grammar.{is_greater};
+ghost use Rattle.ckc_parser_grammar.specs.code.Grammar.{is_greater};
 ghost use Rattle.ckc_parser_grammar.specs.code.Forms.{begins_step, begins_type, begins_post};
-ghost use Rattle.ckc_parser_grammar.specs.Kinds.{is_sign, is_operator, is_literal, sign_op, binary_op};
+ghost use Rattle.ckc_parser_grammar.specs.code.Kinds.{is_sign, is_operator, is_literal, sign_op, binary_op};
 
 use crate::kind::Kind;
 use ckc_syntax::TreeOp;

@@ -1,6 +1,7 @@
 ghost use Rattle.std.specs.Prelude.{◌≡◌};
 
 use ckc_base::{Boxed, Pos, Seq};
+use ckc_grammar::Step;
 use ckc_syntax::{Decl, Expr, Limits, Spelling, Stmt, TreeOp, TypeTree};
 use std::alloc::{AllocError, AllocFailed};
 
@@ -51,14 +52,6 @@ impl<T: Drop> From<AllocFailed<T>> for Stop {
 pub struct Operation {
     pub op: TreeOp,
     pub pos: Pos,
-}
-
-/// A binary operator with its place, and its right operand.
-#[derive(Drop)]
-pub struct Step<'a> {
-    pub op: TreeOp,
-    pub pos: Pos,
-    pub operand: Expression<'a>,
 }
 
 /// What follows the condition in `? :`, with the place of the `?`.

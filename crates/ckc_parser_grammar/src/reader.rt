@@ -1,15 +1,15 @@
 ghost use Rattle.std.specs.Prelude.{◌≡◌, ◌≢◌, ◌≤◌, ◌<◌, [], ◌∷◌, map, MatchOption, MatchResult, IsNone, IsTrue, ◌↔◌};
 ghost use Rattle.std.specs.Bool.{OnTrue, OnFalse};
 ghost use Rattle.ckc_syntax.specs.Spelled.{spelled};
-ghost use Rattle.ckc_parser_grammar.specs.Kinds.{kind_of_token};
+ghost use Rattle.ckc_parser_grammar.specs.code.Kinds.{kind_of_token};
 ghost use Rattle.ckc_parser_grammar.specs.code.Fits.{fits};
-ghost use Rattle.ckc_parser_grammar.specs.Grammar.{t, one, is_name, is_name_but_calloc};
+ghost use Rattle.ckc_parser_grammar.specs.code.Grammar.{t, one, is_name, is_name_but_calloc};
 ghost use Rattle.ckc_parser_grammar.specs.code.Forms.{is_unknown_alone, has_more};
-ghost use Rattle.ckc_parser_grammar.specs.Derives.{syntax_error};
-ghost use Rattle.ckc_parser_grammar.specs.Values.{Value, token};
+ghost use Rattle.ckc_grammar.specs.Text.{syntax_error};
+ghost use Rattle.ckc_parser_grammar.specs.code.Values.{Value, token};
 ghost use Rattle.ckc_parser_grammar.specs.code.Classes.{terminal};
 ghost use Rattle.ckc_parser_grammar.specs.code.Reading.{kind_of, Takes};
-ghost use Rattle.ckc_parser_grammar.specs.Signs.{kind_after, adjacent, signs};
+ghost use Rattle.ckc_parser_grammar.specs.code.Signs.{kind_after, adjacent, signs};
 ghost use Rattle.ckc_parser_grammar.specs.code.Marked.{ahead, remaining, place_of, Answered, Parses};
 
 use crate::kind::{Kind, keyword_kind, mark_kind, name_kind};

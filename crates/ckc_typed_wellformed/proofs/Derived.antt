@@ -20,18 +20,20 @@ use Rattle.ckc_syntax.specs.declared.tree.Act.TheVariants as act
 use Rattle.ckc_syntax.specs.declared.tree.Stmt.{fold-roll-Stmt}
 use Rattle.ckc_syntax.specs.declared.tree.TreeOp.{TreeOp}
 use Rattle.ckc_syntax.specs.declared.tree.TreeOp.TheVariants as op
+use Rattle.ckc_grammar.specs.Text.{DerivesTree}
 use Rattle.ckc_parser_grammar.specs.declared.kind.Kind.{Kind}
-use Rattle.ckc_parser_grammar.specs.declared.parts.Step.{Step}
 use Rattle.ckc_parser_grammar.specs.declared.parts.Arms.{Arms}
 use Rattle.ckc_parser_grammar.specs.declared.parts.Post.{Post}
 use Rattle.ckc_parser_grammar.specs.declared.parts.Post.TheVariants as behind
-use Rattle.ckc_parser_grammar.specs.Grammar.{Part, Symbol, t, n, Rule, left, right}
-use Rattle.ckc_parser_grammar.specs.Grammar as g
-use Rattle.ckc_parser_grammar.specs.Trees.{Name, Tree, Item, Head, TypeTree, Decl, Limits, Expr, Node, Stmt, Act, expr_at, stmt_at, statics, local_of, locals, function_of, posted, joined_at, joined_to, joined, level, picked, literal}
-use Rattle.ckc_parser_grammar.specs.Values as v
-use Rattle.ckc_parser_grammar.specs.Values.{Value, made, named, called, whole, step, as_token, as_items, as_items_of_name, as_items_of_base, as_items_of_declarator, as_item_of_head, as_decl, as_decls, as_decl_of_base, as_decls_of_base, as_decl_of_name, as_init, as_limits, as_declared_limits, as_limits_at, as_limits_of_unknown, as_expr, as_exprs, as_value, as_expr_behind, as_expr_of_name, as_expr_of_less, as_arms, as_steps, as_post, as_posts, as_stmt, as_part, as_stmts, as_stmt_of_name, operand_of, limits_of, as_type}
-use Rattle.ckc_parser_grammar.specs.Derives.{Sign, Derives}
-use Rattle.ckc_parser_grammar.specs.Derives as D
+use Rattle.ckc_parser_grammar.specs.code.Grammar.{Part, Symbol, t, n, Rule, left, right}
+use Rattle.ckc_parser_grammar.specs.code.Grammar as g
+use Rattle.ckc_parser_grammar.specs.code.Trees.{Name, Tree, Item, Head, TypeTree, Decl, Limits, Expr, Node, Stmt, Act, expr_at, stmt_at, statics, local_of, locals, function_of, posted, joined_at, joined_to, joined, level, picked, literal}
+use Rattle.ckc_grammar.specs.declared.chain.Step.{Step}
+use Rattle.ckc_parser_grammar.specs.code.Values as v
+use Rattle.ckc_parser_grammar.specs.code.Values.{Value, made, named, called, whole, step, as_token, as_items, as_items_of_name, as_items_of_base, as_items_of_declarator, as_item_of_head, as_decl, as_decls, as_decl_of_base, as_decls_of_base, as_decl_of_name, as_init, as_limits, as_declared_limits, as_limits_at, as_limits_of_unknown, as_expr, as_exprs, as_value, as_expr_behind, as_expr_of_name, as_expr_of_less, as_arms, as_steps, as_post, as_posts, as_stmt, as_part, as_stmts, as_stmt_of_name, operand_of, limits_of, as_type}
+use Rattle.ckc_parser_grammar.specs.code.Derives.{Sign, Derives}
+use Rattle.ckc_parser_grammar.specs.code.Derives as D
+use Rattle.ckc_parser_grammar.proofs.Same.{same_tree}
 use Rattle.ckc_typed_welltyped.specs.Productions.{limits_callless, node_callless, expr_callless, callless_limits, callless_expr, callless_bounds, callless_value, call_form, is_call, is_right, callless_init, right_init, given_decl, given_local, Given, begins, steps, given_act, given_in, given_stmt, given_head, given_item, given_tree}
 
 abbrev C : Expr → Type 0
@@ -578,5 +580,8 @@ good (D.by {p = p} r us ys ws l d al mk d2 e) = cons (subst (λ z. Good p z) mk 
 one_good : {s : Symbol} {x : Value} → AllGood (s ∷ []) (x ∷ []) → GoodSymbol s x
 one_good (cons h nil) = h
 
-pub tree_given : (xs : List Sign) (last : Kind) (w : Tree) → Derives (n g.text ∷ []) xs last (v.tree w ∷ []) → given_tree w ≡ true
-tree_given xs last w d = one_good (good d)
+tree_good : (xs : List Sign) (last : Kind) (w : Tree) → Derives (n g.text ∷ []) xs last (v.tree w ∷ []) → given_tree w ≡ true
+tree_good xs last w d = one_good (good d)
+
+pub tree_given : (xs : List Spelled) (w : Tree) → DerivesTree xs w → given_tree w ≡ true
+tree_given xs w d = tree_good _ _ w ((same_tree xs w).0 d)

@@ -1,18 +1,15 @@
 //! What follows from the definitions alone, each the contract of a function that does nothing.
 
-ghost use Rattle.std.specs.Prelude.{◌≡◌, List, [], ◌∷◌, true};
-ghost use Rattle.ckc_parser_grammar.specs.declared.kind.Kind.{Kind};
-ghost use Rattle.ckc_parser_grammar.specs.Grammar as g;
-ghost use Rattle.ckc_parser_grammar.specs.Grammar.{n};
-ghost use Rattle.ckc_parser_grammar.specs.Trees.{Tree};
-ghost use Rattle.ckc_parser_grammar.specs.Values.{tree};
-ghost use Rattle.ckc_parser_grammar.specs.Derives.{Sign, Derives};
+ghost use Rattle.std.specs.Prelude.{◌≡◌, List, true};
+ghost use Rattle.ckc_syntax.specs.Spelled.{Spelled};
+ghost use Rattle.ckc_syntax.specs.Trees.{Tree};
+ghost use Rattle.ckc_grammar.specs.Text.{DerivesTree};
 ghost use Rattle.ckc_typed_welltyped.specs.Productions.{given_tree};
 
 /// The tree that tokens derive, as the parser makes it, is one that the productions give: a call stands only as a whole call
 /// statement or a whole right side, a call statement is a call, a bundle has 2 or more assignments, a `for` begins with one
 /// declaration or an assignment and its step is an assignment, and a structure has a member.
 pub fn trees_are_given()
-    ensures given { (xs : List Sign) (next : Kind) (whole : Tree) →
-        Derives (n g.text ∷ []) xs next (tree whole ∷ []) → given_tree whole ≡ true }
+    ensures given { (xs : List Spelled) (whole : Tree) → DerivesTree xs whole
+        → given_tree whole ≡ true }
 {}

@@ -6,13 +6,13 @@ use Rattle.ckc_parser_grammar.specs.declared.parts.Stop.{Stop}
 use Rattle.ckc_parser_grammar.specs.declared.parts.Stop.TheVariants as stop
 use Rattle.ckc_syntax.specs.Spelled.{spelled}
 use Rattle.ckc_syntax.specs.declared.tokens.Token.{Token}
-use Rattle.ckc_parser_grammar.specs.Grammar.{Symbol, t, n, k, right}
-use Rattle.ckc_parser_grammar.specs.Grammar as g
-use Rattle.ckc_parser_grammar.specs.Trees.{Decl, Expr, Stmt, TypeTree, stmt_at, starred}
-use Rattle.ckc_parser_grammar.specs.Derives.{Sign}
+use Rattle.ckc_parser_grammar.specs.code.Grammar.{Symbol, t, n, k, right}
+use Rattle.ckc_parser_grammar.specs.code.Grammar as g
+use Rattle.ckc_parser_grammar.specs.code.Trees.{Decl, Expr, Stmt, TypeTree, stmt_at, starred}
+use Rattle.ckc_parser_grammar.specs.code.Derives.{Sign}
 use Rattle.ckc_parser_grammar.specs.code.Reading.{Takes}
 use Rattle.ckc_parser_grammar.specs.code.Marked.{Answered}
-use Rattle.ckc_parser_grammar.specs.Values.{Value, token, place, as_decls, as_expr, as_stars, as_stmt, as_stmts}
+use Rattle.ckc_parser_grammar.specs.code.Values.{Value, token, place, as_decls, as_expr, as_stars, as_stmt, as_stmts}
 
 abbrev pub IsMemory : Stop → Type 0
 IsMemory stop.Memory = Unit {0}

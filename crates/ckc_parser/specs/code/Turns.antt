@@ -1,11 +1,11 @@
 -- One item of a text, which more items follow: what it puts into the list of all items.
 use Rattle.std.specs.Prelude.{◌≡◌, List, [], ◌∷◌, ◌++◌, true, Some}
 use Rattle.ckc_parser_grammar.specs.declared.kind.Kind.{Kind}
-use Rattle.ckc_parser_grammar.specs.Grammar.{Symbol, n, Rule, right, allowed}
-use Rattle.ckc_parser_grammar.specs.Grammar as g
-use Rattle.ckc_parser_grammar.specs.Trees.{Item}
-use Rattle.ckc_parser_grammar.specs.Values.{Value, made, as_items}
-use Rattle.ckc_parser_grammar.specs.Derives.{Sign}
+use Rattle.ckc_parser_grammar.specs.code.Grammar.{Symbol, n, Rule, right, allowed}
+use Rattle.ckc_parser_grammar.specs.code.Grammar as g
+use Rattle.ckc_parser_grammar.specs.code.Trees.{Item}
+use Rattle.ckc_parser_grammar.specs.code.Values.{Value, made, as_items}
+use Rattle.ckc_parser_grammar.specs.code.Derives.{Sign}
 use Rattle.ckc_parser_grammar.specs.code.Reading.{kind_of, pick, Takes}
 
 pub record IsItem (was : List Item) (old : List Sign) (is : List Item) (new : List Sign) : Type 0 where

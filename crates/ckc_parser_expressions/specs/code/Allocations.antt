@@ -1,8 +1,8 @@
 -- The parts of a call of `calloc` with a type.
 use Rattle.std.specs.Prelude.{◌≡◌, List, [], ◌∷◌}
 use Rattle.ckc_parser_grammar.specs.declared.kind.Kind.TheVariants as kind
-use Rattle.ckc_parser_grammar.specs.Grammar.{Symbol, t, n, k, greater, type_name}
-use Rattle.ckc_parser_grammar.specs.Values.{Value}
+use Rattle.ckc_parser_grammar.specs.code.Grammar.{Symbol, t, n, k, greater, type_name}
+use Rattle.ckc_parser_grammar.specs.code.Values.{Value}
 
 -- the type, with `>` and `(`
 abbrev pub allocated_type : List Symbol

@@ -1,19 +1,31 @@
--- What the functions give that read a part of a production which has several forms.
+-- What the functions give that read a part of a production.
 use Rattle.std.specs.Prelude.{◌≡◌, ℕ, List, [], ◌∷◌, Option, Result}
 use Rattle.ckc_parser_grammar.specs.declared.kind.Kind.{Kind}
 use Rattle.ckc_parser_grammar.specs.declared.kind.Kind.TheVariants as kind
-use Rattle.ckc_parser_grammar.specs.Grammar.{Symbol, t, n, k, greater, type_name, expr, bounds_cast, size}
+use Rattle.ckc_parser_grammar.specs.code.Grammar.{Symbol, Part, t, n, k, greater, type_name, expr, bounds_cast, size}
 use Rattle.ckc_base.specs.declared.places.Pos.{Pos}
 use Rattle.ckc_syntax.specs.declared.tree.Node.TheVariants as node
 use Rattle.ckc_syntax.specs.declared.tree.Limits.TheVariants as bounds
-use Rattle.ckc_parser_grammar.specs.Trees.{TypeTree, Expr, Limits, expr_at}
-use Rattle.ckc_parser_grammar.specs.Derives.{Sign}
+use Rattle.ckc_parser_grammar.specs.code.Trees.{TypeTree, Expr, Limits, expr_at}
+use Rattle.ckc_parser_grammar.specs.code.Derives.{Sign}
 use Rattle.ckc_parser_grammar.specs.code.Reading.{Takes}
 use Rattle.ckc_parser_grammar.specs.declared.parts.Stop.{Stop}
 use Rattle.ckc_parser_grammar.specs.code.Marked.{Answered}
-use Rattle.ckc_parser_grammar.specs.Values.{Value, place, type_of, operand_of, limits_of, as_expr, as_size, as_limits_at}
+use Rattle.ckc_parser_grammar.specs.code.Values.{Value, place, type_of, operand_of, limits_of, as_expr, as_size, as_limits_at}
 
--- a type in `<` and `>`, a part in parentheses, and the values of these
+-- Some symbols are taken with values of which the result tells those that count.
+abbrev pub Tells : {X A : Type 0} → List Symbol → (X → A → List Value) → List Sign → Result X Stop → List Sign → Type 0
+Tells {A = A} ss values old r new = Answered (λ x. (a : A) × Takes ss old (values x a) new) ss old r new
+
+-- a part in parentheses
+abbrev pub in_parentheses : Part → List Symbol
+in_parentheses p = k kind.RoundOpen ∷ n p ∷ k kind.RoundClose ∷ []
+
+-- its value between those of the parentheses
+abbrev pub enclosed : Value → Value × Value → List Value
+enclosed x marks = marks.0 ∷ x ∷ marks.1 ∷ []
+
+-- a type in `<` and `>`
 abbrev pub in_angles : List Symbol
 in_angles = k kind.Less ∷ n type_name ∷ t greater ∷ []
 

@@ -1,8 +1,8 @@
 -- What the classes of tokens are in productions.
 use Rattle.ckc_parser_grammar.specs.declared.reader.Class.{Class}
 use Rattle.ckc_parser_grammar.specs.declared.reader.Class.TheVariants as class
-use Rattle.ckc_parser_grammar.specs.Grammar.{Terminal}
-use Rattle.ckc_parser_grammar.specs.Grammar as g
+use Rattle.ckc_parser_grammar.specs.code.Grammar.{Terminal}
+use Rattle.ckc_parser_grammar.specs.code.Grammar as g
 
 abbrev pub terminal : Class → Terminal
 terminal class.Name = g.name

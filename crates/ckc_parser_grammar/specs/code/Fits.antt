@@ -2,8 +2,8 @@
 use Rattle.std.specs.Prelude.{ℕ, Bool, ◌==◌}
 use Rattle.ckc_parser_grammar.specs.declared.kind.Kind.{Kind}
 use Rattle.ckc_parser_grammar.specs.declared.kind.Kind.TheVariants.{End, Name, Calloc, Count, ByteCount, Bounds, Unknown, Number, Character, Text, Directive, Other, Int, Unsigned, Char, Void, Struct, Static, If, Else, While, For, Return, Break, Continue, Sizeof, Null, Eof, Ptr, ArrayPtr, NtArrayPtr, Checked, Unchecked, NtChecked, Bundled, Check, Tested, Trusted, RoundOpen, RoundClose, CurlyOpen, CurlyClose, SquareOpen, SquareClose, Less, Greater, GreaterNext, Comma, Semicolon, Colon, Question, Equals, Dot, Arrow, Plus, Minus, Star, Slash, Percent, Ampersand, Bar, Caret, Tilde, Exclamation, ShiftLeft, LessEquals, GreaterEquals, EqualsEquals, NotEquals, AndAnd, BarBar}
-use Rattle.ckc_parser_grammar.specs.Kinds.{is_sign, is_operator, is_literal}
-use Rattle.ckc_parser_grammar.specs.Grammar.{Terminal, one, name, greater, sign, operator, literal, name_but_calloc, name_but_unknown, is_name, is_name_but_calloc, is_name_but_unknown, is_greater}
+use Rattle.ckc_parser_grammar.specs.code.Kinds.{is_sign, is_operator, is_literal}
+use Rattle.ckc_parser_grammar.specs.code.Grammar.{Terminal, one, name, greater, sign, operator, literal, name_but_calloc, name_but_unknown, is_name, is_name_but_calloc, is_name_but_unknown, is_greater}
 
 -- the number of a kind
 abbrev pub number : Kind → ℕ

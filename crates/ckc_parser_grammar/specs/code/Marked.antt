@@ -7,11 +7,11 @@ use Rattle.ckc_parser_grammar.specs.declared.kind.Kind.TheVariants as kind
 use Rattle.ckc_parser_grammar.specs.declared.parts.Stop.{Stop}
 use Rattle.ckc_parser_grammar.specs.declared.parts.Stop.TheVariants as stop
 use Rattle.ckc_parser_grammar.specs.declared.reader.Reader.{Reader}
-use Rattle.ckc_parser_grammar.specs.Kinds.{kind_of_token}
-use Rattle.ckc_parser_grammar.specs.Grammar.{Symbol, Rule}
-use Rattle.ckc_parser_grammar.specs.Values.{Value, made}
-use Rattle.ckc_parser_grammar.specs.Derives.{Sign}
-use Rattle.ckc_parser_grammar.specs.Signs.{signs_after}
+use Rattle.ckc_parser_grammar.specs.code.Kinds.{kind_of_token}
+use Rattle.ckc_parser_grammar.specs.code.Grammar.{Symbol, Rule}
+use Rattle.ckc_parser_grammar.specs.code.Values.{Value, made}
+use Rattle.ckc_parser_grammar.specs.code.Derives.{Sign}
+use Rattle.ckc_parser_grammar.specs.code.Signs.{signs_after}
 use Rattle.ckc_parser_grammar.specs.code.Reading.{Takes, Stops}
 
 abbrev pub signs_from : Kind → List Spelled → List Sign

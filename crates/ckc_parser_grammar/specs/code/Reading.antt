@@ -3,10 +3,10 @@ use Rattle.std.specs.Prelude.{◌≡◌, List, [], ◌∷◌, true, false, Optio
 use Rattle.ckc_parser_grammar.specs.declared.kind.Kind.{Kind}
 use Rattle.ckc_parser_grammar.specs.declared.kind.Kind.TheVariants as kind
 use Rattle.ckc_parser_grammar.specs.code.Fits.{fits}
-use Rattle.ckc_parser_grammar.specs.Grammar.{Terminal, Part, Symbol, t, n, Rule, right, allowed}
-use Rattle.ckc_parser_grammar.specs.Grammar as g
-use Rattle.ckc_parser_grammar.specs.Values.{Value, token, made}
-use Rattle.ckc_parser_grammar.specs.Derives.{Sign}
+use Rattle.ckc_parser_grammar.specs.code.Grammar.{Terminal, Part, Symbol, t, n, Rule, right, allowed}
+use Rattle.ckc_parser_grammar.specs.code.Grammar as g
+use Rattle.ckc_parser_grammar.specs.code.Values.{Value, token, made}
+use Rattle.ckc_parser_grammar.specs.code.Derives.{Sign}
 
 -- the kind of the next token
 abbrev pub kind_of : List Sign → Kind

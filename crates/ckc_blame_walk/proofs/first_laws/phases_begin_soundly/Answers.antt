@@ -13,6 +13,6 @@ returns c = λ tokens whole named typed p input parsed small resolved types made
       has_types = types;
       has_bounds = subst (λ (q : Typed). bounding.Makes q p) made.1.1 made.2;
     })
-    (c.names_keep_form.ensures.form whole named resolved ∙ c.trees_are_given.ensures.given _ _ whole parsed)
+    (c.names_keep_form.ensures.form whole named resolved ∙ c.trees_are_given.ensures.given tokens.list whole parsed)
     (c.small_stays.ensures.small whole named resolved small)
     (c.judged_texts_are_nested.ensures.nested tokens whole named typed parsed resolved types)

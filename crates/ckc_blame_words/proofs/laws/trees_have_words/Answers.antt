@@ -1,9 +1,5 @@
 use Rattle.ckc_blame_words.proofs.Chain.{parsed_words}
-use Rattle.ckc_blame_words.proofs.Grammar.{tree_words}
 use Rattle.ckc_blame_words.proofs.laws.trees_have_words.Goals as goal
 
 pub returns : goal.returns
-returns c = record {
-  derived = tree_words;
-  parsed = parsed_words;
-}
+returns c = parsed_words

@@ -1,11 +1,11 @@
 use Rattle.std.proofs.Common.{refl, ◌∙◌, ◌∷◌, []}
-use Rattle.ckc_parser_grammar.specs.Values.{made}
+use Rattle.ckc_parser_grammar.specs.code.Values.{made}
 use Rattle.ckc_parser_grammar.proofs.Steps.{also, then_stops, here_stops, by_rule, stop_rule, turned}
 use Rattle.ckc_parser.proofs.Putting.{behind}
 use Rattle.ckc_parser_expressions.proofs.Exits.{exit}
-use Rattle.ckc_parser_grammar.specs.Grammar as g
-use Rattle.ckc_parser_grammar.specs.Values as v
-use Rattle.ckc_parser_grammar.specs.Trees as trees
+use Rattle.ckc_parser_grammar.specs.code.Grammar as g
+use Rattle.ckc_parser_grammar.specs.code.Values as v
+use Rattle.ckc_parser_grammar.specs.code.Trees as trees
 use Rattle.ckc_parser.proofs.declarators.locals.Goals as goal
 
 pub returns-in_err-base-clause-gives : goal.returns-in_err-base-clause-gives

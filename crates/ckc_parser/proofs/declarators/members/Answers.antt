@@ -6,8 +6,8 @@ use Rattle.ckc_parser_grammar.proofs.Steps.{here_stops}
 use Rattle.ckc_parser_grammar.proofs.Shrinks.{fewer}
 use Rattle.ckc_parser.proofs.Putting.{put_start, put_turn, put_stop, put_last}
 use Rattle.ckc_parser_expressions.proofs.Exits.{exit}
-use Rattle.ckc_parser_grammar.specs.Grammar as g
-use Rattle.ckc_parser_grammar.specs.Values as v
+use Rattle.ckc_parser_grammar.specs.code.Grammar as g
+use Rattle.ckc_parser_grammar.specs.code.Values as v
 use Rattle.ckc_parser_grammar.proofs.Choices as o
 use Rattle.ckc_parser.proofs.declarators.members.Goals as goal
 

@@ -1,8 +1,8 @@
 use Rattle.std.proofs.Common.{◌≤◌}
 use Rattle.ckc_parser_grammar.specs.code.Marked.{ahead, remaining}
-use Rattle.ckc_parser_grammar.specs.Grammar as g
-use Rattle.ckc_parser_grammar.specs.Values as v
-use Rattle.ckc_parser_grammar.specs.Trees as trees
+use Rattle.ckc_parser_grammar.specs.code.Grammar as g
+use Rattle.ckc_parser_grammar.specs.code.Values as v
+use Rattle.ckc_parser_grammar.specs.code.Trees as trees
 use Rattle.ckc_parser.proofs.Putting.{Putting}
 use Rattle.ckc_parser.proofs.declarators.more_locals.Given as goal
 

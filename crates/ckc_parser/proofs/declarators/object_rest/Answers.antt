@@ -1,13 +1,13 @@
 use Rattle.std.proofs.Common.{refl, ◌∙◌, ◌∷◌, [], ◌++◌}
 use Rattle.ckc_syntax.specs.Spelled.{spelled}
-use Rattle.ckc_parser_grammar.specs.Values.{made}
+use Rattle.ckc_parser_grammar.specs.code.Values.{made}
 use Rattle.ckc_parser_grammar.proofs.Steps.{also, then_stops, here_stops, by_rule, stop_rule}
 use Rattle.ckc_parser_grammar.proofs.Lists.{same3}
 use Rattle.ckc_parser.proofs.Making.{finished}
 use Rattle.ckc_syntax.specs.declared.tree.Item.TheVariants as item
 use Rattle.ckc_parser_expressions.proofs.Exits.{exit}
-use Rattle.ckc_parser_grammar.specs.Grammar as g
-use Rattle.ckc_parser_grammar.specs.Values as v
+use Rattle.ckc_parser_grammar.specs.code.Grammar as g
+use Rattle.ckc_parser_grammar.specs.code.Values as v
 use Rattle.ckc_parser.proofs.declarators.object_rest.Goals as goal
 
 pub returns-in_err-length : goal.returns-in_err-length

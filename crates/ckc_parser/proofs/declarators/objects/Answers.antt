@@ -1,5 +1,5 @@
 use Rattle.std.proofs.Common.{refl, ap, ◌∷◌, []}
-use Rattle.ckc_parser_grammar.specs.Grammar.{k}
+use Rattle.ckc_parser_grammar.specs.code.Grammar.{k}
 use Rattle.ckc_parser_grammar.specs.code.Marked.{ahead}
 use Rattle.ckc_parser_grammar.specs.code.Reading.{pick, kind_of}
 use Rattle.ckc_parser_grammar.proofs.Steps.{also, then_stops, here_stops}
@@ -8,9 +8,9 @@ use Rattle.ckc_parser_grammar.proofs.Shrinks.{fewer}
 use Rattle.ckc_parser.proofs.Putting.{put_start, put_turn, put_stop, put_end}
 use Rattle.ckc_parser_grammar.specs.declared.kind.Kind.TheVariants as kind
 use Rattle.ckc_parser_expressions.proofs.Exits.{exit}
-use Rattle.ckc_parser_grammar.specs.Grammar as g
-use Rattle.ckc_parser_grammar.specs.Values as v
-use Rattle.ckc_parser_grammar.specs.Trees as trees
+use Rattle.ckc_parser_grammar.specs.code.Grammar as g
+use Rattle.ckc_parser_grammar.specs.code.Values as v
+use Rattle.ckc_parser_grammar.specs.code.Trees as trees
 use Rattle.ckc_syntax.specs.declared.tree.Item.TheVariants as item
 use Rattle.ckc_parser.proofs.declarators.objects.Goals as goal
 

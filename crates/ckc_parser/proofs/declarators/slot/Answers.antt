@@ -1,14 +1,14 @@
 use Rattle.std.proofs.Common.{refl, ◌∙◌, ◌∷◌, [], ◌++◌}
 use Rattle.ckc_syntax.specs.Spelled.{spelled}
-use Rattle.ckc_parser_grammar.specs.Values.{made}
+use Rattle.ckc_parser_grammar.specs.code.Values.{made}
 use Rattle.ckc_parser_grammar.proofs.Steps.{also_all, then_all, here_all, by_rule, stop_rule}
 use Rattle.ckc_parser_grammar.proofs.Lists.{same2}
 use Rattle.ckc_parser.proofs.Making.{finished}
 use Rattle.ckc_syntax.specs.declared.tree.Length.TheVariants as lengths
 use Rattle.ckc_syntax.specs.declared.tree.Init.TheVariants as inits
 use Rattle.ckc_parser_expressions.proofs.Exits.{exit}
-use Rattle.ckc_parser_grammar.specs.Grammar as g
-use Rattle.ckc_parser_grammar.specs.Values as v
+use Rattle.ckc_parser_grammar.specs.code.Grammar as g
+use Rattle.ckc_parser_grammar.specs.code.Values as v
 use Rattle.ckc_parser.proofs.declarators.slot.Goals as goal
 
 pub returns-in_err-named : goal.returns-in_err-named

@@ -1,6 +1,6 @@
 use Rattle.ckc_parser_grammar.specs.code.Marked.{ahead, remaining}
-use Rattle.ckc_parser_grammar.specs.Grammar as g
-use Rattle.ckc_parser_grammar.specs.Values as v
+use Rattle.ckc_parser_grammar.specs.code.Grammar as g
+use Rattle.ckc_parser_grammar.specs.code.Values as v
 use Rattle.ckc_parser.proofs.Putting.{Putting}
 use Rattle.ckc_parser.proofs.declarators.slots.Given as goal
 

@@ -1,7 +1,7 @@
 use Rattle.std.proofs.Common.{◌∷◌, []}
 use Rattle.ckc_parser_grammar.proofs.Steps.{also, then_stops, here_stops, turned}
 use Rattle.ckc_parser_expressions.proofs.Exits.{exit}
-use Rattle.ckc_parser_grammar.specs.Values as v
+use Rattle.ckc_parser_grammar.specs.code.Values as v
 use Rattle.ckc_parser.proofs.items.based.Goals as goal
 
 pub returns-in_err-base : goal.returns-in_err-base

@@ -1,15 +1,15 @@
 use Rattle.std.proofs.Common.{refl, ap, subst, ◌∙◌, ◌∷◌, [], ◌++◌}
 use Rattle.std.specs.Prelude.{Some}
-use Rattle.ckc_parser_grammar.specs.Values.{made}
-use Rattle.ckc_parser_grammar.specs.Grammar.{right}
+use Rattle.ckc_parser_grammar.specs.code.Values.{made}
+use Rattle.ckc_parser_grammar.specs.code.Grammar.{right}
 use Rattle.ckc_parser_grammar.specs.code.Marked.{ahead}
 use Rattle.ckc_parser_grammar.specs.code.Reading.{pick, kind_of, Takes, Stops}
 use Rattle.ckc_parser_grammar.proofs.Steps.{by_rule, stop_rule}
 use Rattle.ckc_parser_expressions.proofs.Exits.{exit}
 use Rattle.ckc_parser.proofs.Making.{finished}
 use Rattle.ckc_parser_grammar.proofs.Defaults.{usual}
-use Rattle.ckc_parser_grammar.specs.Grammar as g
-use Rattle.ckc_parser_grammar.specs.Trees as trees
+use Rattle.ckc_parser_grammar.specs.code.Grammar as g
+use Rattle.ckc_parser_grammar.specs.code.Trees as trees
 use Rattle.ckc_parser.proofs.items.body.Goals as goal
 
 pub returns-then-eats : goal.returns-then-eats

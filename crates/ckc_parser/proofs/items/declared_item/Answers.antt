@@ -3,7 +3,7 @@ use Rattle.ckc_parser_grammar.proofs.Steps.{turned}
 use Rattle.ckc_parser.proofs.Making.{if_taken}
 use Rattle.ckc_parser.proofs.Putting.{behind}
 use Rattle.ckc_parser_grammar.proofs.Shrinks.{fewer}
-use Rattle.ckc_parser_grammar.specs.Values as v
+use Rattle.ckc_parser_grammar.specs.code.Values as v
 use Rattle.ckc_parser.proofs.items.declared_item.Goals as goal
 
 pub returns-clause-reads : goal.returns-clause-reads

@@ -1,10 +1,10 @@
 use Rattle.std.proofs.Common.{refl, sym, ap, ◌∙◌, ◌∷◌, []}
-use Rattle.ckc_parser_grammar.specs.Grammar.{k}
+use Rattle.ckc_parser_grammar.specs.code.Grammar.{k}
 use Rattle.ckc_parser_grammar.specs.code.Marked.{ahead}
 use Rattle.ckc_parser_grammar.specs.code.Reading.{pick, kind_of}
 use Rattle.ckc_parser.proofs.Turns.{item_turn}
 use Rattle.ckc_parser_grammar.specs.declared.kind.Kind.TheVariants as kind
-use Rattle.ckc_parser_grammar.specs.Grammar as g
+use Rattle.ckc_parser_grammar.specs.code.Grammar as g
 use Rattle.ckc_parser_grammar.proofs.Choices as o
 use Rattle.ckc_parser_grammar.proofs.Defaults.{usual}
 use Rattle.ckc_parser.proofs.items.item.Goals as goal

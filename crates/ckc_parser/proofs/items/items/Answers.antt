@@ -1,11 +1,11 @@
 use Rattle.std.proofs.Common.{◌≡◌, refl, sym, ◌∙◌, [], ◌++◌, append-nil}
-use Rattle.ckc_parser_grammar.specs.Grammar.{k}
+use Rattle.ckc_parser_grammar.specs.code.Grammar.{k}
 use Rattle.ckc_parser_grammar.specs.code.Marked.{ahead}
 use Rattle.ckc_parser_grammar.specs.code.Reading.{kind_of, done}
 use Rattle.ckc_parser_expressions.proofs.Exits.{exit}
 use Rattle.ckc_parser_grammar.proofs.Onward.{at_start, one_turn, last_turn}
-use Rattle.ckc_parser_grammar.specs.Grammar as g
-use Rattle.ckc_parser_grammar.specs.Values as v
+use Rattle.ckc_parser_grammar.specs.code.Grammar as g
+use Rattle.ckc_parser_grammar.specs.code.Values as v
 use Rattle.ckc_parser_grammar.proofs.Choices as o
 use Rattle.ckc_parser.proofs.items.items.Goals as goal
 

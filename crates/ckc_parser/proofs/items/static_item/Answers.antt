@@ -5,7 +5,7 @@ use Rattle.ckc_parser_expressions.proofs.Exits.{exit}
 use Rattle.ckc_parser.proofs.Making.{if_taken}
 use Rattle.ckc_parser.proofs.Putting.{behind}
 use Rattle.ckc_parser_grammar.proofs.Shrinks.{fewer}
-use Rattle.ckc_parser_grammar.specs.Values as v
+use Rattle.ckc_parser_grammar.specs.code.Values as v
 use Rattle.ckc_parser.proofs.items.static_item.Goals as goal
 
 pub returns-in_err-word-clause-reads : goal.returns-in_err-word-clause-reads

@@ -1,6 +1,6 @@
 use Rattle.std.proofs.Common.{sym, ap, ◌∙◌, ◌++◌}
 use Rattle.ckc_parser_grammar.proofs.Steps.{turned}
-use Rattle.ckc_parser_grammar.specs.Values as v
+use Rattle.ckc_parser_grammar.specs.code.Values as v
 use Rattle.ckc_parser.proofs.items.structured.Goals as goal
 
 pub returns : goal.returns

@@ -1,8 +1,8 @@
 use Rattle.std.proofs.Common.{◌≡◌, false, not, refl, sym, ap, ◌∙◌, ◌∷◌, [], ◌++◌, arith}
 use Rattle.std.specs.Prelude.{Some}
 use Rattle.ckc_syntax.specs.Spelled.{spelled}
-use Rattle.ckc_parser_grammar.specs.Values.{made}
-use Rattle.ckc_parser_grammar.specs.Grammar.{right}
+use Rattle.ckc_parser_grammar.specs.code.Values.{made}
+use Rattle.ckc_parser_grammar.specs.code.Grammar.{right}
 use Rattle.ckc_parser_grammar.specs.code.Marked.{ahead}
 use Rattle.ckc_parser_grammar.specs.code.Forms.{begins_type}
 use Rattle.ckc_parser_grammar.specs.code.Reading.{pick, kind_of, done}
@@ -16,9 +16,9 @@ use Rattle.ckc_parser_grammar.proofs.Lists.{same2}
 use Rattle.ckc_parser_grammar.specs.declared.kind.Kind.{Kind}
 use Rattle.ckc_parser_grammar.specs.declared.kind.Kind.TheVariants as kind
 use Rattle.ckc_syntax.specs.declared.tree.Act.TheVariants as act
-use Rattle.ckc_parser_grammar.specs.Grammar as g
-use Rattle.ckc_parser_grammar.specs.Values as v
-use Rattle.ckc_parser_grammar.specs.Trees as trees
+use Rattle.ckc_parser_grammar.specs.code.Grammar as g
+use Rattle.ckc_parser_grammar.specs.code.Values as v
+use Rattle.ckc_parser_grammar.specs.code.Trees as trees
 use Rattle.ckc_parser_grammar.proofs.Choices as o
 use Rattle.ckc_parser_grammar.proofs.Defaults.{usual}
 use Rattle.ckc_parser.proofs.statements.+stmt.Goals as goal

@@ -1,7 +1,7 @@
 use Rattle.std.proofs.Common.{◌∷◌, []}
 use Rattle.ckc_parser_grammar.proofs.Steps.{turned, also, then_stops, here_stops}
 use Rattle.ckc_parser_expressions.proofs.Exits.{exit}
-use Rattle.ckc_parser_grammar.specs.Values as v
+use Rattle.ckc_parser_grammar.specs.code.Values as v
 use Rattle.ckc_parser.proofs.statements.assign_stmt.Goals as goal
 
 pub returns-in_err-target-clause-reads : goal.returns-in_err-target-clause-reads

@@ -1,5 +1,5 @@
 use Rattle.std.proofs.Common.{refl, ap, ◌∷◌, [], arith}
-use Rattle.ckc_parser_grammar.specs.Grammar.{right, k}
+use Rattle.ckc_parser_grammar.specs.code.Grammar.{right, k}
 use Rattle.ckc_parser_grammar.specs.code.Marked.{ahead}
 use Rattle.ckc_parser_grammar.specs.code.Reading.{pick, kind_of}
 use Rattle.ckc_parser_grammar.proofs.Steps.{here_all}
@@ -8,8 +8,8 @@ use Rattle.ckc_parser.proofs.Putting.{put_start, put_turn, put_stop, put_last, t
 use Rattle.ckc_parser_grammar.proofs.Defaults.{usual}
 use Rattle.ckc_parser_grammar.proofs.Shrinks.{fewer}
 use Rattle.ckc_parser_grammar.specs.declared.kind.Kind.TheVariants as kind
-use Rattle.ckc_parser_grammar.specs.Grammar as g
-use Rattle.ckc_parser_grammar.specs.Values as v
+use Rattle.ckc_parser_grammar.specs.code.Grammar as g
+use Rattle.ckc_parser_grammar.specs.code.Values as v
 use Rattle.ckc_parser.proofs.statements.assigns.Goals as goal
 
 pub list-init : goal.list-init

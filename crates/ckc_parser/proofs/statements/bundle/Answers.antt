@@ -4,8 +4,8 @@ use Rattle.ckc_parser_grammar.proofs.Steps.{also, then_stops, here_stops}
 use Rattle.ckc_parser_expressions.proofs.Exits.{exit}
 use Rattle.ckc_parser.proofs.Making.{finished}
 use Rattle.ckc_syntax.specs.declared.tree.Act.TheVariants as act
-use Rattle.ckc_parser_grammar.specs.Values as v
-use Rattle.ckc_parser_grammar.specs.Trees as trees
+use Rattle.ckc_parser_grammar.specs.code.Values as v
+use Rattle.ckc_parser_grammar.specs.code.Trees as trees
 use Rattle.ckc_parser.proofs.statements.bundle.Goals as goal
 
 pub returns-in_err-mark-clause-reads : goal.returns-in_err-mark-clause-reads

@@ -3,7 +3,7 @@ use Rattle.ckc_syntax.specs.Spelled.{spelled}
 use Rattle.ckc_parser_grammar.proofs.Steps.{also, also_all, then_stops, then_all, here_stops, here_all, turned}
 use Rattle.ckc_parser_expressions.proofs.Exits.{exit}
 use Rattle.ckc_parser.proofs.Putting.{behind}
-use Rattle.ckc_parser_grammar.specs.Values as v
+use Rattle.ckc_parser_grammar.specs.code.Values as v
 use Rattle.ckc_parser.proofs.statements.bundled.Goals as goal
 
 pub returns-in_err-open-clause-reads : goal.returns-in_err-open-clause-reads

@@ -1,7 +1,7 @@
 use Rattle.ckc_syntax.specs.Spelled.{spelled}
 use Rattle.ckc_parser_expressions.proofs.Exits.{exit}
 use Rattle.ckc_parser.proofs.Making.{no_room}
-use Rattle.ckc_parser_grammar.specs.Values as v
+use Rattle.ckc_parser_grammar.specs.code.Values as v
 use Rattle.ckc_parser.proofs.statements.ended.Goals as goal
 
 pub returns-in_err-whole-clause-gives : goal.returns-in_err-whole-clause-gives

@@ -1,8 +1,8 @@
 use Rattle.std.proofs.Common.{◌≡◌, false, not, refl, sym, ap, ◌∙◌, ◌∷◌, []}
 use Rattle.std.specs.Prelude.{Some}
-use Rattle.ckc_parser_grammar.specs.Values.{made}
+use Rattle.ckc_parser_grammar.specs.code.Values.{made}
 use Rattle.ckc_parser_grammar.specs.code.Forms.{begins_type}
-use Rattle.ckc_parser_grammar.specs.Grammar.{right}
+use Rattle.ckc_parser_grammar.specs.code.Grammar.{right}
 use Rattle.ckc_parser_grammar.specs.code.Marked.{ahead}
 use Rattle.ckc_parser_grammar.specs.code.Reading.{pick, kind_of}
 use Rattle.ckc_parser_grammar.proofs.Steps.{also, then_stops, here_stops, by_rule, stop_rule, turned}
@@ -11,7 +11,7 @@ use Rattle.ckc_parser_expressions.proofs.Exits.{exit}
 use Rattle.ckc_parser.proofs.Putting.{takes_from, stops_from}
 use Rattle.ckc_parser_grammar.specs.declared.kind.Kind.{Kind}
 use Rattle.ckc_parser_grammar.specs.declared.kind.Kind.TheVariants as kind
-use Rattle.ckc_parser_grammar.specs.Grammar as g
+use Rattle.ckc_parser_grammar.specs.code.Grammar as g
 use Rattle.ckc_parser.proofs.statements.for_start.Goals as goal
 
 assigned : (c : Kind) → begins_type c ≡ false → (c ≡ kind.Semicolon → ⊥) → pick g.for_start c ≡ Some g.AssignStart

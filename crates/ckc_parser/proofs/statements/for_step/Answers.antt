@@ -1,14 +1,14 @@
 use Rattle.std.proofs.Common.{refl, ap, ◌∷◌, []}
 use Rattle.std.specs.Prelude.{Some}
-use Rattle.ckc_parser_grammar.specs.Values.{made}
-use Rattle.ckc_parser_grammar.specs.Grammar.{right}
+use Rattle.ckc_parser_grammar.specs.code.Values.{made}
+use Rattle.ckc_parser_grammar.specs.code.Grammar.{right}
 use Rattle.ckc_parser_grammar.specs.code.Marked.{ahead}
 use Rattle.ckc_parser_grammar.specs.code.Reading.{pick, kind_of}
 use Rattle.ckc_parser_grammar.proofs.Steps.{also, then_stops, here_stops, by_rule, stop_rule}
 use Rattle.ckc_parser_expressions.proofs.Exits.{exit}
 use Rattle.ckc_parser.proofs.Putting.{takes_from, stops_from}
 use Rattle.ckc_parser_grammar.proofs.Defaults.{usual}
-use Rattle.ckc_parser_grammar.specs.Grammar as g
+use Rattle.ckc_parser_grammar.specs.code.Grammar as g
 use Rattle.ckc_parser.proofs.statements.for_step.Goals as goal
 
 pub returns-then-eats-clause-gives : goal.returns-then-eats-clause-gives

@@ -1,13 +1,13 @@
 use Rattle.std.proofs.Common.{refl, sym, ap, ◌∙◌, ◌∷◌, []}
 use Rattle.ckc_syntax.specs.Spelled.{spelled}
-use Rattle.ckc_parser_grammar.specs.Values.{made}
+use Rattle.ckc_parser_grammar.specs.code.Values.{made}
 use Rattle.ckc_parser_grammar.specs.code.Marked.{ahead}
 use Rattle.ckc_parser_grammar.specs.code.Reading.{pick, kind_of}
 use Rattle.ckc_parser_grammar.proofs.Steps.{by_rule, stop_rule}
 use Rattle.ckc_parser_expressions.proofs.Exits.{exit}
 use Rattle.ckc_parser_grammar.proofs.Defaults.{usual}
-use Rattle.ckc_parser_grammar.specs.Grammar as g
-use Rattle.ckc_parser_grammar.specs.Values as v
+use Rattle.ckc_parser_grammar.specs.code.Grammar as g
+use Rattle.ckc_parser_grammar.specs.code.Values as v
 use Rattle.ckc_parser.proofs.statements.mode.Goals as goal
 
 pub returns-in_err-mark-clause-gives : goal.returns-in_err-mark-clause-gives

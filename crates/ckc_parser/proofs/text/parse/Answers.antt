@@ -3,16 +3,16 @@ use Rattle.std.specs.Prelude.{Ok, Err}
 use Rattle.ckc_base.specs.declared.fault.Fault.TheVariants as fault
 use Rattle.ckc_base.proofs.Phases.{exact_of}
 use Rattle.ckc_syntax.specs.Spelled.{spelled}
-use Rattle.ckc_parser_grammar.specs.Grammar.{n}
-use Rattle.ckc_parser_grammar.specs.Grammar as g
-use Rattle.ckc_parser_grammar.specs.Trees.{Item}
-use Rattle.ckc_parser_grammar.specs.Values.{Value, tree, as_items}
-use Rattle.ckc_parser_grammar.specs.Derives.{Sign}
+use Rattle.ckc_parser_grammar.specs.code.Grammar.{n}
+use Rattle.ckc_parser_grammar.specs.code.Grammar as g
+use Rattle.ckc_parser_grammar.specs.code.Trees.{Item}
+use Rattle.ckc_parser_grammar.specs.code.Values.{Value, tree, as_items}
+use Rattle.ckc_parser_grammar.specs.code.Derives.{Sign}
 use Rattle.ckc_parser_grammar.specs.code.Reading.{Takes}
 use Rattle.ckc_parser_grammar.specs.code.Marked.{ahead, Halts}
 use Rattle.ckc_parser_grammar.proofs.Steps.{by_rule, stop_rule}
+use Rattle.ckc_parser_grammar.specs.code.Text.{start}
 use Rattle.ckc_parser.specs.Phase.{parsing}
-use Rattle.ckc_parser.specs.Text.{start}
 use Rattle.ckc_parser.proofs.Top.{good_answer, more_answer, stop_answer}
 use Rattle.ckc_parser.proofs.Once.{parsing_exact}
 use Rattle.ckc_parser.proofs.text.parse.Goals as goal
@@ -27,7 +27,7 @@ returns-then-is_at_end c =
     let t = c.in-Ok.ensures.gives in
     record {
       exact = exact_of parsing parsing_exact (record { list = xs; end = c.args.end }) (Ok (record { items = c.items.new.all }))
-          (good_answer (λ x. tree x) xs (record { items = c.items.new.all }) (ahead c.new-reader.result) (ahead c.items.new.reader) c.new-reader.ensures (text_taken c.new-all.result c.items.new.all (ahead c.new-reader.result) (ahead c.items.new.reader) t.0 c.new-all.ensures t.1 t.2) (c.is_at_end.ensures.0 c.if-is_at_end.true));
+          (good_answer xs (record { items = c.items.new.all }) (ahead c.new-reader.result) (ahead c.items.new.reader) c.new-reader.ensures (text_taken c.new-all.result c.items.new.all (ahead c.new-reader.result) (ahead c.items.new.reader) t.0 c.new-all.ensures t.1 t.2) (c.is_at_end.ensures.0 c.if-is_at_end.true));
     }
 
 pub returns-in-Err-Syntax : goal.returns-in-Err-Syntax
@@ -51,7 +51,7 @@ returns-in-Ok c =
     record {
       exact = exact_of parsing parsing_exact (record { list = xs; end = c.args.end }) (Err (fault.Refused r)) (
         c.refusal.ensures.code,
-        more_answer xs c.args.end (λ x. tree x) (record { items = c.items.new.all }) (ahead c.new-reader.result) (ahead c.items.new.reader) r.pos c.new-reader.ensures (text_taken c.new-all.result c.items.new.all (ahead c.new-reader.result) (ahead c.items.new.reader) t.0 c.new-all.ensures t.1 t.2)
+        more_answer xs c.args.end (record { items = c.items.new.all }) (ahead c.new-reader.result) (ahead c.items.new.reader) r.pos c.new-reader.ensures (text_taken c.new-all.result c.items.new.all (ahead c.new-reader.result) (ahead c.items.new.reader) t.0 c.new-all.ensures t.1 t.2)
             (λ h. clash_at_end c.is_at_end.result (c.is_at_end.ensures.1 h) c.if-is_at_end.false) c.refusal.ensures.pos,
       );
     }

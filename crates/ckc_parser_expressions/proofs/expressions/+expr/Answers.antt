@@ -1,20 +1,20 @@
 use Rattle.std.proofs.Common.{◌≡◌, ◌∷◌, ◌∙◌, ◌++◌, [], refl, sym, ap, arith, subst}
 use Rattle.ckc_syntax.specs.Spelled.{spelled}
 use Rattle.ckc_syntax.specs.declared.tree.Node.TheVariants as node
-use Rattle.ckc_parser_grammar.specs.Grammar.{k}
-use Rattle.ckc_parser_grammar.specs.Grammar as g
-use Rattle.ckc_parser_grammar.specs.Kinds.{is_sign, sign_op}
+use Rattle.ckc_parser_grammar.specs.code.Grammar.{k}
+use Rattle.ckc_parser_grammar.specs.code.Grammar as g
+use Rattle.ckc_parser_grammar.specs.code.Kinds.{is_sign, sign_op}
 use Rattle.ckc_parser_grammar.specs.code.Reading.{kind_of, pick, done, Takes}
-use Rattle.ckc_parser_grammar.specs.Trees.{expr_at, stmt_at}
-use Rattle.ckc_parser_grammar.specs.Trees as trees
-use Rattle.ckc_parser_grammar.specs.Values.{Value, made}
-use Rattle.ckc_parser_grammar.specs.Values as v
+use Rattle.ckc_parser_grammar.specs.code.Trees.{expr_at, stmt_at}
+use Rattle.ckc_parser_grammar.specs.code.Trees as trees
+use Rattle.ckc_parser_grammar.specs.code.Values.{Value, made}
+use Rattle.ckc_parser_grammar.specs.code.Values as v
 use Rattle.ckc_parser_grammar.specs.code.Marked.{ahead}
 use Rattle.ckc_parser_grammar.proofs.Steps.{also, also_all, then_stops, then_all, here_stops, here_all, by_rule, stop_rule, no_rule, turned, chosen, chosen_as}
 use Rattle.ckc_parser_expressions.proofs.Exits.{exit}
 use Rattle.ckc_parser_grammar.proofs.Onward.{at_start, one_turn, last_turn, stop_turn}
 use Rattle.std.proofs.Common.{append_assoc, append-nil}
-use Rattle.ckc_parser_grammar.specs.Grammar.{is_name}
+use Rattle.ckc_parser_grammar.specs.code.Grammar.{is_name}
 use Rattle.ckc_parser_grammar.specs.code.Forms.{begins_step, begins_type, begins_post}
 use Rattle.ckc_parser_expressions.proofs.Postfix.{posted_one}
 use Rattle.ckc_parser_grammar.proofs.Defaults.{usual}

@@ -1,6 +1,6 @@
 use Rattle.std.proofs.Common.{◌∷◌, [], refl}
 use Rattle.ckc_syntax.specs.Spelled.{spelled}
-use Rattle.ckc_parser_grammar.specs.Values as v
+use Rattle.ckc_parser_grammar.specs.code.Values as v
 use Rattle.ckc_parser_grammar.specs.code.Marked.{ahead}
 use Rattle.ckc_parser_grammar.proofs.Steps.{also_all, then_all, here_all}
 use Rattle.ckc_parser_expressions.proofs.Exits.{exit}

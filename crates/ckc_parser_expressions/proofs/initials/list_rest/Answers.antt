@@ -1,6 +1,6 @@
 use Rattle.std.proofs.Common.{◌≡◌, refl, sym, ap, ◌∙◌, ◌∷◌, [], ◌++◌, arith, append-nil}
 use Rattle.ckc_syntax.specs.Spelled.{spelled}
-use Rattle.ckc_parser_grammar.specs.Grammar.{k}
+use Rattle.ckc_parser_grammar.specs.code.Grammar.{k}
 use Rattle.ckc_parser_grammar.specs.code.Marked.{ahead}
 use Rattle.ckc_parser_grammar.specs.code.Reading.{pick, kind_of}
 use Rattle.ckc_parser_grammar.proofs.Steps.{also, then_stops, here_stops, by_rule, stop_rule}
@@ -9,8 +9,8 @@ use Rattle.ckc_parser_grammar.proofs.Shrinks.{fewer}
 use Rattle.ckc_parser_grammar.proofs.Onward.{at_start, last_turn, stop_turn}
 use Rattle.ckc_parser_grammar.proofs.Lists.{next_item, two_turns}
 use Rattle.ckc_parser_grammar.specs.declared.kind.Kind.TheVariants as kind
-use Rattle.ckc_parser_grammar.specs.Grammar as g
-use Rattle.ckc_parser_grammar.specs.Values as v
+use Rattle.ckc_parser_grammar.specs.code.Grammar as g
+use Rattle.ckc_parser_grammar.specs.code.Values as v
 use Rattle.ckc_parser_grammar.proofs.Defaults.{usual}
 use Rattle.ckc_parser_expressions.proofs.initials.list_rest.Goals as goal
 

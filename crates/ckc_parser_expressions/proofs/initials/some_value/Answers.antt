@@ -4,7 +4,7 @@ use Rattle.ckc_parser_grammar.specs.code.Marked.{ahead}
 use Rattle.ckc_parser_grammar.proofs.Steps.{also, then_stops, here_stops}
 use Rattle.ckc_parser_expressions.proofs.Exits.{exit}
 use Rattle.ckc_syntax.specs.declared.tree.Init.TheVariants as inits
-use Rattle.ckc_parser_grammar.specs.Values as v
+use Rattle.ckc_parser_grammar.specs.code.Values as v
 use Rattle.ckc_parser_expressions.proofs.initials.some_value.Goals as goal
 
 pub returns-in_err-equals-clause-reads : goal.returns-in_err-equals-clause-reads

@@ -1,12 +1,12 @@
 use Rattle.std.proofs.Common.{◌∙◌, refl, sym, ap}
-use Rattle.ckc_parser_grammar.specs.Grammar.{k}
-use Rattle.ckc_parser_grammar.specs.Grammar as g
+use Rattle.ckc_parser_grammar.specs.code.Grammar.{k}
+use Rattle.ckc_parser_grammar.specs.code.Grammar as g
 use Rattle.ckc_parser_grammar.specs.code.Reading.{kind_of}
-use Rattle.ckc_parser_grammar.specs.Values.{Value, made}
-use Rattle.ckc_parser_grammar.specs.Values as v
+use Rattle.ckc_parser_grammar.specs.code.Values.{Value, made}
+use Rattle.ckc_parser_grammar.specs.code.Values as v
 use Rattle.ckc_parser_grammar.specs.code.Marked.{ahead}
 use Rattle.ckc_parser_grammar.proofs.Steps.{chosen}
-use Rattle.ckc_parser_grammar.specs.Grammar.{is_greater}
+use Rattle.ckc_parser_grammar.specs.code.Grammar.{is_greater}
 use Rattle.ckc_parser_grammar.proofs.Others.{greater_operation, plain_operation}
 use Rattle.ckc_parser_expressions.proofs.operations.operation_but_less.Goals as goal
 

@@ -1,8 +1,8 @@
 use Rattle.std.proofs.Common.{◌∷◌, ◌∙◌, [], sym, ap}
 use Rattle.ckc_syntax.specs.Spelled.{spelled}
-use Rattle.ckc_parser_grammar.specs.Kinds.{binary_op}
-use Rattle.ckc_parser_grammar.specs.Values.{Value, made}
-use Rattle.ckc_parser_grammar.specs.Values as v
+use Rattle.ckc_parser_grammar.specs.code.Kinds.{binary_op}
+use Rattle.ckc_parser_grammar.specs.code.Values.{Value, made}
+use Rattle.ckc_parser_grammar.specs.code.Values as v
 use Rattle.ckc_parser_grammar.specs.code.Marked.{ahead}
 use Rattle.ckc_parser_expressions.proofs.Exits.{exit}
 use Rattle.ckc_parser_expressions.proofs.operations.plain_operation.Goals as goal

@@ -1,10 +1,10 @@
 use Rattle.std.proofs.Common.{◌∷◌, ◌∙◌, [], refl, sym, ap}
 use Rattle.ckc_syntax.specs.Spelled.{spelled}
-use Rattle.ckc_parser_grammar.specs.Grammar.{k}
-use Rattle.ckc_parser_grammar.specs.Grammar as g
+use Rattle.ckc_parser_grammar.specs.code.Grammar.{k}
+use Rattle.ckc_parser_grammar.specs.code.Grammar as g
 use Rattle.ckc_parser_grammar.specs.code.Reading.{kind_of, pick}
-use Rattle.ckc_parser_grammar.specs.Values.{Value, made}
-use Rattle.ckc_parser_grammar.specs.Values as v
+use Rattle.ckc_parser_grammar.specs.code.Values.{Value, made}
+use Rattle.ckc_parser_grammar.specs.code.Values as v
 use Rattle.ckc_parser_grammar.specs.code.Marked.{ahead}
 use Rattle.ckc_parser_grammar.proofs.Steps.{also, then_stops, here_stops, by_rule, stop_rule, no_rule, turned, chosen}
 use Rattle.ckc_parser_expressions.proofs.Exits.{exit}

@@ -1,11 +1,11 @@
 use Rattle.std.proofs.Common.{◌≡◌, ◌∷◌, ◌∙◌, [], refl, sym, ap, arith}
 use Rattle.ckc_syntax.specs.Spelled.{spelled}
 use Rattle.ckc_parser_grammar.specs.declared.kind.Kind.TheVariants as kind
-use Rattle.ckc_parser_grammar.specs.Grammar.{k}
-use Rattle.ckc_parser_grammar.specs.Grammar as g
+use Rattle.ckc_parser_grammar.specs.code.Grammar.{k}
+use Rattle.ckc_parser_grammar.specs.code.Grammar as g
 use Rattle.ckc_parser_grammar.specs.code.Reading.{kind_of, pick, done}
-use Rattle.ckc_parser_grammar.specs.Trees.{starred}
-use Rattle.ckc_parser_grammar.specs.Values.{token, as_stars}
+use Rattle.ckc_parser_grammar.specs.code.Trees.{starred}
+use Rattle.ckc_parser_grammar.specs.code.Values.{token, as_stars}
 use Rattle.ckc_parser_grammar.specs.code.Marked.{ahead}
 use Rattle.ckc_parser_grammar.proofs.Onward.{one_turn, last_turn}
 use Rattle.ckc_parser_grammar.proofs.Defaults.{usual}

@@ -1,8 +1,8 @@
 use Rattle.std.proofs.Common.{◌≡◌, ◌≤◌, length}
-use Rattle.ckc_parser_grammar.specs.Grammar.{n}
-use Rattle.ckc_parser_grammar.specs.Grammar as g
-use Rattle.ckc_parser_grammar.specs.Trees.{starred}
-use Rattle.ckc_parser_grammar.specs.Values.{as_stars}
+use Rattle.ckc_parser_grammar.specs.code.Grammar.{n}
+use Rattle.ckc_parser_grammar.specs.code.Grammar as g
+use Rattle.ckc_parser_grammar.specs.code.Trees.{starred}
+use Rattle.ckc_parser_grammar.specs.code.Values.{as_stars}
 use Rattle.ckc_parser_grammar.specs.code.Marked.{ahead, remaining}
 use Rattle.ckc_parser_grammar.proofs.Onward.{Onward}
 use Rattle.ckc_parser_expressions.proofs.types.starred.Given as goal

@@ -1,13 +1,13 @@
 use Rattle.std.proofs.Common.{◌≡◌, not, refl, sym, ap, ◌∙◌, ◌∷◌, []}
 use Rattle.ckc_syntax.specs.Spelled.{spelled}
-use Rattle.ckc_parser_grammar.specs.Values.{made}
+use Rattle.ckc_parser_grammar.specs.code.Values.{made}
 use Rattle.ckc_parser_grammar.specs.code.Forms.{begins_type}
 use Rattle.ckc_parser_grammar.specs.code.Marked.{ahead}
 use Rattle.ckc_parser_grammar.specs.code.Reading.{pick, kind_of}
 use Rattle.ckc_parser_grammar.proofs.Steps.{chosen_as, turned}
 use Rattle.ckc_parser_grammar.proofs.Decided.{chooses}
-use Rattle.ckc_parser_grammar.specs.Grammar as g
-use Rattle.ckc_parser_grammar.specs.Values as v
+use Rattle.ckc_parser_grammar.specs.code.Grammar as g
+use Rattle.ckc_parser_grammar.specs.code.Values as v
 use Rattle.ckc_parser_expressions.proofs.values.behind_less.Goals as goal
 
 pub returns-then-begins_type-clause-gives : goal.returns-then-begins_type-clause-gives

@@ -3,7 +3,7 @@ use Rattle.ckc_syntax.specs.Spelled.{spelled}
 use Rattle.ckc_parser_grammar.specs.code.Marked.{ahead}
 use Rattle.ckc_parser_grammar.proofs.Steps.{also, then_stops, here_stops}
 use Rattle.ckc_parser_expressions.proofs.Exits.{exit}
-use Rattle.ckc_parser_grammar.specs.Values as v
+use Rattle.ckc_parser_grammar.specs.code.Values as v
 use Rattle.ckc_parser_expressions.proofs.values.call_value.Goals as goal
 
 pub returns-in_err-open-clause-reads : goal.returns-in_err-open-clause-reads

@@ -2,8 +2,8 @@ use Rattle.std.proofs.Common.{◌≤◌, length}
 use Rattle.std.proofs.Common.{◌≡◌, ◌∷◌, [], ◌++◌}
 use Rattle.ckc_parser_grammar.specs.code.Marked.{ahead, remaining}
 use Rattle.ckc_parser_grammar.proofs.Onward.{Onward}
-use Rattle.ckc_parser_grammar.specs.Grammar as g
-use Rattle.ckc_parser_grammar.specs.Values as v
+use Rattle.ckc_parser_grammar.specs.code.Grammar as g
+use Rattle.ckc_parser_grammar.specs.code.Values as v
 use Rattle.ckc_parser_expressions.proofs.values.more_arguments.Given as goal
 
 abbrev pub invariant-list : goal.invariant-list

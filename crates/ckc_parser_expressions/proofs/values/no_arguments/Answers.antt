@@ -2,7 +2,7 @@ use Rattle.std.proofs.Common.{sym, ◌∷◌, []}
 use Rattle.ckc_syntax.specs.Spelled.{spelled}
 use Rattle.ckc_parser_grammar.specs.code.Marked.{ahead}
 use Rattle.ckc_parser_expressions.proofs.Exits.{exit}
-use Rattle.ckc_parser_grammar.specs.Values as v
+use Rattle.ckc_parser_grammar.specs.code.Values as v
 use Rattle.ckc_parser_expressions.proofs.values.no_arguments.Goals as goal
 
 pub returns-in_err-close-clause-reads : goal.returns-in_err-close-clause-reads

@@ -2,7 +2,7 @@ use Rattle.std.proofs.Common.{sym, ap, ◌∙◌, ◌∷◌, [], ◌++◌}
 use Rattle.ckc_parser_grammar.specs.code.Marked.{ahead}
 use Rattle.ckc_parser_grammar.proofs.Steps.{also, then_stops, here_stops}
 use Rattle.ckc_parser_expressions.proofs.Exits.{exit}
-use Rattle.ckc_parser_grammar.specs.Values as v
+use Rattle.ckc_parser_grammar.specs.code.Values as v
 use Rattle.ckc_parser_expressions.proofs.values.other_value.Goals as goal
 
 pub returns-in_err-operand-clause-reads : goal.returns-in_err-operand-clause-reads

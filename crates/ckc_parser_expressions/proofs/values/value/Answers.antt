@@ -1,13 +1,13 @@
 use Rattle.std.proofs.Common.{◌≡◌, [], ◌∷◌, not, refl, sym, ap, ◌∙◌}
-use Rattle.ckc_parser_grammar.specs.Values.{made}
-use Rattle.ckc_parser_grammar.specs.Grammar.{is_name}
+use Rattle.ckc_parser_grammar.specs.code.Values.{made}
+use Rattle.ckc_parser_grammar.specs.code.Grammar.{is_name}
 use Rattle.ckc_parser_grammar.specs.code.Marked.{ahead}
 use Rattle.ckc_parser_grammar.specs.code.Reading.{pick, kind_of}
 use Rattle.ckc_parser_grammar.proofs.Steps.{chosen_as}
 use Rattle.ckc_parser_grammar.proofs.Decided.{chooses, remains}
 use Rattle.ckc_parser_grammar.specs.declared.kind.Kind.TheVariants as kind
-use Rattle.ckc_parser_grammar.specs.Grammar as g
-use Rattle.ckc_parser_grammar.specs.Values as v
+use Rattle.ckc_parser_grammar.specs.code.Grammar as g
+use Rattle.ckc_parser_grammar.specs.code.Values as v
 use Rattle.ckc_parser_expressions.proofs.values.value.Goals as goal
 
 pub returns-in-Calloc-clause-gives : goal.returns-in-Calloc-clause-gives

@@ -1,7 +1,5 @@
 use Rattle.std.proofs.Common.{◌∷◌, ◌∙◌, sym, ap}
-use Rattle.ckc_parser_grammar.specs.declared.parts.Step.{Step}
-use Rattle.ckc_parser_grammar.specs.Trees.{level}
-use Rattle.ckc_parser_grammar.specs.code.Trees.{attached}
+use Rattle.ckc_parser_grammar.specs.code.Trees.{Step, attached, level}
 use Rattle.ckc_parser_grammar.proofs.Joining.{attach_last, is_level, same_step}
 use Rattle.ckc_parser_grammar.proofs.join.join_last.Goals as goal
 

@@ -1,5 +1,5 @@
 use Rattle.std.proofs.Common.{◌-◌, ◌∙◌, sym, ap, arith}
-use Rattle.ckc_parser_grammar.specs.Trees.{joined_to}
+use Rattle.ckc_parser_grammar.specs.code.Trees.{joined_to}
 use Rattle.ckc_parser_grammar.proofs.Joining.{pass_one, all_passes}
 use Rattle.ckc_parser_grammar.proofs.join.joined.Goals as goal
 

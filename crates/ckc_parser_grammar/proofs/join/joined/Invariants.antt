@@ -1,5 +1,5 @@
 use Rattle.std.proofs.Common.{◌≡◌}
-use Rattle.ckc_parser_grammar.specs.Trees.{joined_to}
+use Rattle.ckc_parser_grammar.specs.code.Trees.{joined_to}
 use Rattle.ckc_parser_grammar.proofs.join.joined.Given as goal
 
 -- the passes that are left give what all passes give

@@ -1,7 +1,5 @@
 use Rattle.std.proofs.Common.{◌≡◌, ◌∷◌, ◌∙◌, [], sym, ap, length, List, refl}
-use Rattle.ckc_parser_grammar.specs.declared.parts.Step.{Step}
-use Rattle.ckc_parser_grammar.specs.Trees.{level, joined_at}
-use Rattle.ckc_parser_grammar.specs.code.Trees.{attached}
+use Rattle.ckc_parser_grammar.specs.code.Trees.{Step, attached, level, joined_at}
 use Rattle.ckc_parser_grammar.proofs.Joining.{attach_push, attach_end, not_level}
 use Rattle.ckc_parser_grammar.proofs.join.joined_at.Goals as goal
 

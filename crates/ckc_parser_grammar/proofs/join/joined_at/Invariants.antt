@@ -1,6 +1,5 @@
 use Rattle.std.proofs.Common.{◌≡◌}
-use Rattle.ckc_parser_grammar.specs.Trees.{joined_at}
-use Rattle.ckc_parser_grammar.specs.code.Trees.{attached}
+use Rattle.ckc_parser_grammar.specs.code.Trees.{attached, joined_at}
 use Rattle.ckc_parser_grammar.proofs.join.joined_at.Given as goal
 
 -- the steps that are left go on with what is joined so far

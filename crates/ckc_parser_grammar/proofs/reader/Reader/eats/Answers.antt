@@ -2,7 +2,7 @@ use Rattle.std.proofs.Common.{sym, ◌∙◌, rules}
 use denote.Enum.Bare.{differs_false}
 use Rattle.ckc_parser_grammar.specs.contracts.kind.Kind.{the_type}
 use Rattle.ckc_syntax.specs.Spelled.{spelled}
-use Rattle.ckc_parser_grammar.specs.Values.{token}
+use Rattle.ckc_parser_grammar.specs.code.Values.{token}
 use Rattle.ckc_parser_grammar.specs.code.Marked.{ahead}
 use Rattle.ckc_parser_grammar.proofs.Steps.{took_one}
 use Rattle.ckc_parser_grammar.proofs.reader.Reader.eats.Goals as goal

@@ -2,7 +2,7 @@
 use Rattle.std.specs.Prelude.{◌≡◌, List, [], ◌∷◌, Bool, true, false}
 use Rattle.ckc_parser_grammar.specs.declared.kind.Kind.{Kind}
 use Rattle.ckc_parser_grammar.specs.declared.kind.Kind.TheVariants as kind
-use Rattle.ckc_parser_grammar.specs.Kinds.{is_sign, is_operator, is_literal}
+use Rattle.ckc_parser_grammar.specs.code.Kinds.{is_sign, is_operator, is_literal}
 
 -- What one token is: of one kind; a name, also one that has a meaning in some places; a `>`; a sign before an
 -- operand; a binary operator but `<` and `>`; a number or character; a name but `calloc`, or but `unknown`.

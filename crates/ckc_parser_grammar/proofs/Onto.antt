@@ -15,59 +15,30 @@ use Rattle.ckc_syntax.specs.declared.tree.TreeOp.TheVariants as op
 use Rattle.ckc_syntax.specs.declared.tree.Node.TheVariants as node
 use Rattle.ckc_parser_grammar.specs.declared.kind.Kind.{Kind}
 use Rattle.ckc_parser_grammar.specs.declared.kind.Kind.TheVariants as k
-use Rattle.ckc_parser_grammar.specs.declared.parts.Step as table
 use Rattle.ckc_parser_grammar.specs.declared.parts.Arms.{Arms}
 use Rattle.ckc_parser_grammar.specs.declared.parts.Post.{Post}
-use Rattle.ckc_parser_grammar.specs.Kinds.{kind_of_token, is_sign, is_operator, is_literal, sign_op, binary_op}
-use Rattle.ckc_parser_grammar.specs.Grammar.{Rule, Fits, left, right, allowed, not_else, is_name, is_greater}
-use Rattle.ckc_parser_grammar.specs.Grammar as g
-use Rattle.ckc_parser_grammar.specs.Signs.{signs, signs_after, kind_after, adjacent, glued, is_plain_greater}
-use Rattle.ckc_parser_grammar.specs.Derives.{Sign, before, Derives}
-use Rattle.ckc_parser_grammar.specs.Derives as D
-use Rattle.ckc_parser_grammar.specs.Trees as T
-use Rattle.ckc_parser_grammar.specs.Values as v
-use Rattle.ckc_parser_grammar.specs.Values.{Value, made, called, whole, as_items, as_items_of_name, as_items_of_base, as_items_of_declarator, as_item_of_head, as_decl, as_decls, as_decl_of_base, as_decls_of_base, as_decl_of_name, as_length, as_size, as_init, as_mode, as_type, as_stars, as_limits, as_declared_limits, as_limits_at, as_limits_of_unknown, as_expr, as_exprs, as_value, as_expr_behind, as_expr_of_name, as_expr_of_less, as_arms, as_next, as_steps, as_post, as_posts, as_stmt, as_part, as_stmts, as_stmt_of_name, as_op, type_of, operand_of, limits_of, place}
+use Rattle.ckc_parser_grammar.specs.code.Kinds.{kind_of_token, is_sign, is_operator, is_literal, sign_op, binary_op}
+use Rattle.ckc_parser_grammar.specs.code.Grammar.{Rule, Fits, left, right, allowed, not_else, is_name, is_greater}
+use Rattle.ckc_parser_grammar.specs.code.Grammar as g
+use Rattle.ckc_parser_grammar.specs.code.Signs.{signs, signs_after, kind_after, adjacent, glued, is_plain_greater}
+use Rattle.ckc_parser_grammar.specs.code.Derives.{Sign, before, Derives}
+use Rattle.ckc_parser_grammar.specs.code.Derives as D
+use Rattle.ckc_parser_grammar.specs.code.Trees as T
+use Rattle.ckc_parser_grammar.specs.code.Values as v
+use Rattle.ckc_parser_grammar.specs.code.Values.{Value, made, called, whole, as_items, as_items_of_name, as_items_of_base, as_items_of_declarator, as_item_of_head, as_decl, as_decls, as_decl_of_base, as_decls_of_base, as_decl_of_name, as_length, as_size, as_init, as_mode, as_type, as_stars, as_limits, as_declared_limits, as_limits_at, as_limits_of_unknown, as_expr, as_exprs, as_value, as_expr_behind, as_expr_of_name, as_expr_of_less, as_arms, as_next, as_steps, as_post, as_posts, as_stmt, as_part, as_stmts, as_stmt_of_name, as_op, type_of, operand_of, limits_of, place}
 use Rattle.ckc_grammar.specs.Trees as L
-use Rattle.ckc_grammar.specs.Trees.{Item, Head, TypeTree, Decl, Init, Limits, Expr, Stmt, Step, starred, expr_at}
+use Rattle.ckc_grammar.specs.Trees.{Item, Head, TypeTree, Decl, Init, Limits, Expr, Stmt, starred, expr_at}
+use Rattle.ckc_grammar.specs.declared.chain.Step.{Step}
 use Rattle.ckc_grammar.specs.Makers.{flat, given, applied, mode_of, length_of, init_of, initial_of, directive_of, head_of, function_of, declared}
 use Rattle.ckc_grammar.specs.Productions as l
 use Rattle.ckc_grammar.specs.Productions.{Terminal, Symbol, n, Makes, key, sign, sign_at, name, keyword, mark, word, any_name, opt, many, commas, after, range}
 use Rattle.ckc_grammar.specs.Derivation.{Word, is_mark, fits, before_else, adjoins, words_after, words}
 use Rattle.ckc_grammar.specs.Text.{DerivesText, DerivesTree}
-use Rattle.ckc_parser_agrees.proofs.Tokens.{sign_of, reads, read_as, name_read, word_name, mark_kind, greater_read, else_agrees}
-use Rattle.ckc_parser_agrees.proofs.Pieces.{comma, is_else, Seq, Has, Is, end, done, tok, sole, part_at, part, last_at, last, only, by, cut, moved, named, nothing, something, no_more, one_more, one_more_at, after_token, comma_list, comma_list_at, Closed, closed, closed_cons, with_last, with_more}
+use Rattle.ckc_parser_grammar.proofs.Tokens.{sign_of, reads, read_as, name_read, word_name, mark_kind, greater_read, else_agrees}
+use Rattle.ckc_parser_grammar.proofs.Pieces.{comma, is_else, Seq, Has, Is, end, done, tok, sole, part_at, part, last_at, last, only, by, cut, moved, named, nothing, something, no_more, one_more, one_more_at, after_token, comma_list, comma_list_at, Closed, closed, closed_cons, with_last, with_more}
 
--- the table's chains of operators are the grammar's
-abbrev pub changed : List table.Step → List Step
-changed [] = []
-changed (s ∷ ss) = record { op = s.op; pos = s.pos; operand = s.operand } ∷ changed ss
-
-abbrev both : Expr × List table.Step → Expr × List Step
-both c = (c.0, changed c.1)
-
-branch_same : (b : Bool) (x y : Expr × List Step) (p q : Expr × List table.Step) → x ≡ both p → y ≡ both q → (if b then x else y) ≡ both (if b then p else q)
-branch_same true x y p q i j = i
-branch_same false x y p q i j = j
-
-at_same : (m : ℕ) (e : Expr) (ss : List table.Step) → L.joined_at m e (changed ss) ≡ both (T.joined_at m e ss)
-at_same m e [] = refl
-at_same m e (s ∷ ss) =
-    branch_same (L.level s.op == m) _ _
-    (T.joined_at m (expr_at (node.Bin s.op e s.operand) s.pos) ss) (e, let rest = T.joined_at m s.operand ss in record { op = s.op; pos = s.pos; operand = rest.0 } ∷ rest.1)
-    (at_same m (expr_at (node.Bin s.op e s.operand) s.pos) ss)
-    (ap (λ (c : Expr × List Step). (e, record { op = s.op; pos = s.pos; operand = c.0 } ∷ c.1)) (at_same m s.operand ss))
-
-to_same : (m : ℕ) (c : Expr × List table.Step) → L.joined_to m (both c) ≡ both (T.joined_to m c)
-unfolding L.joined_to T.joined_to
-to_same zero c = refl
-to_same (suc m) c = ap (λ z. L.joined_to m z) (at_same (suc m) c.0 c.1) ∙ to_same m (T.joined_at (suc m) c.0 c.1)
-
-pub joined_same : (e : Expr) (ss : List table.Step) → L.joined e (changed ss) ≡ T.joined e ss
-unfolding L.joined T.joined
-joined_same e ss = ap (λ (c : Expr × List Step). c.0) (to_same 10 (e, ss))
-
-join_none : (e : Expr) → T.joined e [] ≡ e
-unfolding T.joined T.joined_to
+pub join_none : (e : Expr) → L.joined e [] ≡ e
+unfolding L.joined L.joined_to
 join_none e = refl
 
 -- a token of a kind
@@ -87,8 +58,8 @@ ArmsTail ws (Some a) = (e : Bool) (f : Makes (sign_at "?" ∷ n l.expr ∷ sign 
     Seq (sign_at "?" ∷ n l.expr ∷ sign ":" ∷ n l.expr ∷ []) ws e Expr f (f a.pos a.yes a.no)
 
 -- what stands after an expression: operators with their operands, and arms
-abbrev ExprTail : List Word → List table.Step → Option Arms → Type 0
-ExprTail ws ss c = (xs : List Word) × (ys : List Word) × (xs ++ ys ≡ ws) × Is (many l.step) xs (changed ss) × ArmsTail ys c
+abbrev ExprTail : List Word → List Step → Option Arms → Type 0
+ExprTail ws ss c = (xs : List Word) × (ys : List Word) × (xs ++ ys ≡ ws) × Is (many l.step) xs ss × ArmsTail ys c
 
 -- a bounds cast after its keyword
 abbrev CastTail : List Symbol
@@ -188,7 +159,7 @@ Means g.assigns ws e x = Closed (many l.change) (mark (codes "}")) ws (as_stmts 
 Means g.expr ws e x = Is l.expr ws (as_expr x)
 Means g.expr_rest ws e x = ExprTail ws (as_steps x) (as_arms x)
 Means g.choice ws e x = ArmsTail ws (as_arms x)
-Means g.tail ws e x = Is (many l.step) ws (changed (as_steps x))
+Means g.tail ws e x = Is (many l.step) ws (as_steps x)
 Means g.operation ws e x = Is l.operator ws (as_op x, place x)
 Means g.operation_but_less ws e x = Is l.operator ws (as_op x, place x)
 Means g.second ws e x = (a : Word) → fits (mark (codes ">")) a ≡ true → Is l.operator (a ∷ ws) ((if as_next x then op.Shr else op.Gt), a.token.pos)
@@ -237,14 +208,14 @@ postfix_at {us} {ws} {zs} {x} ps h i k e = by (inr (inr (inr (inr (inr (inr (inr
     postfix : Is l.postfix zs (T.posted x ps)
     postfix d = by (inl tt) (part h (only i.1 (i.2 x)) k)
 
-binary_at : {us xs : List Word} {x : Expr} (ss : List table.Step) → Is l.unary us x → Is (many l.step) xs (changed ss) → Is l.binary (us ++ xs) (T.joined x ss)
-binary_at {x = x} ss h i e = by (inl tt) (part h (only i (joined_same x ss)) refl)
+binary_at : {us xs : List Word} {x : Expr} (ss : List Step) → Is l.unary us x → Is (many l.step) xs ss → Is l.binary (us ++ xs) (L.joined x ss)
+binary_at {x = x} ss h i e = by (inl tt) (part h (only i refl) refl)
 
 arms_at : (c : Option Arms) (us xs ys : List Word) {ws : List Word} {x : Expr} → Is l.binary (us ++ xs) x → ArmsTail ys c → xs ++ ys ≡ ws → Is l.expr (us ++ ws) (T.picked x c)
 arms_at None us xs ys {ws} {x} h i k e = by (inl tt) (last h refl (append_assoc us xs [] ∙ ap (λ z. us ++ (xs ++ z)) (sym i) ∙ ap (λ z. us ++ z) k))
 arms_at (Some a) us xs ys {ws} {x} h i k e = by (inr (inl tt)) (part h (i e (λ p f q. expr_at (node.Pick x f q) p)) (append_assoc us xs ys ∙ ap (λ z. us ++ z) k))
 
-whole_at : {us ws : List Word} {x : Expr} (ss : List table.Step) (c : Option Arms) → Is l.unary us x → ExprTail ws ss c → Is l.expr (us ++ ws) (whole x ss c)
+whole_at : {us ws : List Word} {x : Expr} (ss : List Step) (c : Option Arms) → Is l.unary us x → ExprTail ws ss c → Is l.expr (us ++ ws) (whole x ss c)
 whole_at {us} {ws} {x} ss c h r = arms_at c us r.0 r.1 (binary_at ss h r.3) r.4 r.2
 
 right_at : {ws : List Word} {x : Expr} → Is l.expr ws x → Is l.right ws x
@@ -253,7 +224,7 @@ right_at h e = by (inl tt) (only h refl)
 call_at : {ws : List Word} {x : Expr} → Is l.call ws x → Is l.right ws x
 call_at h e = by (inr (inl tt)) (only h refl)
 
-named_at : {w : Word} {us ws zs : List Word} (ps : List Post) (ss : List table.Step) (c : Option Arms) → fits any_name w ≡ true → PostsMean us ps → ExprTail ws ss c → us ++ ws ≡ zs → Is l.expr (w ∷ zs) (whole (T.posted (v.named w.token) ps) ss c)
+named_at : {w : Word} {us ws zs : List Word} (ps : List Post) (ss : List Step) (c : Option Arms) → fits any_name w ≡ true → PostsMean us ps → ExprTail ws ss c → us ++ ws ≡ zs → Is l.expr (w ∷ zs) (whole (T.posted (v.named w.token) ps) ss c)
 named_at {w} {us} {ws} {zs} ps ss c h i r k = moved (ap (λ z. w ∷ z) k) (whole_at {us = w ∷ us} ss c (postfix_at {us = w ∷ []} ps (name_at h) i refl) r)
 
 no_posts : PostsMean [] []
@@ -340,7 +311,7 @@ post_first p ps h r i = (h.0 ∷ r.0, one_more h.1 r.1 i, λ y. r.2 (h.0 y) ∙ 
 step_of : {us xs zs : List Word} {o : TreeOp × Pos} {x : Expr} → Is l.operator us o → Is l.unary xs x → us ++ xs ≡ zs → Is l.step zs (record { op = o.0; pos = o.1; operand = x })
 step_of {xs = xs} o x h e = by (inl tt) (part o (last x refl (append-nil xs)) h)
 
-step_at : {us xs rs ys : List Word} {o : TreeOp × Pos} {x : Expr} (ss : List table.Step) (c : Option Arms) → Is l.operator us o → Is l.unary xs x → ExprTail rs ss c → xs ++ rs ≡ ys →
+step_at : {us xs rs ys : List Word} {o : TreeOp × Pos} {x : Expr} (ss : List Step) (c : Option Arms) → Is l.operator us o → Is l.unary xs x → ExprTail rs ss c → xs ++ rs ≡ ys →
     ExprTail (us ++ ys) (record { op = o.0; pos = o.1; operand = x } ∷ ss) c
 step_at {us} {xs} ss c o x r h =
     (us ++ (xs ++ r.0), r.1, append_assoc us (xs ++ r.0) r.1 ∙ ap (λ z. us ++ z) (append_assoc xs r.0 r.1 ∙ ap (λ z. xs ++ z) r.2 ∙ h), one_more (step_of o x refl) r.3 (append_assoc us xs r.0), r.4)
@@ -763,7 +734,7 @@ words_same (x ∷ xs) =
     ap (λ z. record { kind = z; token = x } ∷ map sign_of (words_after x xs)) (glued_alone (kind_of_token x))
     ∙ ap (λ z. record { kind = kind_of_token x; token = x } ∷ z) (after_same x xs)
 
--- the trees of the table, and the lists of tokens that it begins, are those of the grammar
+-- the trees of the table, and the texts, are those of the grammar
 pub trees : (xs : List Spelled) (whole : T.Tree) → Derives (g.n g.text ∷ []) (signs xs) k.End (v.tree whole ∷ []) → DerivesTree xs whole
 trees xs whole d =
     let s = onto_tree (words xs) k.End whole (subst (λ z. Derives (g.n g.text ∷ []) z k.End (v.tree whole ∷ [])) (sym (words_same xs)) d) false in

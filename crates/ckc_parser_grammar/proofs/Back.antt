@@ -7,24 +7,24 @@ use Rattle.ckc_syntax.specs.declared.tree.TreeOp.{TreeOp}
 use Rattle.ckc_syntax.specs.declared.tree.TreeOp.TheVariants as op
 use Rattle.ckc_parser_grammar.specs.declared.kind.Kind.{Kind}
 use Rattle.ckc_parser_grammar.specs.declared.kind.Kind.TheVariants as k
-use Rattle.ckc_parser_grammar.specs.declared.parts.Step as table
 use Rattle.ckc_parser_grammar.specs.declared.parts.Post.{Post}
-use Rattle.ckc_parser_grammar.specs.Grammar.{Rule, Fits, left, right, allowed, is_name}
-use Rattle.ckc_parser_grammar.specs.Grammar as g
-use Rattle.ckc_parser_grammar.specs.Derives.{Sign, before, Derives}
-use Rattle.ckc_parser_grammar.specs.Derives as D
-use Rattle.ckc_parser_grammar.specs.Trees as T
-use Rattle.ckc_parser_grammar.specs.Values as v
-use Rattle.ckc_parser_grammar.specs.Values.{Value, made, whole, as_items, as_items_of_name, as_items_of_base, as_decl, as_decls, as_decl_of_base, as_decl_of_name, as_length, as_init, as_mode, as_type, as_stars, as_limits, as_expr, as_exprs, as_steps, as_arms, as_post, as_posts, as_op, as_stmt, as_stmts, as_part, place, as_expr_of_name}
+use Rattle.ckc_parser_grammar.specs.code.Grammar.{Rule, Fits, left, right, allowed, is_name}
+use Rattle.ckc_parser_grammar.specs.code.Grammar as g
+use Rattle.ckc_parser_grammar.specs.code.Derives.{Sign, before, Derives}
+use Rattle.ckc_parser_grammar.specs.code.Derives as D
+use Rattle.ckc_parser_grammar.specs.code.Trees as T
+use Rattle.ckc_parser_grammar.specs.code.Values as v
+use Rattle.ckc_parser_grammar.specs.code.Values.{Value, made, whole, as_items, as_items_of_name, as_items_of_base, as_decl, as_decls, as_decl_of_base, as_decl_of_name, as_length, as_init, as_mode, as_type, as_stars, as_limits, as_expr, as_exprs, as_steps, as_arms, as_post, as_posts, as_op, as_stmt, as_stmts, as_part, place, as_expr_of_name}
 use Rattle.ckc_grammar.specs.Trees as L
-use Rattle.ckc_grammar.specs.Trees.{Item, TypeTree, Expr, Stmt, Step, starred}
+use Rattle.ckc_grammar.specs.Trees.{Item, TypeTree, Expr, Stmt, starred}
+use Rattle.ckc_grammar.specs.declared.chain.Step.{Step}
 use Rattle.ckc_grammar.specs.Makers.{applied, number_of}
 use Rattle.ckc_grammar.specs.Productions as l
 use Rattle.ckc_grammar.specs.Productions.{Terminal, Use, Symbol, t, n, no_else, Makes}
 use Rattle.ckc_grammar.specs.Derivation.{Word, fits, before_else, used}
-use Rattle.ckc_parser_agrees.proofs.Tokens.{sign_of}
-use Rattle.ckc_parser_agrees.proofs.Pieces.{comma}
-use Rattle.ckc_parser_agrees.proofs.Onto.{changed, joined_same, else_at, else_same}
+use Rattle.ckc_parser_grammar.proofs.Tokens.{sign_of}
+use Rattle.ckc_parser_grammar.proofs.Pieces.{comma}
+use Rattle.ckc_parser_grammar.proofs.Onto.{join_none, else_at, else_same}
 
 -- words derive symbols of the table with these values, before what may be `else`; and whatever stands after them
 pub record At (ss : List g.Symbol) (ws : List Word) (e : Bool) (vs : List Value) : Type 0 where
@@ -115,13 +115,13 @@ operation_of : {ws : List Word} {o : TreeOp × Pos} → Operator ws o → Gives 
 operation_of (less {w} f h i) = (v.operator op.Lt w.token.pos, t_moved h (λ e. t_by g.LessOperation (λ c. refl) (t_tok f t_end)), i)
 operation_of (other {y} d h) = (y, (λ e. t_by g.OtherOperation (λ c. refl) (t_last d)), h)
 
-join_one : (o : Value) (x : Expr) (q : Value) → as_expr q ≡ x → (ss : List table.Step) (rest : List Step) → changed ss ≡ rest → changed (v.step o q ∷ ss) ≡ record { op = as_op o; pos = place o; operand = x } ∷ rest
-join_one o x q h ss rest i = ap (λ z. record { op = as_op o; pos = place o; operand = z } ∷ changed ss) h ∙ ap (λ z. record { op = as_op o; pos = place o; operand = x } ∷ z) i
+join_one : (o : Value) (x : Expr) (q : Value) → as_expr q ≡ x → (ss rest : List Step) → ss ≡ rest → v.step o q ∷ ss ≡ record { op = as_op o; pos = place o; operand = x } ∷ rest
+join_one o x q h ss rest i = ap (λ z. record { op = as_op o; pos = place o; operand = z } ∷ ss) h ∙ ap (λ z. record { op = as_op o; pos = place o; operand = x } ∷ z) i
 
 pair_step : {o p : TreeOp × Pos} {x : Expr} {s : Step} → o ≡ p → record { op = p.0; pos = p.1; operand = x } ≡ s → record { op = o.0; pos = o.1; operand = x } ≡ s
 pair_step {x = x} h i = ap (λ (z : TreeOp × Pos). record { op = z.0; pos = z.1; operand = x }) h ∙ i
 
-tail_of : {ws : List Word} {e : Bool} {ss : List Step} → Each StepForm ws e ss → (y : Value) × All (g.n g.tail ∷ []) ws (y ∷ []) × (changed (as_steps y) ≡ ss)
+tail_of : {ws : List Word} {e : Bool} {ss : List Step} → Each StepForm ws e ss → (y : Value) × All (g.n g.tail ∷ []) ws (y ∷ []) × (as_steps y ≡ ss)
 tail_of none = (v.steps [], (λ e. t_by g.NoTail (λ c. refl) t_end), refl)
 tail_of (more {ys = ys} {ms = ss} vs (step {us = us} {xs = xs} {x = x2} o x h i) rest j) =
     let p = operation_of o in
@@ -139,7 +139,7 @@ rest_of {ss = ss} {c = c} s d =
     let t = tail_of s in (
       v.rest (as_steps t.0) (as_arms c),
       (λ e. t_by g.ExprRest (λ q. refl) (t_part t.1 (t_last d) refl)),
-      λ x. ap (λ z. T.picked z (as_arms c)) (sym (joined_same x (as_steps t.0)) ∙ ap (λ z. L.joined x z) t.2),
+      λ x. ap (λ z. T.picked z (as_arms c)) (ap (λ z. L.joined x z) t.2),
     )
 
 pub expr_of : {ws : List Word} {m : Expr} → ExprForm ws m → Gives g.expr ws as_expr m
@@ -163,10 +163,6 @@ whole_rest h d e = t_by g.ExprRest (λ q. refl) (t_part h (t_last d) refl)
 step_words : (us xs vs ys : List Word) {ss zs : List Word} → us ++ xs ≡ ss → ss ++ vs ≡ zs → us ++ (xs ++ (vs ++ ys)) ≡ zs ++ ys
 step_words us xs vs ys h m = sym (append_assoc us xs (vs ++ ys)) ∙ ap (λ z. z ++ (vs ++ ys)) h ∙ sym (append_assoc _ vs ys) ∙ ap (λ z. z ++ ys) m
 
-joined_nothing : (x : Expr) → L.joined x [] ≡ x
-unfolding L.joined L.joined_to
-joined_nothing x = refl
-
 -- an expression as a right side: the table tells apart how it begins
 calloc_rest : (w : Word) {us xs ys : List Word} {d e : Bool} {fs : List (Expr → Expr)} {ss : List Step} {c : Value} → Each PostForm us d fs → Each StepForm xs e ss → All (g.n g.choice ∷ []) ys (c ∷ []) →
     (x : Value) × All (g.n g.calloc_value ∷ []) (us ++ (xs ++ ys)) (x ∷ []) × (as_expr_of_name x w.token ≡ T.picked (L.joined (applied (v.named w.token) fs) ss) (as_arms c))
@@ -178,14 +174,14 @@ calloc_rest w {xs = xs} {ys = ys} (more {ys = vs} us p ps h) s d =
       ap (λ z. whole z (as_steps r.0) (as_arms r.0)) (p.2 (v.named w.token) (as_posts q.0) ∙ q.2 _) ∙ r.2 _,
     )
 calloc_rest w {c = c} none none d =
-    (v.expr_of_name (λ t. T.picked (v.named t) (as_arms c)), (λ e. t_by g.CallocName (λ z. refl) (t_last d)), ap (λ z. T.picked z (as_arms c)) (sym (joined_nothing (v.named w.token))))
+    (v.expr_of_name (λ t. T.picked (v.named t) (as_arms c)), (λ e. t_by g.CallocName (λ z. refl) (t_last d)), ap (λ z. T.picked z (as_arms c)) (sym (join_none (v.named w.token))))
 calloc_rest w {ys = ys} {c = c} none (more {ys = vs} {m = a} {ms = ss} qs (step {us = us} {xs = xs} {x = x2} (other {y = o} i j) x h q) rest m) d =
     let p = unary_of x in
     let r = rest_of rest d in
     let y = tail_of rest in (
       v.expr_of_name (λ t. whole (v.named t) (v.step o p.0 ∷ as_steps y.0) (as_arms c)),
       (λ e. t_by g.CallocStep (λ z. refl) (t_part i (t_part p.1 (t_last (whole_rest y.1 d)) refl) (step_words us xs vs ys h m))),
-      ap (λ z. T.picked z (as_arms c)) (sym (joined_same (v.named w.token) (v.step o p.0 ∷ as_steps y.0)) ∙ ap (λ z. L.joined (v.named w.token) z) (join_one o x2 p.0 p.2 (as_steps y.0) ss y.2 ∙ ap (λ z. z ∷ ss) (pair_step j q))),
+      ap (λ z. T.picked z (as_arms c)) (ap (λ z. L.joined (v.named w.token) z) (join_one o x2 p.0 p.2 (as_steps y.0) ss y.2 ∙ ap (λ z. z ∷ ss) (pair_step j q))),
     )
 calloc_rest w {ys = ys} {c = c} none (more {ys = vs} {m = a} {ms = ss} qs (step {us = us} {xs = xs} {x = x2} (less {w = b} f i j) x h q) rest m) d =
     let p = unary_of x in
@@ -193,8 +189,7 @@ calloc_rest w {ys = ys} {c = c} none (more {ys = vs} {m = a} {ms = ss} qs (step 
       v.expr_of_name (λ t. whole (v.named t) (record { op = op.Lt; pos = b.token.pos; operand = as_expr p.0 } ∷ as_steps y.0) (as_arms c)),
       t_moved (ap (λ z. z ++ (xs ++ (vs ++ ys))) i ∙ step_words us xs vs ys h m)
           (λ e. t_by g.CallocLess (λ z. refl) (t_tok f (t_last (λ e. t_by g.LessOperand (λ z. refl) (t_part p.1 (t_last (whole_rest y.1 d)) refl))))),
-      ap (λ z. T.picked z (as_arms c)) (sym (joined_same (v.named w.token) (record { op = op.Lt; pos = b.token.pos; operand = as_expr p.0 } ∷ as_steps y.0))
-          ∙ ap (λ z. L.joined (v.named w.token) z) (ap (λ z. record { op = op.Lt; pos = b.token.pos; operand = z } ∷ changed (as_steps y.0)) p.2 ∙ ap (λ z. record { op = op.Lt; pos = b.token.pos; operand = x2 } ∷ z) y.2 ∙ ap (λ z. z ∷ ss) (pair_step j q))),
+      ap (λ z. T.picked z (as_arms c)) (ap (λ z. L.joined (v.named w.token) z) (ap (λ z. record { op = op.Lt; pos = b.token.pos; operand = z } ∷ as_steps y.0) p.2 ∙ ap (λ z. record { op = op.Lt; pos = b.token.pos; operand = x2 } ∷ z) y.2 ∙ ap (λ z. z ∷ ss) (pair_step j q))),
     )
 
 pub right_of : {ws : List Word} {m : Expr} → ExprForm ws m → Gives g.value ws as_expr m

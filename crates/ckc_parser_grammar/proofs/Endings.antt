@@ -13,23 +13,23 @@ use Rattle.ckc_syntax.specs.declared.tree.Node.TheVariants as node
 use Rattle.ckc_syntax.specs.declared.tree.Act.TheVariants as act
 use Rattle.ckc_parser_grammar.specs.declared.kind.Kind.{Kind}
 use Rattle.ckc_parser_grammar.specs.declared.kind.Kind.TheVariants as k
-use Rattle.ckc_parser_grammar.specs.Kinds.{kind_of_name, kind_of_keyword, kind_of_mark}
-use Rattle.ckc_parser_grammar.specs.Grammar.{is_name, is_greater, not_else}
-use Rattle.ckc_parser_grammar.specs.Grammar as g
-use Rattle.ckc_parser_grammar.specs.Signs.{glued}
-use Rattle.ckc_parser_grammar.specs.Derives as D
-use Rattle.ckc_parser_grammar.specs.Trees as T
-use Rattle.ckc_parser_grammar.specs.Values as v
-use Rattle.ckc_parser_grammar.specs.Values.{Value, made, whole, as_items, as_items_of_base, as_item_of_head, as_decls, as_decls_of_base, as_length, as_size, as_init, as_type, as_stars, as_limits, as_declared_limits, as_value, as_expr, as_exprs, as_steps, as_arms, as_posts, as_stmt, as_stmts, as_part, as_expr_of_name}
+use Rattle.ckc_parser_grammar.specs.code.Kinds.{kind_of_name, kind_of_keyword, kind_of_mark}
+use Rattle.ckc_parser_grammar.specs.code.Grammar.{is_name, is_greater, not_else}
+use Rattle.ckc_parser_grammar.specs.code.Grammar as g
+use Rattle.ckc_parser_grammar.specs.code.Signs.{glued}
+use Rattle.ckc_parser_grammar.specs.code.Derives as D
+use Rattle.ckc_parser_grammar.specs.code.Trees as T
+use Rattle.ckc_parser_grammar.specs.code.Values as v
+use Rattle.ckc_parser_grammar.specs.code.Values.{Value, made, whole, as_items, as_items_of_base, as_item_of_head, as_decls, as_decls_of_base, as_length, as_size, as_init, as_type, as_stars, as_limits, as_declared_limits, as_value, as_expr, as_exprs, as_steps, as_arms, as_posts, as_stmt, as_stmts, as_part, as_expr_of_name}
 use Rattle.ckc_grammar.specs.Trees as L
 use Rattle.ckc_grammar.specs.Trees.{Item, Decl, Init, Limits, TypeTree, Expr, Stmt, starred, expr_at}
 use Rattle.ckc_grammar.specs.Makers.{flat, given, applied, mode_of, length_of, init_of, initial_of, head_of, declared}
 use Rattle.ckc_grammar.specs.Productions as l
 use Rattle.ckc_grammar.specs.Productions.{keyword, either, mark, word}
 use Rattle.ckc_grammar.specs.Derivation.{Word, fits, before_else, Choice, value}
-use Rattle.ckc_parser_agrees.proofs.Tokens.{sign_of, keyword_kind, either_kind, mark_kind, word_kind}
-use Rattle.ckc_parser_agrees.proofs.Pieces.{comma, is_else, cut}
-use Rattle.ckc_parser_agrees.proofs.Back.{At, All, Gives, t_end, t_tok, t_part_at, t_part, t_last, t_by, t_moved, Each, none, more, PostForm, Unary, by_name, by_first, ExprForm, form, rest_of, expr_of, unary_of, posts_of, calloc_or, unknown_or, BaseForm, tag, scalar, base_of, absent, present, AfterForm, after_form, comma_form, CallForm, of_name, of_type, BinaryForm, binary_form, AssignForm, assign_form, TypeForm, type_form, ItemForm, Declares, From, end, token, worth}
+use Rattle.ckc_parser_grammar.proofs.Tokens.{sign_of, keyword_kind, either_kind, mark_kind, word_kind}
+use Rattle.ckc_parser_grammar.proofs.Pieces.{comma, is_else, cut}
+use Rattle.ckc_parser_grammar.proofs.Back.{At, All, Gives, t_end, t_tok, t_part_at, t_part, t_last, t_by, t_moved, Each, none, more, PostForm, Unary, by_name, by_first, ExprForm, form, rest_of, expr_of, unary_of, posts_of, calloc_or, unknown_or, BaseForm, tag, scalar, base_of, absent, present, AfterForm, after_form, comma_form, CallForm, of_name, of_type, BinaryForm, binary_form, AssignForm, assign_form, TypeForm, type_form, ItemForm, Declares, From, end, token, worth}
 
 pub kw : (s : String) (w : Word) → fits (keyword (codes s)) w ≡ true → (sign_of w).kind ≡ glued w.glued (kind_of_keyword (codes s))
 kw s w h = keyword_kind (codes s) w h

@@ -1,6 +1,7 @@
 -- What the grammar tells apart.
 use Rattle.std.specs.Prelude.{ℕ, List, [], ◌∷◌, Bool, true, false, ◌&&◌, ◌==◌, codes, if◌then◌else◌, Option, None, Some, unwrap_or}
 use Rattle.std.specs.Option.{is_some}
+use Rattle.ckc_grammar.specs.Derivation.{is}
 use Rattle.ckc_syntax.specs.declared.tree.TreeOp.{TreeOp}
 use Rattle.ckc_syntax.specs.declared.tree.TreeOp.TheVariants as op
 use Rattle.ckc_syntax.specs.Spelled.{Spelled}
@@ -8,13 +9,6 @@ use Rattle.ckc_syntax.specs.declared.tokens.TokenKind.{TokenKind}
 use Rattle.ckc_syntax.specs.declared.tokens.TokenKind.TheVariants as kinds
 use Rattle.ckc_parser_grammar.specs.declared.kind.Kind.{Kind}
 use Rattle.ckc_parser_grammar.specs.declared.kind.Kind.TheVariants.{Name, Calloc, Count, ByteCount, Bounds, Unknown, Number, Character, Text, Directive, Other, Int, Unsigned, Char, Void, Struct, Static, If, Else, While, For, Return, Break, Continue, Sizeof, Null, Eof, Ptr, ArrayPtr, NtArrayPtr, Checked, Unchecked, NtChecked, Bundled, Check, Tested, Trusted, RoundOpen, RoundClose, CurlyOpen, CurlyClose, SquareOpen, SquareClose, Less, Greater, Comma, Semicolon, Colon, Question, Equals, Dot, Arrow, Plus, Minus, Star, Slash, Percent, Ampersand, Bar, Caret, Tilde, Exclamation, ShiftLeft, LessEquals, GreaterEquals, EqualsEquals, NotEquals, AndAnd, BarBar}
-
--- whether two spellings are the same bytes
-abbrev pub is : List ℕ → List ℕ → Bool
-is [] [] = true
-is [] (c ∷ cs) = false
-is (b ∷ bs) [] = false
-is (b ∷ bs) (c ∷ cs) = b == c && is bs cs
 
 -- Names that the grammar reads in some places.
 abbrev pub kind_of_name : List ℕ → Kind

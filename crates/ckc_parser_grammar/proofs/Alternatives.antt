@@ -10,23 +10,23 @@ use Rattle.ckc_syntax.specs.declared.tree.Limits.TheVariants as bounds
 use Rattle.ckc_syntax.specs.declared.tree.Node.TheVariants as node
 use Rattle.ckc_syntax.specs.declared.tree.Act.TheVariants as act
 use Rattle.ckc_parser_grammar.specs.declared.kind.Kind.TheVariants as k
-use Rattle.ckc_parser_grammar.specs.Kinds.{is_sign, is_operator, is_literal, sign_op, binary_op}
-use Rattle.ckc_parser_grammar.specs.Grammar as g
-use Rattle.ckc_parser_grammar.specs.Derives as D
-use Rattle.ckc_parser_grammar.specs.Trees as T
-use Rattle.ckc_parser_grammar.specs.Values as v
-use Rattle.ckc_parser_grammar.specs.Values.{made, as_items}
+use Rattle.ckc_parser_grammar.specs.code.Kinds.{is_sign, is_operator, is_literal, sign_op, binary_op}
+use Rattle.ckc_parser_grammar.specs.code.Grammar as g
+use Rattle.ckc_parser_grammar.specs.code.Derives as D
+use Rattle.ckc_parser_grammar.specs.code.Trees as T
+use Rattle.ckc_parser_grammar.specs.code.Values as v
+use Rattle.ckc_parser_grammar.specs.code.Values.{made, as_items}
 use Rattle.ckc_grammar.specs.Trees as L
 use Rattle.ckc_grammar.specs.Trees.{starred, expr_at}
 use Rattle.ckc_grammar.specs.Makers.{declared}
 use Rattle.ckc_grammar.specs.Productions as l
 use Rattle.ckc_grammar.specs.Productions.{Terminal, productions}
 use Rattle.ckc_grammar.specs.Derivation.{Word, Choice, chosen, parts_of, value}
-use Rattle.ckc_parser_agrees.proofs.Tokens.{plain_kind, greater_kind, next_kind, name_kind, number_kind, character_kind, string_kind, directive_kind}
-use Rattle.ckc_parser_agrees.proofs.Pieces.{cut}
-use Rattle.ckc_parser_agrees.proofs.Back.{t_end, t_tok, t_part_at, t_part, t_last, t_by, t_moved, none, more, by_name, by_first, less, other, step, expr_of, unary_of, right_of, call_right, tag, scalar, base_of, absent, present, after_form, comma_form, of_name, binary_form, assign_form, type_form, From, Got, end, token, piece, sole, worth}
-use Rattle.ckc_parser_agrees.proofs.Endings.{kw, mk, wd, ei, cons_eq, joint, type_of, range_of, array_of, first_of_object, first_of_local, size_of, condition_of, start_of, assign_of, step_part_of, assign_stmt, call_stmt, stars_of, text_of, members_of, params_of, arguments_of, list_of, lines_of, changes_of, member_of, local_of_form, declares_moved, declares_named, objects_form, item_declares, void_head, type_head, first_by, constant_by, round_by, cast_of, between_of, no_choice, with_choice, at_moved, unary_moved, from_moved, each_moved, stmt_any, no_else_by, with_end}
-use Rattle.ckc_parser_agrees.proofs.Allocations.{call_2}
+use Rattle.ckc_parser_grammar.proofs.Tokens.{plain_kind, greater_kind, next_kind, name_kind, number_kind, character_kind, string_kind, directive_kind}
+use Rattle.ckc_parser_grammar.proofs.Pieces.{cut}
+use Rattle.ckc_parser_grammar.proofs.Back.{t_end, t_tok, t_part_at, t_part, t_last, t_by, t_moved, none, more, by_name, by_first, less, other, step, expr_of, unary_of, right_of, call_right, tag, scalar, base_of, absent, present, after_form, comma_form, of_name, binary_form, assign_form, type_form, From, Got, end, token, piece, sole, worth}
+use Rattle.ckc_parser_grammar.proofs.Endings.{kw, mk, wd, ei, cons_eq, joint, type_of, range_of, array_of, first_of_object, first_of_local, size_of, condition_of, start_of, assign_of, step_part_of, assign_stmt, call_stmt, stars_of, text_of, members_of, params_of, arguments_of, list_of, lines_of, changes_of, member_of, local_of_form, declares_moved, declares_named, objects_form, item_declares, void_head, type_head, first_by, constant_by, round_by, cast_of, between_of, no_choice, with_choice, at_moved, unary_moved, from_moved, each_moved, stmt_any, no_else_by, with_end}
+use Rattle.ckc_parser_grammar.proofs.Allocations.{call_2}
 
 text_0 : (ws : List Word) (e : Bool) (q : Got (parts_of l.text (inl tt)) ws e (l.Meaning l.text) (chosen (productions l.text) (inl tt)).made) → From l.text ws e (worth q)
 text_0 _ e (piece us m is end h) = text_of is h

@@ -8,13 +8,13 @@ use Rattle.ckc_syntax.specs.declared.tokens.TokenKind.TheVariants as kinds
 use Rattle.ckc_syntax.specs.declared.tokens.Directive.{Directive}
 use Rattle.ckc_parser_grammar.specs.declared.kind.Kind.{Kind}
 use Rattle.ckc_parser_grammar.specs.declared.kind.Kind.TheVariants as kind
-use Rattle.ckc_parser_grammar.specs.Kinds as old
-use Rattle.ckc_parser_grammar.specs.Kinds.{kind_of_token, kind_by, kind_of_name, kind_of_keyword, kind_of_mark}
-use Rattle.ckc_parser_grammar.specs.Grammar.{is_name, is_greater, not_else}
-use Rattle.ckc_parser_grammar.specs.Derives.{Sign}
-use Rattle.ckc_parser_grammar.specs.Signs.{glued}
+use Rattle.ckc_parser_grammar.specs.code.Kinds.{kind_of_token, kind_by, kind_of_name, kind_of_keyword, kind_of_mark}
+use Rattle.ckc_parser_grammar.specs.code.Grammar.{is_name, is_greater, not_else}
+use Rattle.ckc_parser_grammar.specs.code.Derives.{Sign}
+use Rattle.ckc_parser_grammar.specs.code.Signs.{glued}
 use Rattle.ckc_grammar.specs.Productions.{Terminal, keyword, either, mark, next, word, any_name, any_number, any_character, any_string, any_directive}
 use Rattle.ckc_grammar.specs.Derivation.{Word, is, is_keyword, is_mark, is_word, is_of, fits}
+use Rattle.ckc_parser_grammar.proofs.Spelled.{is_same}
 
 -- the token as the table sees it
 abbrev pub sign_of : Word → Sign
@@ -134,35 +134,16 @@ marks =
 -- the kind in the row of a spelling
 abbrev find : Rows → List ℕ → Kind → Kind
 find [] text last = last
-find (r ∷ rows) text last = if old.is text r.0 then r.1 else find rows text last
+find (r ∷ rows) text last = if is text r.0 then r.1 else find rows text last
 
 abbrev all_rows : (Kind → List ℕ → Bool) → Rows → Bool
 all_rows test [] = true
 all_rows test (r ∷ rows) = test r.1 r.0 && all_rows test rows
 
-same_number : (b c : ℕ) → (b == c) ≡ true → b ≡ c
-same_number b c e = grind (arith, nat_tests)
-
 pub and_both : (a b : Bool) → (a && b) ≡ true → (a ≡ true) × (b ≡ true)
 and_both true true h = (refl, refl)
 and_both true false h = absurd (cc)
 and_both false b h = absurd (cc)
-
-old_text : (text s : List ℕ) → old.is text s ≡ true → text ≡ s
-old_text [] [] e = refl
-old_text [] (c ∷ cs) e = absurd (cc)
-old_text (b ∷ bs) [] e = absurd (cc)
-old_text (b ∷ bs) (c ∷ cs) e =
-    let h = and_both (b == c) (old.is bs cs) e in
-    let x = same_number b c h.0 in let y = old_text bs cs h.1 in cc
-
-pub same_text : (text s : List ℕ) → is text s ≡ true → text ≡ s
-same_text [] [] e = refl
-same_text [] (c ∷ cs) e = absurd (cc)
-same_text (b ∷ bs) [] e = absurd (cc)
-same_text (b ∷ bs) (c ∷ cs) e =
-    let h = and_both (b == c) (is bs cs) e in
-    let x = same_number b c h.0 in let y = same_text bs cs h.1 in cc
 
 row_or : (test : Kind → List ℕ → Bool) (b : Bool) (r : List ℕ × Kind) (text : List ℕ) (x : Kind) → (b ≡ true → text ≡ r.0) → test r.1 r.0 ≡ true → test x text ≡ true → test (if b then r.1 else x) text ≡ true
 row_or test true r text x e h k = subst (λ z. test r.1 z ≡ true) (sym (e refl)) h
@@ -172,7 +153,7 @@ found : (test : Kind → List ℕ → Bool) (rows : Rows) (text : List ℕ) (las
 found test [] text last h k = k
 found test (r ∷ rows) text last h k =
     let b = and_both (test r.1 r.0) (all_rows test rows) h in
-    row_or test (old.is text r.0) r text (find rows text last) (old_text text r.0) b.0 (found test rows text last b.1 k)
+    row_or test (is text r.0) r text (find rows text last) (is_same text r.0) b.0 (found test rows text last b.1 k)
 
 abbrev at : TokenKind → List ℕ → Pos → Bool → Word
 at k text pos b = record { token = record { kind = k; text = text; pos = pos }; glued = b }
@@ -248,7 +229,7 @@ greater_read w h = subst (λ b. implies b (fits (mark (codes ">")) w) ≡ true) 
 
 -- the other way: a token that fits is of the kind
 keyword_by : (k : TokenKind) (text s : List ℕ) (b : Bool) → is_keyword k text s ≡ true → glued b (kind_by k text) ≡ glued b (kind_of_keyword s)
-keyword_by kinds.Keyword text s b h = ap (λ z. glued b (kind_of_keyword z)) (same_text text s h)
+keyword_by kinds.Keyword text s b h = ap (λ z. glued b (kind_of_keyword z)) (is_same text s h)
 keyword_by _ text s b h = absurd (cc)
 
 pub keyword_kind : (s : List ℕ) (w : Word) → fits (keyword s) w ≡ true → (sign_of w).kind ≡ glued w.glued (kind_of_keyword s)
@@ -263,7 +244,7 @@ either_kind s r k w h i j =
     either_by (fits (keyword s) w) (fits (keyword r) w) h (λ e. keyword_kind s w e ∙ i) (λ e. keyword_kind r w e ∙ j)
 
 mark_by : (k : TokenKind) (text s : List ℕ) (b : Bool) → is_mark k text s ≡ true → glued b (kind_by k text) ≡ glued b (kind_of_mark s)
-mark_by kinds.Mark text s b h = ap (λ z. glued b (kind_of_mark z)) (same_text text s h)
+mark_by kinds.Mark text s b h = ap (λ z. glued b (kind_of_mark z)) (is_same text s h)
 mark_by _ text s b h = absurd (cc)
 
 pub mark_kind : (s : List ℕ) (w : Word) → fits (mark s) w ≡ true → (sign_of w).kind ≡ glued w.glued (kind_of_mark s)
@@ -282,7 +263,7 @@ next_kind w h =
     mark_kind (codes ">") w e.0 ∙ ap (λ b. glued b kind.Greater) e.1
 
 word_by : (k : TokenKind) (text s : List ℕ) (b : Bool) → is_word k text s ≡ true → glued b (kind_by k text) ≡ glued b (kind_of_name s)
-word_by kinds.Name text s b h = ap (λ z. glued b (kind_of_name z)) (same_text text s h)
+word_by kinds.Name text s b h = ap (λ z. glued b (kind_of_name z)) (is_same text s h)
 word_by _ text s b h = absurd (cc)
 
 pub word_kind : (s : List ℕ) (w : Word) → fits (word s) w ≡ true → (sign_of w).kind ≡ glued w.glued (kind_of_name s)
@@ -339,7 +320,7 @@ directive_kind w h = directive_by w.token.kind w.token.text w.glued h
 
 -- a mark by itself
 plain_by : (k : TokenKind) (text s : List ℕ) → is_mark k text s ≡ true → kind_by k text ≡ kind_of_mark s
-plain_by kinds.Mark text s h = ap (λ z. kind_of_mark z) (same_text text s h)
+plain_by kinds.Mark text s h = ap (λ z. kind_of_mark z) (is_same text s h)
 plain_by _ text s h = absurd (cc)
 
 pub plain_kind : (s : List ℕ) (w : Word) → fits (mark s) w ≡ true → kind_of_token w.token ≡ kind_of_mark s

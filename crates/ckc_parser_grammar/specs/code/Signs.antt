@@ -3,8 +3,8 @@ use Rattle.std.specs.Prelude.{◌+◌, ◌==◌, List, [], ◌∷◌, Bool, true
 use Rattle.ckc_syntax.specs.Spelled.{Spelled}
 use Rattle.ckc_parser_grammar.specs.declared.kind.Kind.{Kind}
 use Rattle.ckc_parser_grammar.specs.declared.kind.Kind.TheVariants as kind
-use Rattle.ckc_parser_grammar.specs.Kinds.{kind_of_token}
-use Rattle.ckc_parser_grammar.specs.Derives.{Sign}
+use Rattle.ckc_parser_grammar.specs.code.Kinds.{kind_of_token}
+use Rattle.ckc_parser_grammar.specs.code.Derives.{Sign}
 
 -- The kind of a token after another: a `>` directly after a `>` may end a shift.
 abbrev pub glued : Bool → Kind → Kind

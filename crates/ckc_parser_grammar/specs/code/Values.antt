@@ -19,15 +19,15 @@ use Rattle.ckc_syntax.specs.declared.tree.Act.TheVariants as act
 use Rattle.ckc_syntax.specs.declared.tree.TreeOp.{TreeOp}
 use Rattle.ckc_syntax.specs.declared.tree.TreeOp.TheVariants as op
 use Rattle.ckc_parser_grammar.specs.declared.kind.Kind.{Kind}
-use Rattle.ckc_parser_grammar.specs.declared.parts.Step.{Step}
 use Rattle.ckc_parser_grammar.specs.declared.parts.Arms.{Arms}
 use Rattle.ckc_parser_grammar.specs.declared.parts.Post.{Post}
 use Rattle.ckc_parser_grammar.specs.declared.parts.Post.TheVariants as behind
-use Rattle.ckc_parser_grammar.specs.Kinds.{kind_of_token, sign_op, binary_op}
-use Rattle.ckc_parser_grammar.specs.Grammar as g
-use Rattle.ckc_parser_grammar.specs.Grammar.{Rule}
+use Rattle.ckc_parser_grammar.specs.code.Kinds.{kind_of_token, sign_op, binary_op}
+use Rattle.ckc_parser_grammar.specs.code.Grammar as g
+use Rattle.ckc_parser_grammar.specs.code.Grammar.{Rule}
 use Rattle.ckc_syntax.specs.code.Decoded.{decoded}
-use Rattle.ckc_parser_grammar.specs.Trees.{Name, Tree, Item, TypeTree, Decl, Init, Limits, Expr, Stmt, expr_at, stmt_at, starred, statics, local_of, locals, function_of, posted, joined, picked, literal}
+pub use Rattle.ckc_grammar.specs.Makers.{declared, directive_of, number_of}
+use Rattle.ckc_parser_grammar.specs.code.Trees.{Name, Tree, Item, TypeTree, Decl, Init, Limits, Expr, Stmt, Step, expr_at, stmt_at, starred, statics, local_of, locals, function_of, posted, joined, picked, literal}
 
 -- A value of some part. A part that stands after something has what it makes of that: a name, a type, a place.
 pub data Value : Type 0 where
@@ -314,16 +314,6 @@ name_of v = (as_token v).text
 abbrev pub kind_at : Value → Kind
 kind_at v = kind_of_token (as_token v)
 
--- the number that a token spells
-abbrev pub number_of : TokenKind → ℕ
-number_of (kinds.Number number unsigned) = number
-number_of _ = 0
-
--- the directive that a token is
-abbrev pub directive_of : TokenKind → Directive
-directive_of (kinds.Directive d) = d
-directive_of _ = directives.Stdio
-
 -- a name as an expression, and as what is called
 abbrev pub named : Spelled → Expr
 named t = expr_at (node.Name t.text) t.pos
@@ -339,10 +329,6 @@ whole e ss c = picked (joined e ss) c
 -- a binary operator with its place and its right operand
 abbrev pub step : Value → Value → Step
 step o e = record { op = as_op o; pos = place o; operand = as_expr e }
-
--- a declaration of the name, at the name: its type, its length, its bounds and its initialiser
-abbrev pub declared : TypeTree → Spelled → Length → Option Limits → Init → Decl
-declared base t l b i = record { ctype = base; name = t.text; length = l; bounds = b; init = i; pos = t.pos }
 
 -- the type `struct` with this tag
 abbrev pub struct_type : Spelled → TypeTree

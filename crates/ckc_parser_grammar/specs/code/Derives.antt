@@ -1,9 +1,9 @@
 -- What tokens derive.
-use Rattle.std.specs.Prelude.{◌≡◌, ℕ, List, [], ◌∷◌, ◌++◌, true}
+use Rattle.std.specs.Prelude.{◌≡◌, List, [], ◌∷◌, ◌++◌, true}
 use Rattle.ckc_syntax.specs.Spelled.{Spelled}
 use Rattle.ckc_parser_grammar.specs.declared.kind.Kind.{Kind}
-use Rattle.ckc_parser_grammar.specs.Grammar.{Terminal, Part, Symbol, t, n, Rule, left, right, Fits, allowed}
-use Rattle.ckc_parser_grammar.specs.Values.{Value, token, made}
+use Rattle.ckc_parser_grammar.specs.code.Grammar.{Terminal, Part, Symbol, t, n, Rule, left, right, Fits, allowed}
+use Rattle.ckc_parser_grammar.specs.code.Values.{Value, token, made}
 
 -- a token with its kind
 pub record Sign : Type 0 where
@@ -25,7 +25,3 @@ pub data Derives : List Symbol → List Sign → Kind → List Value → Type 0 
       (r : Rule) (xs ys : List Sign) (ws : List Value) →
       left r ≡ p → Derives (right r) xs (before ys next) ws → allowed r (before ys next) ≡ true → made r ws ≡ u →
       Derives ss ys next vs → xs ++ ys ≡ zs → Derives (n p ∷ ss) zs next (u ∷ vs)
-
--- E120: the tokens are no text
-abbrev pub syntax_error : ℕ
-syntax_error = 120

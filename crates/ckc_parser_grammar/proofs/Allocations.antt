@@ -3,17 +3,17 @@ use Rattle.std.proofs.Common.{◌≡◌, List, [], ◌∷◌, ◌++◌, Bool, tr
 use Rattle.ckc_syntax.specs.Spelled.{Spelled}
 use Rattle.ckc_syntax.specs.declared.tree.Node.TheVariants as node
 use Rattle.ckc_parser_grammar.specs.declared.kind.Kind.TheVariants as k
-use Rattle.ckc_parser_grammar.specs.Grammar.{is_greater}
-use Rattle.ckc_parser_grammar.specs.Grammar as g
-use Rattle.ckc_parser_grammar.specs.Values as v
-use Rattle.ckc_parser_grammar.specs.Values.{Value, made, as_type}
+use Rattle.ckc_parser_grammar.specs.code.Grammar.{is_greater}
+use Rattle.ckc_parser_grammar.specs.code.Grammar as g
+use Rattle.ckc_parser_grammar.specs.code.Values as v
+use Rattle.ckc_parser_grammar.specs.code.Values.{Value, made, as_type}
 use Rattle.ckc_grammar.specs.Trees.{TypeTree, Expr, expr_at}
 use Rattle.ckc_grammar.specs.Productions as l
 use Rattle.ckc_grammar.specs.Productions.{key, sign, n, productions}
 use Rattle.ckc_grammar.specs.Derivation.{Word, chosen, parts_of, value}
-use Rattle.ckc_parser_agrees.proofs.Tokens.{sign_of, greater_kind}
-use Rattle.ckc_parser_agrees.proofs.Back.{All, t_end, t_tok, t_part, t_by, ExprForm, expr_of, CallForm, of_type, TypeForm, From, Got, end, token, piece, worth}
-use Rattle.ckc_parser_agrees.proofs.Endings.{kw, mk, wd, type_of}
+use Rattle.ckc_parser_grammar.proofs.Tokens.{sign_of, greater_kind}
+use Rattle.ckc_parser_grammar.proofs.Back.{All, t_end, t_tok, t_part, t_by, ExprForm, expr_of, CallForm, of_type, TypeForm, From, Got, end, token, piece, worth}
+use Rattle.ckc_parser_grammar.proofs.Endings.{kw, mk, wd, type_of}
 
 -- `, sizeof ( type ) )` after the count
 data SizeofTail (ws : List Word) (f : TypeTree → Expr) (y : Expr) : Type 0 where
