@@ -1,5 +1,5 @@
 -- What the lines of operations come to: the value of each operation is in a register.
-use Rattle.std.proofs.Common.{◌≡◌, ◌≢◌, ◌⊎◌, inl, inr, ℕ, ◌^◌, ◌<◌, nat_lt, List, ◌∷◌, refl, sym, ap, subst, ◌∙◌, arith}
+use Rattle.std.proofs.Common.{◌≡◌, ◌≢◌, ◌⊎◌, inl, inr, ℕ, ◌+◌, ◌*◌, ◌^◌, ◌<◌, nat_lt, List, ◌∷◌, refl, sym, ap, subst, ◌∙◌, arith}
 use Rattle.std.specs.Prelude.{ℤ, pos}
 use Rattle.ckc_base.specs.Words.{flag, word_of, applied}
 use Rattle.ckc_base.specs.declared.arithmetic.BinOp.{BinOp}
@@ -13,13 +13,14 @@ use Rattle.ckc_rv.specs.Effects.{reg_value, reg_form}
 use Rattle.ckc_asm_lines.specs.declared.lines.Line.{Line}
 use Rattle.ckc_asm_lines.specs.declared.lines.Line.TheVariants.{Plain}
 use Rattle.ckc_frame.specs.declared.code.Place.{Place}
+use Rattle.ckc_frame.specs.declared.code.Place.TheVariants as place
 use Rattle.ckc_frame.specs.WellFormed.{IsPlace}
-use Rattle.ckc_emit.specs.code.Lines.{source_of, write_lines, operation_of, apply_lines, ending_lines, const_lines}
+use Rattle.ckc_emit.specs.code.Lines.{register_of, source_of, write_lines, operation_of, apply_lines, ending_lines, const_lines, copy_lines}
 use Rattle.ckc_emit.proofs.Local.{Local}
 use Rattle.ckc_emit.proofs.Steps.{reg_step, imm_step}
 use Rattle.ckc_emit.proofs.Paths.{Code, Sets, set_by, set_again, sets_loosened}
-use Rattle.ckc_emit.proofs.FrameWords.{sets_value, constant_sets}
-use Rattle.ckc_emit.proofs.Homes.{IsFramed, Writes, write_after, source_low}
+use Rattle.ckc_emit.proofs.FrameWords.{sets_value, constant_sets, load_sets}
+use Rattle.ckc_emit.proofs.Homes.{HasValue, IsFramed, Writes, register_is, slot_word, settle_writes, write_after, writes_loosened, source_low}
 use Rattle.ckc_emit.proofs.Values.{equal_flag, unequal_flag, zero_flag, some_flag}
 
 -- a test for equality
@@ -120,3 +121,16 @@ module _ (c : Code) where
       let low = source_low c t h in
       write_after c 1 2 (const_lines t v rest) t v rest l f h
       (constant_sets c (source_of t 5) v (write_lines t 5 rest) l low.0 low.1 fits f.zero)
+
+  -- a place gets the value of another one
+  pub copy_writes : (t a : Place) (x : ℕ) (rest : List Line) (l : Local) → IsFramed l → IsPlace t → IsPlace a → HasValue l a x → x < 2 ^ 32 → Writes c 1 6 (copy_lines t a rest) rest l t x
+  copy_writes t (place.Reg k) x rest l f ht ha e fits =
+      let i = register_is k ha in
+      let low = i.low in
+      let high = i.high in
+      writes_loosened c 1 3 1 6 (copy_lines t (place.Reg k) rest) rest l t x (omega arith) (omega arith)
+      (settle_writes c t (register_of k) x rest l f ht (omega arith) (omega arith) e fits)
+  copy_writes t (place.Slot k) x rest l f ht ha e fits =
+      let low = source_low c t ht in
+      write_after c 1 3 (copy_lines t (place.Slot k) rest) t x rest l f ht
+      (load_sets c (source_of t 5) 2 (k * 4 + 64) x (write_lines t 5 rest) l low.0 low.1 (omega arith) (omega arith) (omega arith) (slot_word c l k f ha) e fits)

@@ -28,11 +28,11 @@ use Rattle.ckc_emit.proofs.Local.{Local, memory_of, state_of}
 use Rattle.ckc_emit.proofs.Words.{bytes_put, data_stored}
 use Rattle.ckc_emit.proofs.Steps.{load_step, store_step}
 use Rattle.ckc_emit.proofs.Paths.{Code, Path, straight, followed, loosened, Sets, set_by}
-use Rattle.ckc_emit.proofs.FrameWords.{sets_value, load_sets}
-use Rattle.ckc_emit.proofs.Homes.{register_is, slot_word, settle_writes, HasValue, HasPlaces, IsFramed, framed_kept, Writes, write_after, source_low, writes_loosened}
+use Rattle.ckc_emit.proofs.FrameWords.{sets_value}
+use Rattle.ckc_emit.proofs.Homes.{HasValue, HasPlaces, IsFramed, framed_kept, Writes, write_after, source_low}
 use Rattle.ckc_base.proofs.WordValues.{applied_word}
 use Rattle.ckc_emit.proofs.Values.{high_word}
-use Rattle.ckc_emit.proofs.Acting.{const_writes}
+use Rattle.ckc_emit.proofs.Acting.{const_writes, copy_writes}
 use Rattle.ckc_emit.proofs.Splits.{moved_none}
 use Rattle.ckc_emit.specs.declared.places.PlacedOperand.{PlacedOperand}
 use Rattle.ckc_emit.specs.code.Operands.{IsOperand}
@@ -106,20 +106,9 @@ module _ (c : Code) (l : Local) (places : Values) (world : World) (framed : IsFr
   -- ---- copies
 
   pub copy_does : (t a : Place) (x : ℕ) (rest : List Line) → IsPlace t → IsPlace a → places (number_of a) ≡ Some x → Does c 6 (copy_lines t a rest) rest l [] (with_written places (number_of t) x) world
-  copy_does t (place.Reg k) x rest ht ha ea =
-      let fits = has.word (place.Reg k) x ha ea in
-      let i = register_is k ha in
-      let low = i.low in
-      let high = i.high in
-      write_does c 6 (copy_lines t (place.Reg k) rest) rest l t x places world framed ht fits has whole
-      (writes_loosened c 1 3 1 6 (copy_lines t (place.Reg k) rest) rest l t x (omega arith) (omega arith)
-      (settle_writes c t (register_of k) x rest l framed ht (omega arith) (omega arith) (has.has (place.Reg k) x ha ea) fits))
-  copy_does t (place.Slot k) x rest ht ha ea =
-      let fits = has.word (place.Slot k) x ha ea in
-      let low = source_low c t ht in
-      write_does c 6 (copy_lines t (place.Slot k) rest) rest l t x places world framed ht fits has whole
-      (write_after c 1 3 (copy_lines t (place.Slot k) rest) t x rest l framed ht
-      (load_sets c (source_of t 5) 2 (k * 4 + 64) x (write_lines t 5 rest) l low.0 low.1 (omega arith) (omega arith) (omega arith) (slot_word c l k framed ha) (has.has (place.Slot k) x ha ea) fits))
+  copy_does t a x rest ht ha ea =
+      let fits = has.word a x ha ea in
+      write_does c 6 (copy_lines t a rest) rest l t x places world framed ht fits has whole (copy_writes c t a x rest l framed ht ha (has.has a x ha ea) fits)
 
   -- ---- stores into the data region
 

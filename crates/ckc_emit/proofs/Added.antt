@@ -24,14 +24,14 @@ use Rattle.ckc_rv.specs.Table.{IsSigned, IsCount, InRange}
 use Rattle.ckc_emit.specs.declared.places.PlacedOperand.{PlacedOperand}
 use Rattle.ckc_emit.specs.declared.places.PlacedOperand.TheVariants.{At, Number}
 use Rattle.ckc_emit.specs.declared.operations.Form.{Form}
-use Rattle.ckc_emit.specs.declared.operations.Form.TheVariants.{Zero, Immediate, Registers}
+use Rattle.ckc_emit.specs.declared.operations.Form.TheVariants.{Cleared, Left, Zero, Immediate, Registers}
 use Rattle.ckc_emit.specs.code.Operands.{IsOperand}
 use Rattle.ckc_asm_lines.specs.declared.lines.Line.{Line}
 use Rattle.ckc_asm_lines.specs.declared.lines.Line.TheVariants.{Plain}
 use Rattle.ckc_frame.specs.declared.code.Place.{Place}
 use Rattle.ckc_frame.specs.declared.code.Place.TheVariants as place
 use Rattle.ckc_frame.specs.WellFormed.{IsPlace}
-use Rattle.ckc_emit.specs.code.Lines.{upper_of, lower_of, is_round, both_lines, large_lines, constant_lines, constant_count, move_lines, offset_lines, load_lines, store_lines, ask_lines, stop_lines, check_lines, register_of, source_of, read_lines, write_lines, settle_lines, fetch_lines, register_with, operand_lines, take_lines, const_lines, copy_lines, operation_of, apply_lines, negated, near_form, number_form, form_of, ending_lines, form_lines, bin_lines, high_op, high_lines, load_op, store_op, data_load_lines, data_store_lines, test_lines, get_lines, put_lines, tests_lines, room_lines, rounded_lines, claim_lines, alloc_lines}
+use Rattle.ckc_emit.specs.code.Lines.{upper_of, lower_of, is_round, both_lines, large_lines, constant_lines, constant_count, move_lines, offset_lines, load_lines, store_lines, ask_lines, stop_lines, check_lines, register_of, source_of, read_lines, write_lines, settle_lines, fetch_lines, register_with, operand_lines, take_lines, const_lines, copy_lines, value_lines, operation_of, apply_lines, negated, near_form, zeros_of, power_form, number_form, form_of, is_exchanged, ending_lines, form_lines, bin_lines, high_op, high_lines, load_op, store_op, data_load_lines, data_store_lines, test_lines, get_lines, put_lines, tests_lines, room_lines, rounded_lines, claim_lines, alloc_lines}
 use Rattle.ckc_emit.proofs.Splits.{upper_small}
 use Rattle.ckc_emit.proofs.Pieces.{Adds, nothing, then_adds, more_adds, plain_adds, either_adds}
 
@@ -225,6 +225,10 @@ module _ (labels k : ℕ) where
   copy_adds t (place.Slot j) ys p q =
       then_adds labels (loads_add (source_of t 5) 2 (j * 4 + 64) _ (source_low t 5 p (omega arith)) (omega arith)) (write_adds t 5 ys (omega arith))
 
+  value_adds : (t : Place) (a : PlacedOperand) (ys : List Line) → IsPlace t → IsOperand a → Adding 6 (value_lines t a ys) ys
+  value_adds t (At q) ys p r = copy_adds t q ys p r
+  value_adds t (Number n) ys p r = more_adds labels 6 (omega arith) (const_adds t n ys p)
+
   one_adds : (o : BinOp) (rd a b : ℕ) (ys : List Line) → rd < 27 → a < 27 → b < 27 → Adding 2 (Plain (Reg (operation_of o) rd a b) ∷ ys) ys
   one_adds o rd a b ys h i j = more_adds labels 2 (omega arith) (reg_adds (operation_of o) rd a b ys h i j)
 
@@ -272,16 +276,29 @@ module _ (labels k : ℕ) where
 
   -- an immediate fits its instruction
   abbrev Fits : Form → Type 0
-  Fits Zero = Unit {0}
   Fits (Immediate i n) = (rd rs : ℕ) → rd < 27 → rs < 27 → InRange (Imm i rd rs (lower_of n))
-  Fits Registers = Unit {0}
+  Fits form = Unit {0}
 
-  form_adds : (form : Form) (o : BinOp) (rd ra : ℕ) (b : PlacedOperand) (ys : List Line) → Fits form → IsOperand b → rd < 27 → ra < 27 → Adding 5 (form_lines form o rd ra b ys) ys
-  form_adds Zero o rd ra b ys fits p h i = more_adds labels 5 (omega arith) (ending_adds o rd ra ys h i)
-  form_adds (Immediate m n) o rd ra b ys fits p h i =
-      more_adds labels 5 (omega arith) (then_adds labels (plain_adds labels k (Imm m rd ra (lower_of n)) _ (fits rd ra h i) (h, i)) (ending_adds o rd rd ys h h))
-  form_adds Registers o rd ra b ys fits p h i =
-      then_adds labels (three_adds b 6 _ (omega arith)) (apply_adds o rd ra (register_with b 6) ys h i (with_low b 6 p (omega arith)))
+  form_adds : (form : Form) (o : BinOp) (t : Place) (a b : PlacedOperand) (ys : List Line) → Fits form → IsPlace t → IsOperand a → IsOperand b → Adding 11 (form_lines form o t a b ys) ys
+  form_adds Cleared o t a b ys fits p q r = more_adds labels 11 (omega arith) (const_adds t 0 ys p)
+  form_adds Left o t a b ys fits p q r = more_adds labels 11 (omega arith) (value_adds t a ys p q)
+  form_adds Zero o t a b ys fits p q r =
+      more_adds labels 11 (omega arith)
+      (then_adds labels (three_adds a 5 _ (omega arith))
+      (then_adds labels (ending_adds o (source_of t 5) (register_with a 5) _ (source_low t 5 p (omega arith)) (with_low a 5 q (omega arith)))
+      (write_adds t 5 ys (omega arith))))
+  form_adds (Immediate m n) o t a b ys fits p q r =
+      let h : source_of t 5 < 27 = source_low t 5 p (omega arith) in
+      let i : register_with a 5 < 27 = with_low a 5 q (omega arith) in
+      more_adds labels 11 (omega arith)
+      (then_adds labels (three_adds a 5 _ (omega arith))
+      (then_adds labels (plain_adds labels k (Imm m (source_of t 5) (register_with a 5) (lower_of n)) _ (fits (source_of t 5) (register_with a 5) h i) (h, i))
+      (then_adds labels (ending_adds o (source_of t 5) (source_of t 5) _ h h) (write_adds t 5 ys (omega arith)))))
+  form_adds Registers o t a b ys fits p q r =
+      then_adds labels (three_adds a 5 _ (omega arith))
+      (then_adds labels (three_adds b 6 _ (omega arith))
+      (then_adds labels (apply_adds o (source_of t 5) (register_with a 5) (register_with b 6) _ (source_low t 5 p (omega arith)) (with_low a 5 q (omega arith)) (with_low b 6 r (omega arith)))
+      (write_adds t 5 ys (omega arith))))
 
   shift_fits : (n : ℕ) → n < 32 → IsCount (lower_of n)
   unfolding lower_of
@@ -291,12 +308,15 @@ module _ (labels k : ℕ) where
   near_form_fits true i n h = h
   near_form_fits false i n h = tt
 
-  test_form_fits : (b : Bool) (form : Form) → Fits form → Fits (if b then Zero else form)
-  test_form_fits true form h = tt
-  test_form_fits false form h = h
+  either_fits : (b : Bool) (f g : Form) → Fits f → Fits g → Fits (if b then f else g)
+  either_fits true f g h i = h
+  either_fits false f g h i = i
 
   addi_fits : (n : ℕ) → Fits (near_form Addi n)
   addi_fits n = near_form_fits (upper_of n == 0) Addi n (λ rd rs h i. (omega arith, omega arith, lower_fits n))
+
+  power_fits : (n : ℕ) → Fits (power_form n)
+  power_fits n = near_form_fits (n == 2 ^ zeros_of n) Slli (zeros_of n) (λ rd rs h i. (omega arith, omega arith, shift_fits (zeros_of n) (omega arith)))
 
   number_fits : (o : BinOp) (n : ℕ) → Fits (number_form o n)
   number_fits op.Add n = addi_fits n
@@ -309,9 +329,9 @@ module _ (labels k : ℕ) where
   number_fits op.Shl n = λ rd rs h i. (omega arith, omega arith, shift_fits (n % 32) (omega arith))
   number_fits op.ShrS n = λ rd rs h i. (omega arith, omega arith, shift_fits (n % 32) (omega arith))
   number_fits op.ShrU n = λ rd rs h i. (omega arith, omega arith, shift_fits (n % 32) (omega arith))
-  number_fits op.Eq n = test_form_fits (n == 0) (near_form Addi (negated n)) (addi_fits (negated n))
-  number_fits op.Ne n = test_form_fits (n == 0) (near_form Addi (negated n)) (addi_fits (negated n))
-  number_fits op.Mul n = tt
+  number_fits op.Eq n = either_fits (n == 0) Zero (near_form Addi (negated n)) tt (addi_fits (negated n))
+  number_fits op.Ne n = either_fits (n == 0) Zero (near_form Addi (negated n)) tt (addi_fits (negated n))
+  number_fits op.Mul n = either_fits (n == 0) Cleared (if n == 1 then Left else power_form n) tt (either_fits (n == 1) Left (power_form n) tt (power_fits n))
   number_fits op.DivS n = tt
   number_fits op.DivU n = tt
   number_fits op.RemS n = tt
@@ -323,9 +343,7 @@ module _ (labels k : ℕ) where
 
   pub bin_adds : (o : BinOp) (t : Place) (a b : PlacedOperand) (ys : List Line) → IsPlace t → IsOperand a → IsOperand b → Adding 11 (bin_lines o t a b ys) ys
   bin_adds o t a b ys p q r =
-      then_adds labels (three_adds a 5 _ (omega arith))
-      (then_adds labels (form_adds (form_of o b) o (source_of t 5) (register_with a 5) b _ (form_fits o b) r (source_low t 5 p (omega arith)) (with_low a 5 q (omega arith)))
-      (write_adds t 5 ys (omega arith)))
+      either_adds labels (is_exchanged o a b) (λ e. form_adds (form_of o a) o t b a ys (form_fits o a) p r q) (λ e. form_adds (form_of o b) o t a b ys (form_fits o b) p q r)
 
   pub high_adds : (s : Bool) (t : Place) (a b : PlacedOperand) (ys : List Line) → IsPlace t → IsOperand a → IsOperand b → Adding 11 (high_lines s t a b ys) ys
   high_adds s t a b ys p q r =

@@ -1,7 +1,7 @@
 -- What operations on two operands come to.
-use Rattle.std.proofs.Common.{◌≡◌, inl, inr, ℕ, ◌+◌, ◌-◌, ◌*◌, ◌/◌, ◌%◌, ◌^◌, ◌<◌, ◌==◌, if◌then◌else◌, List, [], ◌∷◌, refl, sym, ap, subst, ◌∙◌, arith}
+use Rattle.std.proofs.Common.{◌≡◌, inl, inr, ℕ, ◌+◌, ◌-◌, ◌*◌, ◌/◌, ◌%◌, ◌^◌, ◌<◌, ◌==◌, ◌&&◌, not, if◌then◌else◌, List, [], ◌∷◌, refl, sym, ap, subst, ◌∙◌, arith}
 use Rattle.std.specs.Prelude.{Bool, true, false}
-use Rattle.std.specs.Int.{int_shr}
+use Rattle.std.specs.Int.{w32, int_shr, trailing_zeros}
 use Rattle.ckc_base.specs.Words.{signed, word_of, applied}
 use Rattle.ckc_base.specs.Products.{high_product}
 use Rattle.ckc_base.specs.declared.arithmetic.BinOp.{BinOp}
@@ -17,17 +17,19 @@ use Rattle.ckc_frame.specs.WellFormed.{IsPlace}
 use Rattle.ckc_emit.specs.declared.places.PlacedOperand.{PlacedOperand}
 use Rattle.ckc_emit.specs.declared.places.PlacedOperand.TheVariants.{At, Number}
 use Rattle.ckc_emit.specs.declared.operations.Form.{Form}
-use Rattle.ckc_emit.specs.declared.operations.Form.TheVariants.{Zero, Immediate, Registers}
+use Rattle.ckc_emit.specs.declared.operations.Form.TheVariants.{Cleared, Left, Zero, Immediate, Registers}
 use Rattle.ckc_emit.specs.code.Operands.{IsOperand}
-use Rattle.ckc_emit.specs.code.Lines.{upper_of, lower_of, source_of, register_with, operand_lines, write_lines, apply_lines, negated, number_form, ending_lines, form_lines, bin_lines, high_op, high_lines}
+use Rattle.ckc_emit.specs.code.Lines.{upper_of, lower_of, source_of, register_with, operand_lines, write_lines, const_lines, value_lines, apply_lines, negated, zeros_of, number_form, form_of, is_short, is_even, is_exchanged, ending_lines, register_lines, form_lines, bin_lines, high_op, high_lines}
 use Rattle.ckc_emit.proofs.Local.{Local}
 use Rattle.ckc_emit.proofs.Paths.{Code, Path, followed, loosened, Sets, sets_loosened}
 use Rattle.ckc_emit.proofs.Homes.{HasValue, IsFramed, Keeps, keeps_then, framed_kept, AreFrameStores, Writes, write_after, source_low, writes_loosened}
 use Rattle.ckc_emit.proofs.Sources.{read_keeps, read_has}
 use Rattle.ckc_emit.proofs.Operands.{HasOperand, operand_kept, left_register, right_register, read_operand}
-use Rattle.ckc_emit.proofs.Acting.{apply_sets, plain_sets, imm_sets, IsTest, ended_sets, zero_sets}
+use Rattle.ckc_emit.proofs.Acting.{const_writes, copy_writes, apply_sets, plain_sets, imm_sets, IsTest, ended_sets, zero_sets}
 use Rattle.ckc_emit.proofs.Splits.{near_is, negated_small, negated_is, count_is}
-use Rattle.ckc_emit.proofs.Tests.{eq_of}
+use Rattle.ckc_emit.proofs.FrameWords.{chosen}
+use Rattle.ckc_emit.proofs.Values.{even_turned, times_none, times_one}
+use Rattle.ckc_emit.proofs.Tests.{eq_of, and_first}
 
 module _ (c : Code) where
   -- Two operands were read, and all places are kept.
@@ -96,7 +98,7 @@ module _ (c : Code) where
   -- ---- operations on two operands
 
   plain_writes : (o : BinOp) (t : Place) (a b : PlacedOperand) (x y : ℕ) (rest : List Line) (l : Local) → IsFramed l → IsPlace t → IsOperand a → IsOperand b → HasOperand l a x → HasOperand l b y → x < 2 ^ 32 → y < 2 ^ 32
-      → Writes c 1 11 (operand_lines a 5 (form_lines Registers o (source_of t 5) (register_with a 5) b (write_lines t 5 rest))) rest l t (applied o x y)
+      → Writes c 1 11 (register_lines o t a b rest) rest l t (applied o x y)
   plain_writes o t a b x y rest l f ht ha hb ex ey fx fy =
       let mid = apply_lines o (source_of t 5) (register_with a 5) (register_with b 6) (write_lines t 5 rest) in
       let xs = operand_lines a 5 (operand_lines b 6 mid) in
@@ -106,6 +108,13 @@ module _ (c : Code) where
       sourced_then 6 1 5 xs mid rest l (register_with a 5) x (register_with b 6) y t (applied o x y) s
       (write_after c 1 2 mid t (applied o x y) rest s.next framed ht
       (apply_sets c o (source_of t 5) (register_with a 5) (register_with b 6) x y (write_lines t 5 rest) s.next low.0 low.1 (left_register a ha).0 (right_register b hb) framed.zero s.left s.right fx fy))
+
+  -- a place gets the value of an operand
+  value_writes : (t : Place) (a : PlacedOperand) (x : ℕ) (rest : List Line) (l : Local) → IsFramed l → IsPlace t → IsOperand a → HasOperand l a x → x < 2 ^ 32 → Writes c 1 6 (value_lines t a rest) rest l t x
+  value_writes t (At p) x rest l f ht ha ex fx = copy_writes c t p x rest l f ht ha ex fx
+  value_writes t (Number n) x rest l f ht ha ex fx =
+      subst (λ v. Writes c 1 6 (const_lines t n rest) rest l t v) ex
+      (writes_loosened c 1 5 1 6 (const_lines t n rest) rest l t n (omega arith) (omega arith) (const_writes c t n rest l f ht ha))
 
   -- an operand was read, and what sets the register of the target then comes to the value
   one_writes : (t : Place) (a : PlacedOperand) (x v : ℕ) (mid rest : List Line) (l : Local) → IsFramed l → IsPlace t → IsOperand a → HasOperand l a x → x < 2 ^ 32
@@ -129,7 +138,7 @@ module _ (c : Code) where
     after = write_lines t 5 rest
 
     abbrev Formed : Form → BinOp → Type 0
-    Formed form o = Writes c 1 11 (operand_lines a 5 (form_lines form o rd ra (Number n) after)) rest l t (applied o x n)
+    Formed form o = Writes c 1 11 (form_lines form o t a (Number n) rest) rest l t (applied o x n)
 
     by_registers : (o : BinOp) → Formed Registers o
     by_registers o = plain_writes o t a (Number n) x n rest l f ht ha fits ex refl fx fits
@@ -139,7 +148,7 @@ module _ (c : Code) where
     by_immediate o i k none e =
         let low = source_low c t ht in
         let z = lower_of k in
-        one_writes t a x (applied o x n) (form_lines (Immediate i k) o rd ra (Number n) after) rest l f ht ha ex fx (λ m zero_is left.
+        one_writes t a x (applied o x n) (Plain (Imm i rd ra z) ∷ ending_lines o rd rd after) rest l f ht ha ex fx (λ m zero_is left.
         subst (λ ys. Sets c 1 2 (Plain (Imm i rd ra z) ∷ ys) after m rd (applied o x n)) (sym (none after))
         (sets_loosened c 1 1 1 2 (Plain (Imm i rd ra z) ∷ after) after m rd (applied o x n) (omega arith) (omega arith)
         (imm_sets c i rd ra x (applied o x n) z after m low.0 low.1 (left_register a ha).0 left e)))
@@ -149,7 +158,7 @@ module _ (c : Code) where
     by_difference o is e =
         let low = source_low c t ht in
         let z = lower_of (negated n) in
-        one_writes t a x (applied o x n) (form_lines (Immediate Addi (negated n)) o rd ra (Number n) after) rest l f ht ha ex fx (λ m zero_is left.
+        one_writes t a x (applied o x n) (Plain (Imm Addi rd ra z) ∷ ending_lines o rd rd after) rest l f ht ha ex fx (λ m zero_is left.
         sets_loosened c 2 2 1 2 (Plain (Imm Addi rd ra z) ∷ ending_lines o rd rd after) after m rd (applied o x n) (omega arith) (omega arith)
         (ended_sets c o is (Plain (Imm Addi rd ra z) ∷ ending_lines o rd rd after) rd x n after m low.0 low.1 zero_is fx fits
         (imm_sets c Addi rd ra x ((x + (2 ^ 32 - n)) % 2 ^ 32) z (ending_lines o rd rd after) m low.0 low.1 (left_register a ha).0 left
@@ -163,6 +172,22 @@ module _ (c : Code) where
         sets_loosened c 1 1 1 2 (ending_lines o rd ra after) after m rd (applied o x n) (omega arith) (omega arith)
         (subst (λ k. Sets c 1 1 (ending_lines o rd ra after) after m rd (applied o x k)) (sym e) (zero_sets c o is rd ra x after m low.0 low.1 (left_register a ha).0 zero_is left)))
 
+    -- a product with 0, with 1, with a power of two
+    by_clearing : n ≡ 0 → Formed Cleared op.Mul
+    by_clearing e =
+        subst (λ v. Writes c 1 11 (const_lines t 0 rest) rest l t v) (times_none x n e)
+        (writes_loosened c 1 5 1 11 (const_lines t 0 rest) rest l t 0 (omega arith) (omega arith) (const_writes c t 0 rest l f ht (omega arith)))
+
+    by_left : n ≡ 1 → Formed Left op.Mul
+    by_left e =
+        subst (λ v. Writes c 1 11 (value_lines t a rest) rest l t v) (times_one x n fx e)
+        (writes_loosened c 1 6 1 11 (value_lines t a rest) rest l t x (omega arith) (omega arith) (value_writes t a x rest l f ht ha ex fx))
+
+    by_shift : n ≡ 2 ^ zeros_of n → Formed (Immediate Slli (zeros_of n)) op.Mul
+    by_shift e =
+        by_immediate op.Mul Slli (zeros_of n) (λ ys. refl)
+        (ap (λ k. (x * 2 ^ k) % 2 ^ 32) (count_is (trailing_zeros w32 n)) ∙ ap (λ m. (x * m) % 2 ^ 32) (sym e))
+
     by_near : (b : Bool) (o : BinOp) (i : ImmOp) (k : ℕ) → (upper_of k == 0) ≡ b → k < 2 ^ 32 → ((ys : List Line) → ending_lines o rd rd ys ≡ ys) → reg_value (reg_form i) x k ≡ applied o x n
         → Formed (if b then Immediate i k else Registers) o
     by_near true o i k e small none same =
@@ -174,6 +199,13 @@ module _ (c : Code) where
     by_test true d o is e g = by_zero o is (eq_of n 0 e)
     by_test false true o is e g = by_difference o is (near_is (negated n) (negated_small n) (eq_of (upper_of (negated n)) 0 g))
     by_test false false o is e g = by_registers o
+
+    by_product : (b d g : Bool) → (n == 0) ≡ b → (n == 1) ≡ d → (n == 2 ^ zeros_of n) ≡ g
+        → Formed (if b then Cleared else (if d then Left else (if g then Immediate Slli (zeros_of n) else Registers))) op.Mul
+    by_product true d g e h i = by_clearing (eq_of n 0 e)
+    by_product false true g e h i = by_left (eq_of n 1 h)
+    by_product false false true e h i = by_shift (eq_of n (2 ^ zeros_of n) i)
+    by_product false false false e h i = by_registers op.Mul
 
     number_writes : (o : BinOp) → Formed (number_form o n) o
     number_writes op.Add = by_near (upper_of n == 0) op.Add Addi n refl fits (λ ys. refl) refl
@@ -188,17 +220,27 @@ module _ (c : Code) where
     number_writes op.ShrU = by_immediate op.ShrU Srli (n % 32) (λ ys. refl) (ap (λ k. x / 2 ^ k) (count_is n))
     number_writes op.Eq = by_test (n == 0) (upper_of (negated n) == 0) op.Eq (inl refl) refl refl
     number_writes op.Ne = by_test (n == 0) (upper_of (negated n) == 0) op.Ne (inr refl) refl refl
-    number_writes op.Mul = by_registers op.Mul
+    number_writes op.Mul = by_product (n == 0) (n == 1) (n == 2 ^ zeros_of n) refl refl refl
     number_writes op.DivS = by_registers op.DivS
     number_writes op.DivU = by_registers op.DivU
     number_writes op.RemS = by_registers op.RemS
     number_writes op.RemU = by_registers op.RemU
 
+  -- the operands stand in this order
+  ordered_writes : (o : BinOp) (t : Place) (a b : PlacedOperand) (x y : ℕ) (rest : List Line) (l : Local) → IsFramed l → IsPlace t → IsOperand a → IsOperand b → HasOperand l a x → HasOperand l b y → x < 2 ^ 32 → y < 2 ^ 32
+      → Writes c 1 11 (form_lines (form_of o b) o t a b rest) rest l t (applied o x y)
+  ordered_writes o t a (At p) x y rest l f ht ha hb ex ey fx fy = plain_writes o t a (At p) x y rest l f ht ha hb ex ey fx fy
+  ordered_writes o t a (Number n) x y rest l f ht ha hb ex ey fx fy =
+      subst (λ k. Writes c 1 11 (form_lines (number_form o n) o t a (Number n) rest) rest l t (applied o x k)) ey (number_writes t a x n rest l f ht ha ex fx hb o)
+
   pub bin_writes : (o : BinOp) (t : Place) (a b : PlacedOperand) (x y : ℕ) (rest : List Line) (l : Local) → IsFramed l → IsPlace t → IsOperand a → IsOperand b → HasOperand l a x → HasOperand l b y → x < 2 ^ 32 → y < 2 ^ 32
       → Writes c 1 11 (bin_lines o t a b rest) rest l t (applied o x y)
-  bin_writes o t a (At p) x y rest l f ht ha hb ex ey fx fy = plain_writes o t a (At p) x y rest l f ht ha hb ex ey fx fy
-  bin_writes o t a (Number n) x y rest l f ht ha hb ex ey fx fy =
-      subst (λ k. Writes c 1 11 (bin_lines o t a (Number n) rest) rest l t (applied o x k)) ey (number_writes t a x n rest l f ht ha ex fx hb o)
+  bin_writes o t a b x y rest l f ht ha hb ex ey fx fy =
+      let exchanged = form_lines (form_of o a) o t b a rest in
+      chosen (λ xs. Writes c 1 11 xs rest l t (applied o x y)) (is_exchanged o a b) exchanged (form_lines (form_of o b) o t a b rest)
+      (λ e. subst (λ v. Writes c 1 11 exchanged rest l t v) (even_turned o x y (and_first (is_even o) (is_short (form_of o a)) (and_first (is_even o && is_short (form_of o a)) (not (is_short (form_of o b))) e)))
+      (ordered_writes o t b a y x rest l f ht hb ha ey ex fy fx))
+      (λ e. ordered_writes o t a b x y rest l f ht ha hb ex ey fx fy)
 
   high_value : (is_signed : Bool) (x y : ℕ) → reg_value (high_op is_signed) x y ≡ high_product is_signed x y
   high_value true x y = refl

@@ -1,13 +1,17 @@
--- What comparisons with zero decide, and that upper words of products are words.
-use Rattle.std.proofs.Common.{◌≡◌, ℕ, ◌+◌, ◌-◌, ◌*◌, ◌/◌, ◌%◌, ◌^◌, ◌≤◌, ◌<◌, ◌==◌, nat_lt, not, Bool, true, false, arith}
+-- What comparisons with zero decide, operations with their operands exchanged, products with 0 and 1, and that upper words of products are words.
+use Rattle.std.proofs.Common.{◌≡◌, ℕ, ◌+◌, ◌-◌, ◌*◌, ◌/◌, ◌%◌, ◌^◌, ◌≤◌, ◌<◌, ◌==◌, nat_lt, not, Bool, true, false, sym, ap, subst, arith}
 use Rattle.std.specs.Prelude.{ℤ, pos, negsuc, unsigned_abs, ◌*ℤ◌}
 use Rattle.std.specs.Int.{int_shr}
 use Rattle.std.proofs.lemmas.Int.{ints, unsigned_abs-mul}
 use Rattle.std.proofs.lemmas.Bool.Decides.{nat_tests}
-use Rattle.std.proofs.Math.Nat.{mul-le-mul_left, mul-le-mul_right}
-use Rattle.ckc_base.specs.Words.{signed, word_of}
+use Rattle.std.proofs.lemmas.Nat.{and_comm, or_comm, xor_comm}
+use Rattle.std.proofs.Math.Nat.{mul_comm, mul-le-mul_left, mul-le-mul_right}
+use Rattle.ckc_base.specs.declared.arithmetic.BinOp.{BinOp}
+use Rattle.ckc_base.specs.declared.arithmetic.BinOp.TheVariants as op
+use Rattle.ckc_base.specs.Words.{flag, signed, word_of, applied}
 use Rattle.ckc_base.specs.Products.{high_product}
 use Rattle.ckc_base.proofs.WordValues.{natural_word}
+use Rattle.ckc_emit.specs.code.Lines.{is_even}
 
 -- two words are equal if their difference is zero
 pub equal_flag : (x y : ℕ) → x < 2 ^ 32 → y < 2 ^ 32 → nat_lt ((x + (2 ^ 32 - y)) % 2 ^ 32) 1 ≡ (x == y)
@@ -21,6 +25,41 @@ zero_flag x = grind (arith, nat_tests)
 
 pub some_flag : (x : ℕ) → nat_lt 0 x ≡ not (x == 0)
 some_flag x = grind (arith, nat_tests)
+
+-- ---- operations that give the same with their operands exchanged
+
+eq_turned : (x y : ℕ) → (x == y) ≡ (y == x)
+eq_turned x y = grind (arith, nat_tests)
+
+unlike : {X : Type 0} → false ≡ true → X
+unlike e = absurd cc
+
+pub even_turned : (o : BinOp) (x y : ℕ) → is_even o ≡ true → applied o y x ≡ applied o x y
+even_turned op.Add x y e = omega arith
+even_turned op.Mul x y e = ap (λ n. n % 2 ^ 32) (mul_comm y x)
+even_turned op.And x y e = and_comm y x
+even_turned op.Or x y e = or_comm y x
+even_turned op.Xor x y e = xor_comm y x
+even_turned op.Eq x y e = ap flag (eq_turned y x)
+even_turned op.Ne x y e = ap (λ b. flag (not b)) (eq_turned y x)
+even_turned op.Sub x y e = unlike e
+even_turned op.DivS x y e = unlike e
+even_turned op.DivU x y e = unlike e
+even_turned op.RemS x y e = unlike e
+even_turned op.RemU x y e = unlike e
+even_turned op.Shl x y e = unlike e
+even_turned op.ShrS x y e = unlike e
+even_turned op.ShrU x y e = unlike e
+even_turned op.LtS x y e = unlike e
+even_turned op.LtU x y e = unlike e
+
+-- ---- products with 0 and 1
+
+pub times_none : (x n : ℕ) → n ≡ 0 → 0 ≡ applied op.Mul x n
+times_none x n e = subst (λ k. 0 ≡ (x * k) % 2 ^ 32) (sym e) (omega arith)
+
+pub times_one : (x n : ℕ) → x < 2 ^ 32 → n ≡ 1 → x ≡ applied op.Mul x n
+times_one x n h e = subst (λ k. x ≡ (x * k) % 2 ^ 32) (sym e) (omega arith)
 
 -- ---- upper words of products
 

@@ -1,9 +1,9 @@
 //! The lines of operations without a call.
-ghost use Rattle.std.specs.Prelude.{◌≡◌, OnOk};
+ghost use Rattle.std.specs.Prelude.{◌≡◌, ◌<◌, ◌^◌, OnOk};
 ghost use Rattle.ckc_frame.specs.WellFormed.{IsPlace};
 ghost use Rattle.ckc_emit.specs.code.Emitting.{Emits};
 ghost use Rattle.ckc_emit.specs.code.Operands.{IsOperand};
-ghost use Rattle.ckc_emit.specs.code.Lines.{const_lines, copy_lines, bin_lines, form_lines, form_of, number_form as number_form_of, near_form as near_form_of, immediate_lines, ending_lines, apply_lines, operation_of, high_lines, load_op, store_op, data_load_lines, data_store_lines, test_lines, get_lines, put_lines};
+ghost use Rattle.ckc_emit.specs.code.Lines.{const_lines, copy_lines, value_lines, bin_lines, form_lines, form_of, is_short as is_short_of, is_even as is_even_of, is_exchanged as is_exchanged_of, number_form as number_form_of, near_form as near_form_of, zeros_of, power_form as power_form_of, product_form as product_form_of, zero_lines, immediate_lines, register_lines, ending_lines, apply_lines, operation_of, high_lines, load_op, store_op, data_load_lines, data_store_lines, test_lines, get_lines, put_lines};
 
 use crate::places::{
     PlacedOperand, put_fetch, put_operand, put_settle, put_take, put_write, register_of_operand,
@@ -41,13 +41,37 @@ pub fn put_copy(out: &mut Vec<Line>, t: Place, a: Place) -> Result<(), AllocErro
     }
 }
 
-/// How an operation on a register and an operand is done: by the end of a comparison with zero alone, with an immediate,
-/// or on two registers.
+/// A place gets the value of an operand.
+fn put_value(out: &mut Vec<Line>, t: Place, a: PlacedOperand) -> Result<(), AllocError>
+    requires t { IsPlace t }
+    requires a { IsOperand a }
+    ensures { OnOk result (Emits out.old.items out.new.items (value_lines t a)) }
+{
+    match a {
+        PlacedOperand::At(p) => put_copy(out, t, p),
+        PlacedOperand::Number(n) => put_const(out, t, n),
+    }
+}
+
+/// How an operation on two operands is done: its value is 0, or its left operand; or it is done by the end of a
+/// comparison with zero alone, with an immediate, or on two registers.
 #[derive(Clone, Copy)]
 pub enum Form {
+    Cleared,
+    Left,
     Zero,
     Immediate(ImmOp, u32),
     Registers,
+}
+
+/// Whether no second register is read.
+fn is_short(form: Form) -> bool
+    ensures { result ≡ is_short_of form }
+{
+    match form {
+        Form::Registers => false,
+        _ => true,
+    }
 }
 
 fn near_form(op: ImmOp, n: u32) -> Form
@@ -57,6 +81,38 @@ fn near_form(op: ImmOp, n: u32) -> Form
         Form::Immediate(op, n)
     } else {
         Form::Registers
+    }
+}
+
+fn power(k: u32) -> u32
+    requires { k < 32 }
+    ensures { result ≡ 2 ^ k }
+{
+    1 << k
+}
+
+/// The form of a product with a power of two.
+fn power_form(n: u32) -> Form
+    ensures { result ≡ power_form_of n }
+{
+    let k = n.trailing_zeros() % 32;
+    if n == power(k) {
+        Form::Immediate(ImmOp::Slli, k)
+    } else {
+        Form::Registers
+    }
+}
+
+/// The form of a product with a number.
+fn product_form(n: u32) -> Form
+    ensures { result ≡ product_form_of n }
+{
+    if n == 0 {
+        Form::Cleared
+    } else if n == 1 {
+        Form::Left
+    } else {
+        power_form(n)
     }
 }
 
@@ -89,7 +145,8 @@ fn number_form(op: BinOp, n: u32) -> Form
                 near_form(ImmOp::Addi, n.wrapping_neg())
             }
         }
-        BinOp::Mul | BinOp::DivS | BinOp::DivU | BinOp::RemS | BinOp::RemU => Form::Registers,
+        BinOp::Mul => product_form(n),
+        BinOp::DivS | BinOp::DivU | BinOp::RemS | BinOp::RemU => Form::Registers,
     }
 }
 
@@ -100,6 +157,24 @@ fn form_for(op: BinOp, b: PlacedOperand) -> Form
         PlacedOperand::At(_) => Form::Registers,
         PlacedOperand::Number(n) => number_form(op, n),
     }
+}
+
+/// Whether an operation gives the same with its operands exchanged.
+fn is_even(op: BinOp) -> bool
+    ensures { result ≡ is_even_of op }
+{
+    match op {
+        BinOp::Add | BinOp::Mul | BinOp::And | BinOp::Or | BinOp::Xor | BinOp::Eq | BinOp::Ne =>
+            true,
+        _ => false,
+    }
+}
+
+/// Whether the operands are exchanged: if the left one alone has a short form on the right.
+fn is_exchanged(op: BinOp, a: PlacedOperand, b: PlacedOperand) -> bool
+    ensures { result ≡ is_exchanged_of op a b }
+{
+    is_even(op) && is_short(form_for(op, a)) && !is_short(form_for(op, b))
 }
 
 /// A place gets the value of an operation on two operands.
@@ -115,45 +190,84 @@ pub fn put_bin(
     requires b { IsOperand b }
     ensures { OnOk result (Emits out.old.items out.new.items (bin_lines op t a b)) }
 {
-    put_operand(out, a, 5)?;
-    let how = form_for(op, b);
-    put_form(out, how, op, source(t, 5), register_of_operand(a, 5), b)?;
-    put_write(out, t, 5)
+    if is_exchanged(op, a, b) {
+        put_form(out, form_for(op, a), op, t, b, a)
+    } else {
+        put_form(out, form_for(op, b), op, t, a, b)
+    }
 }
 
 fn put_form(
     out: &mut Vec<Line>,
     form: Form,
     op: BinOp,
-    rd: u8,
-    ra: u8,
+    t: Place,
+    a: PlacedOperand,
     b: PlacedOperand,
 ) -> Result<(), AllocError>
-    requires { IsOperand b }
-    ensures { OnOk result (Emits out.old.items out.new.items (form_lines form op rd ra b)) }
+    requires t { IsPlace t }
+    requires a { IsOperand a }
+    requires b { IsOperand b }
+    ensures { OnOk result (Emits out.old.items out.new.items (form_lines form op t a b)) }
 {
     match form {
-        Form::Zero => put_ending(out, op, rd, ra),
-        Form::Immediate(i, n) => put_immediate(out, i, n, op, rd, ra),
-        Form::Registers => {
-            put_operand(out, b, 6)?;
-            put_apply(out, op, rd, ra, register_of_operand(b, 6))
-        }
+        Form::Cleared => put_const(out, t, 0),
+        Form::Left => put_value(out, t, a),
+        Form::Zero => put_zero(out, op, t, a),
+        Form::Immediate(i, n) => put_immediate(out, i, n, op, t, a),
+        Form::Registers => put_registers(out, op, t, a, b),
     }
 }
 
+/// A comparison with zero.
+fn put_zero(out: &mut Vec<Line>, op: BinOp, t: Place, a: PlacedOperand) -> Result<(), AllocError>
+    requires t { IsPlace t }
+    requires a { IsOperand a }
+    ensures { OnOk result (Emits out.old.items out.new.items (zero_lines op t a)) }
+{
+    put_operand(out, a, 5)?;
+    put_ending(out, op, source(t, 5), register_of_operand(a, 5))?;
+    put_write(out, t, 5)
+}
+
+/// An operation with an immediate.
 fn put_immediate(
     out: &mut Vec<Line>,
     i: ImmOp,
     n: u32,
     op: BinOp,
-    rd: u8,
-    ra: u8,
+    t: Place,
+    a: PlacedOperand,
 ) -> Result<(), AllocError>
-    ensures { OnOk result (Emits out.old.items out.new.items (immediate_lines i n op rd ra)) }
+    requires t { IsPlace t }
+    requires a { IsOperand a }
+    ensures { OnOk result (Emits out.old.items out.new.items (immediate_lines i n op t a)) }
 {
-    put(out, immediate(i, rd, ra, n))?;
-    put_ending(out, op, rd, rd)
+    let rd = source(t, 5);
+    put_operand(out, a, 5)?;
+    put(out, immediate(i, rd, register_of_operand(a, 5), n))?;
+    put_ending(out, op, rd, rd)?;
+    put_write(out, t, 5)
+}
+
+/// An operation on two registers.
+fn put_registers(
+    out: &mut Vec<Line>,
+    op: BinOp,
+    t: Place,
+    a: PlacedOperand,
+    b: PlacedOperand,
+) -> Result<(), AllocError>
+    requires t { IsPlace t }
+    requires a { IsOperand a }
+    requires b { IsOperand b }
+    ensures { OnOk result (Emits out.old.items out.new.items (register_lines op t a b)) }
+{
+    put_operand(out, a, 5)?;
+    put_operand(out, b, 6)?;
+    let (ra, rb) = (register_of_operand(a, 5), register_of_operand(b, 6));
+    put_apply(out, op, source(t, 5), ra, rb)?;
+    put_write(out, t, 5)
 }
 
 /// The end of a test for equality: whether a difference is zero, or not.

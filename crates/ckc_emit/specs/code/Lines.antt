@@ -1,6 +1,7 @@
 -- The lines that are emitted for each piece of placed code, each in front of the lines that follow it. The code is
 -- proved against these; what they come to is said of the machine that runs them (specs/Promise.antt).
-use Rattle.std.specs.Prelude.{ℕ, ◌+◌, ◌-◌, ◌*◌, ◌%◌, ◌^◌, ◌==◌, ◌||◌, Bool, true, false, if◌then◌else◌, pos, List, ◌∷◌}
+use Rattle.std.specs.Prelude.{ℕ, ◌+◌, ◌-◌, ◌*◌, ◌%◌, ◌^◌, ◌==◌, ◌&&◌, ◌||◌, not, Bool, true, false, if◌then◌else◌, pos, List, ◌∷◌}
+use Rattle.std.specs.Int.{w32, trailing_zeros}
 use Rattle.ckc_base.specs.declared.arithmetic.BinOp.{BinOp}
 use Rattle.ckc_base.specs.declared.arithmetic.BinOp.TheVariants as op
 use Rattle.ckc_base.specs.declared.arithmetic.Width.{Width}
@@ -29,7 +30,7 @@ pub use Rattle.ckc_emit_templates.specs.code.Saved.{register_of}
 use Rattle.ckc_emit.specs.declared.places.PlacedOperand.{PlacedOperand}
 use Rattle.ckc_emit.specs.declared.places.PlacedOperand.TheVariants.{At, Number}
 use Rattle.ckc_emit.specs.declared.operations.Form.{Form}
-use Rattle.ckc_emit.specs.declared.operations.Form.TheVariants.{Zero, Immediate, Registers}
+use Rattle.ckc_emit.specs.declared.operations.Form.TheVariants.{Cleared, Left, Zero, Immediate, Registers}
 
 -- ---- stops
 
@@ -106,6 +107,11 @@ abbrev pub copy_lines : Place → Place → List Line → List Line
 copy_lines t (place.Reg k) rest = settle_lines t (register_of k) rest
 copy_lines t (place.Slot k) rest = load_lines (source_of t 5) 2 (k * 4 + 64) (write_lines t 5 rest)
 
+-- a place gets the value of an operand
+abbrev pub value_lines : Place → PlacedOperand → List Line → List Line
+value_lines t (At p) rest = copy_lines t p rest
+value_lines t (Number n) rest = const_lines t n rest
+
 -- the instruction of an operation that has one
 abbrev pub operation_of : BinOp → RegOp
 operation_of op.Add = Add
@@ -139,6 +145,17 @@ negated n = (2 ^ 32 - n) % 2 ^ 32
 abbrev pub near_form : ImmOp → ℕ → Form
 near_form i n = if upper_of n == 0 then Immediate i n else Registers
 
+-- how many zeros a number other than 0 ends in
+abbrev pub zeros_of : ℕ → ℕ
+zeros_of n = trailing_zeros w32 n % 32
+
+-- a product with a power of two is a shift
+abbrev pub power_form : ℕ → Form
+power_form n = if n == 2 ^ zeros_of n then Immediate Slli (zeros_of n) else Registers
+
+abbrev pub product_form : ℕ → Form
+product_form n = if n == 0 then Cleared else (if n == 1 then Left else power_form n)
+
 -- How an operation with a number on its right is done. Shifts are by the number modulo 32, and a comparison with zero
 -- needs no difference.
 abbrev pub number_form : BinOp → ℕ → Form
@@ -154,11 +171,32 @@ number_form op.ShrS n = Immediate Srai (n % 32)
 number_form op.ShrU n = Immediate Srli (n % 32)
 number_form op.Eq n = if n == 0 then Zero else near_form Addi (negated n)
 number_form op.Ne n = if n == 0 then Zero else near_form Addi (negated n)
+number_form op.Mul n = product_form n
 number_form o n = Registers
 
 abbrev pub form_of : BinOp → PlacedOperand → Form
 form_of o (At p) = Registers
 form_of o (Number n) = number_form o n
+
+-- no second register is read
+abbrev pub is_short : Form → Bool
+is_short Registers = false
+is_short form = true
+
+-- the operation gives the same with its operands exchanged
+abbrev pub is_even : BinOp → Bool
+is_even op.Add = true
+is_even op.Mul = true
+is_even op.And = true
+is_even op.Or = true
+is_even op.Xor = true
+is_even op.Eq = true
+is_even op.Ne = true
+is_even o = false
+
+-- the operands are exchanged if the left one alone has a short form on the right
+abbrev pub is_exchanged : BinOp → PlacedOperand → PlacedOperand → Bool
+is_exchanged o a b = is_even o && is_short (form_of o a) && not (is_short (form_of o b))
 
 -- the end of a test for equality: whether a difference is zero, or not
 abbrev pub ending_lines : BinOp → ℕ → ℕ → List Line → List Line
@@ -166,21 +204,38 @@ ending_lines op.Eq rd rs rest = Plain (Imm Sltiu rd rs (pos 1)) ∷ rest
 ending_lines op.Ne rd rs rest = Plain (Reg Sltu rd 0 rs) ∷ rest
 ending_lines o rd rs rest = rest
 
--- an operation with an immediate
-abbrev pub immediate_lines : ImmOp → ℕ → BinOp → ℕ → ℕ → List Line → List Line
-immediate_lines i n o rd ra rest = Plain (immediate_of i rd ra n) ∷ ending_lines o rd rd rest
+-- a comparison with zero
+abbrev pub zero_lines : BinOp → Place → PlacedOperand → List Line → List Line
+zero_lines o t a rest =
+    operand_lines a 5 (ending_lines o (source_of t 5) (register_with a 5) (write_lines t 5 rest))
 
--- an operation on a register and an operand
-abbrev pub form_lines : Form → BinOp → ℕ → ℕ → PlacedOperand → List Line → List Line
-form_lines Zero o rd ra b rest = ending_lines o rd ra rest
-form_lines (Immediate i n) o rd ra b rest = immediate_lines i n o rd ra rest
-form_lines Registers o rd ra b rest =
-    operand_lines b 6 (apply_lines o rd ra (register_with b 6) rest)
+-- an operation with an immediate
+abbrev pub immediate_lines : ImmOp → ℕ → BinOp → Place → PlacedOperand → List Line → List Line
+immediate_lines i n o t a rest =
+    operand_lines a 5
+    (Plain (immediate_of i (source_of t 5) (register_with a 5) n) ∷
+    ending_lines o (source_of t 5) (source_of t 5) (write_lines t 5 rest))
+
+-- an operation on two registers
+abbrev pub register_lines : BinOp → Place → PlacedOperand → PlacedOperand → List Line → List Line
+register_lines o t a b rest =
+    operand_lines a 5
+    (operand_lines b 6
+    (apply_lines o (source_of t 5) (register_with a 5) (register_with b 6)
+    (write_lines t 5 rest)))
+
+-- an operation with an operand on its right that has a form
+abbrev pub form_lines : Form → BinOp → Place → PlacedOperand → PlacedOperand → List Line → List Line
+form_lines Cleared o t a b rest = const_lines t 0 rest
+form_lines Left o t a b rest = value_lines t a rest
+form_lines Zero o t a b rest = zero_lines o t a rest
+form_lines (Immediate i n) o t a b rest = immediate_lines i n o t a rest
+form_lines Registers o t a b rest = register_lines o t a b rest
 
 abbrev pub bin_lines : BinOp → Place → PlacedOperand → PlacedOperand → List Line → List Line
 bin_lines o t a b rest =
-    operand_lines a 5
-    (form_lines (form_of o b) o (source_of t 5) (register_with a 5) b (write_lines t 5 rest))
+    if is_exchanged o a b then form_lines (form_of o a) o t b a rest
+    else form_lines (form_of o b) o t a b rest
 
 abbrev pub high_op : Bool → RegOp
 high_op true = Mulh
