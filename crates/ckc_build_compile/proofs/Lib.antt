@@ -1,4 +1,5 @@
 pub mod Composed
+mod Passing
 pub mod Events
 pub mod Confining
 pub mod Layers

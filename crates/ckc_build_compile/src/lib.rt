@@ -2,6 +2,8 @@
 //! these parts follows the meaning of the program.
 #![tactic(auto)]
 
+mod passes;
 mod program;
 
+pub use passes::passed;
 pub use program::compile;

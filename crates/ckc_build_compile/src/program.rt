@@ -19,6 +19,7 @@ ghost use Rattle.ckc_build_compile.specs.code.Layers.{HasCore};
 ghost use Rattle.ckc_build_compile.specs.Compiled.{FollowsSource, machine_parts};
 ghost use Rattle.ckc_build_compile.specs.Confined.{ConfinesStores, NeverFaults};
 
+use crate::passes::passed;
 use ckc_asm_lines::assemble;
 use ckc_assign::assign;
 use ckc_checks::insert;
@@ -55,11 +56,12 @@ fn placed(alloc: Global, p: &Program) -> Result<Placed, AllocError>
     ensures size { IfOk result (λ q. program_size q ≤ program_weight (program_of p.now)) }
     ensures initial { IfOk result (λ q. length q.initial ≤ longest_statics) }
     ensures follows { IfOk result (λ q. (input : List ℕ) → AreBytes input →
-        Follows (source (program_of p.now) input) (placed_meaning q input) 400005) }
-    ensures detail { IfOk result (λ q. HasCore (program_of p.now) (placed_detail q) 5) }
+        Follows (source (program_of p.now) input) (placed_meaning q input) 400009) }
+    ensures detail { IfOk result (λ q. HasCore (program_of p.now) (placed_detail q) 9) }
 {
     let t = lowered(alloc, p)?;
-    let q = assign(alloc, &t)?;
+    let after = passed(alloc, &t)?;
+    let q = assign(alloc, &after)?;
     Ok(q)
 }
 

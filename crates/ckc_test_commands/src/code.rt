@@ -1,22 +1,26 @@
 //! What a program's code does.
-ghost use Rattle.std.specs.Prelude.{◌≡◌, length};
+ghost use Rattle.std.specs.Prelude.{◌≡◌, ◌≤◌, length, IfOk};
 ghost use Rattle.ckc_core.specs.Code.{program_of};
 ghost use Rattle.ckc_core.specs.WellFormed.{IsWellFormed};
 ghost use Rattle.ckc_core.specs.Limits.{IsWithinLimits};
+ghost use Rattle.ckc_tac.specs.Sizes.{program_size};
+ghost use Rattle.ckc_tac.specs.WellFormed as tac;
 
 use crate::sizes::size_of;
 use ckc_asm_lines::assemble;
 use ckc_assign::assign;
 use ckc_base::check_name;
+use ckc_build_compile::passed;
 use ckc_core::Core;
 use ckc_emit::emit;
 use ckc_image::{Parts, View, write};
 use ckc_lower::lower;
 use ckc_machine::{Machine, Observed};
 use ckc_outside::{MemSink, MemSource};
+use ckc_tac::Tac;
 use ckc_test_code::{TextFault, program, with_moves};
 use ckc_test_trials::{Judge, Page};
-use std::alloc::Global;
+use std::alloc::{AllocError, Global};
 
 /// How many instructions a run may take.
 const LIMIT: u64 = 3_000_000;
@@ -28,9 +32,10 @@ pub struct Runs;
 impl Judge for Runs {
     fn answer(&self, kind: &str, given: &[Vec<u8>], page: &mut Page) {
         match (kind, given) {
-            ("run", [text, input]) => put_run(text.as_slice(), &[], input.as_slice(), page),
+            ("run", [text, input]) => put_both(text.as_slice(), input.as_slice(), page),
             ("places", [text, places, input]) => {
-                put_run(text.as_slice(), places.as_slice(), input.as_slice(), page)
+                let places = Some(places.as_slice());
+                put_run(text.as_slice(), places, input.as_slice(), page)
             }
             ("compare", [text, places, input]) => {
                 compare(text.as_slice(), places.as_slice(), input.as_slice(), page)
@@ -44,8 +49,8 @@ impl Judge for Runs {
 fn compare(text: &[u8], places: &[u8], input: &[u8], page: &mut Page) {
     let mut one = Page::new(page.alloc());
     let mut other = Page::new(page.alloc());
-    put_run(text, &[], input, &mut one);
-    put_run(text, places, input, &mut other);
+    put_run(text, Some(&[]), input, &mut one);
+    put_run(text, Some(places), input, &mut other);
     if let Some(why) = one.wrong() {
         page.refuse(why);
     }
@@ -59,7 +64,21 @@ fn compare(text: &[u8], places: &[u8], input: &[u8], page: &mut Page) {
     });
 }
 
-fn put_run(text: &[u8], places: &[u8], input: &[u8], page: &mut Page) {
+/// What a program does, which is to be the same with and without the passes.
+fn put_both(text: &[u8], input: &[u8], page: &mut Page) {
+    let mut other = Page::new(page.alloc());
+    put_run(text, Some(&[]), input, page);
+    put_run(text, None, input, &mut other);
+    if let Some(why) = other.wrong() {
+        page.refuse(why);
+    }
+    if page.bytes() != other.bytes() {
+        page.refuse("another answer after the passes");
+    }
+}
+
+/// Runs a program without the passes and with these places, or with the passes.
+fn put_run(text: &[u8], places: Option<&[u8]>, input: &[u8], page: &mut Page) {
     match parts_of(page.alloc(), text, places) {
         Ok(Some(parts)) => put_image(&parts, input, page),
         Ok(None) => page.refuse("a program that is too large"),
@@ -68,13 +87,13 @@ fn put_run(text: &[u8], places: &[u8], input: &[u8], page: &mut Page) {
     }
 }
 
-fn parts_of(alloc: Global, text: &[u8], places: &[u8]) -> Result<Option<Parts>, TextFault> {
+fn parts_of(alloc: Global, text: &[u8], places: Option<&[u8]>) -> Result<Option<Parts>, TextFault> {
     let core = program(alloc, text)?;
     compiled(alloc, &core, places)
 }
 
-/// The parts that a program is compiled to with these places, if it is not too large.
-fn compiled(alloc: Global, core: &Core, places: &[u8]) -> Result<Option<Parts>, TextFault>
+/// The parts that a program is compiled to with these places, or with the passes, if it is not too large.
+fn compiled(alloc: Global, core: &Core, places: Option<&[u8]>) -> Result<Option<Parts>, TextFault>
     requires whole { IsWellFormed (program_of core.now) }
     requires limits { IsWithinLimits (program_of core.now) }
     requires initial { length core.now.initial ≡ 8 }
@@ -82,12 +101,25 @@ fn compiled(alloc: Global, core: &Core, places: &[u8]) -> Result<Option<Parts>, 
     let tac = lower(alloc, core)?;
     match size_of(&tac) {
         Some(size) if size <= 4_000_000 => {
-            let placed = with_moves(alloc, assign(alloc, &tac)?, places)?;
+            let tac = chosen(alloc, tac, places.is_none())?;
+            let placed = with_moves(alloc, assign(alloc, &tac)?, places.unwrap_or(&[]))?;
             let lines = emit(alloc, &placed)?;
             Ok(Some(assemble(alloc, &lines)?))
         }
         _ => Ok(None),
     }
+}
+
+/// The code, after the passes if that is wanted.
+fn chosen(alloc: Global, t: Tac, passes: bool) -> Result<Tac, AllocError>
+    requires whole { tac.IsWellFormed t }
+    requires few { tac.HasFewRegisters t }
+    ensures whole { IfOk result tac.IsWellFormed }
+    ensures few { IfOk result tac.HasFewRegisters }
+    ensures size { IfOk result (λ after. program_size after ≤ program_size t) }
+    ensures initial { IfOk result (λ after. after.initial ≡ t.initial) }
+{
+    if passes { passed(alloc, &t) } else { Ok(t) }
 }
 
 /// Writes what a run of the parts shows.

@@ -13,7 +13,7 @@ const ROOM: usize = 65536;
 
 /// A case under way: the objects of the next call, the file that was named last, and what the last call left, as far as
 /// no line has told it yet. Whether its exit status was told, where the stores of a run that was watched went, if that was
-/// not told, and how many calls there were.
+/// not told, how many lines an output had, and how many calls there were.
 struct Desk<'a> {
     err_fails: &'a [u64],
     input: Vec<u8>,
@@ -26,6 +26,7 @@ struct Desk<'a> {
     err: Vec<u8>,
     told: bool,
     stores: Option<Stores>,
+    lines: Option<usize>,
     calls: u32,
 }
 
@@ -43,6 +44,7 @@ impl Drop for Desk<'_> {
             err: _err,
             told: _,
             stores: _,
+            lines: _,
             calls: _,
         } = self;
     }
@@ -102,6 +104,7 @@ impl<'a> Desk<'a> {
             err: Vec::new(alloc),
             told: true,
             stores: None,
+            lines: None,
             calls: 0,
         }
     }
@@ -116,6 +119,7 @@ impl<'a> Desk<'a> {
             "report" => self.report(rest, page),
             "watch" => self.watch(store, rest, page),
             "stores" => self.judge_stores(rest, page),
+            "lines" => self.judge_lines(page),
             "exit" | "status" | "out" | "err" => self.judge(key, rest, page),
             "|" => self.add_line(store, rest, page),
             _ => {
@@ -233,6 +237,22 @@ impl<'a> Desk<'a> {
             }
             None => page.refuse("no run was watched"),
         }
+    }
+
+    /// `lines`: judges that the output of the last call has as many lines as at each other `lines` of the case.
+    fn judge_lines(&mut self, page: &mut Page) {
+        let mut lines = 0usize;
+        for byte in self.out.as_slice() {
+            if *byte == b'\n' {
+                lines = lines.saturating_add(1);
+            }
+        }
+        want(
+            lines > 0 && (self.lines.is_none() || self.lines == Some(lines)),
+            page,
+        );
+        self.lines = Some(lines);
+        self.out.clear();
     }
 
     /// Judges the last call, of which the exit status and the stores that were watched are to be told, and begins the

@@ -1,0 +1,5 @@
+pub mod Values
+pub mod Counts
+pub mod Passes
+pub mod Rewrites
+pub mod code

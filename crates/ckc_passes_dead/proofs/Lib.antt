@@ -1,0 +1,5 @@
+pub mod Wanted
+pub mod Passing
+pub mod Outcomes
+pub mod Faithful
+pub mod Effects

@@ -1,0 +1,11 @@
+pub mod Numbering
+pub mod Meanings
+pub mod Knowing
+pub mod Computing
+pub mod Inserting
+pub mod Equal
+pub mod Noting
+pub mod Taking
+pub mod Left
+pub mod Environments
+pub mod Faithful
