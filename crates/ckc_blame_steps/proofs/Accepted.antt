@@ -143,7 +143,7 @@ module _ (text : List ℕ) (p : Typed) (a : IsAccepted text p) where
 
   given : given_tree j.named.tree ≡ true
   unfolding j
-  given = form_kept a.spelled a.named a.has_names ∙ tree_given _ _ a.spelled a.has_tree
+  given = form_kept a.spelled a.named a.has_names ∙ tree_given _ a.spelled a.has_tree
 
   small : Small j.named.tree
   unfolding j

@@ -144,7 +144,7 @@ function_few h vs ms g =
       );
     }
 
-few_variables : (p : Typed) (j : IsJudged p) (h : NotedHead) (body : NotedStmt) → Small j.named.tree → Contains p.tree.items (item.Function h body) → length (variables_of h body) ≤ 255
+pub few_variables : (p : Typed) (j : IsJudged p) (h : NotedHead) (body : NotedStmt) → Small j.named.tree → Contains p.tree.items (item.Function h body) → length (variables_of h body) ≤ 255
 few_variables p j h body small c =
     let one : SmallItem (bare_item (item.Function h body)) = item_is p j (λ (i : Item). SmallItem i) (All-from_recursion (λ (i : Item). SmallItem i) j.named.tree.items small.each) (item.Function h body) c in
     let limit = one.body.locals in

@@ -5,8 +5,7 @@ use Rattle.ckc_syntax.specs.Spelled.{Tokens}
 use Rattle.ckc_syntax.specs.declared.tree.NamedText.{NamedText}
 use Rattle.ckc_syntax_limits.specs.Small.{Small}
 use Rattle.ckc_lexer.specs.Phase.{lexing}
-use Rattle.ckc_parser.specs.Phase.{parsing}
-use Rattle.ckc_parser.specs.Text.{SpelledTree}
+use Rattle.ckc_parser.specs.Phase.{SpelledTree, parsing}
 use Rattle.ckc_resolve.specs.Phase.{naming}
 use Rattle.ckc_scopes.specs.Phase.{scoping}
 use Rattle.ckc_bounds.specs.Phase.{bounding}

@@ -8,7 +8,7 @@ ghost use Rattle.ckc_syntax.specs.Spelled.{Tokens};
 ghost use Rattle.ckc_syntax.specs.declared.tree.NamedText.{NamedText};
 ghost use Rattle.ckc_lexer.specs.Phase.{lexing};
 ghost use Rattle.ckc_parser.specs.Phase.{parsing};
-ghost use Rattle.ckc_parser_grammar.specs.Trees.{Tree};
+ghost use Rattle.ckc_syntax.specs.Trees.{Tree};
 ghost use Rattle.ckc_resolve.specs.Phase.{naming};
 ghost use Rattle.ckc_scopes.specs.Phase.{scoping};
 ghost use Rattle.ckc_bounds.specs.Phase.{bounding};

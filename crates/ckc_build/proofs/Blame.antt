@@ -6,7 +6,7 @@ use Rattle.ckc_base.specs.Phases.{Exact}
 use Rattle.ckc_blame.specs.Blamed.{IsBlamed, IsNeverStuck}
 use Rattle.ckc_blame.specs.Checked.{WhollyChecked}
 use Rattle.ckc_syntax.specs.declared.tree.NamedText.{NamedText}
-use Rattle.ckc_parser.specs.Text.{SpelledTree}
+use Rattle.ckc_parser.specs.Phase.{SpelledTree}
 use Rattle.ckc_resolve.specs.Phase.{naming}
 use Rattle.ckc_source.specs.Code.{Program}
 use Rattle.ckc_source.specs.LaidOut.{IsLaidOut}

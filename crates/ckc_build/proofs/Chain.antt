@@ -15,8 +15,7 @@ use Rattle.ckc_syntax_limits.proofs.Limiting.{limiting_exact}
 use Rattle.ckc_lexer.specs.Phase.{lexing, tokens_in}
 use Rattle.ckc_lexer.specs.Places.{place_after}
 use Rattle.ckc_lexer.proofs.Answer.{lexing_exact}
-use Rattle.ckc_parser.specs.Phase.{parsing}
-use Rattle.ckc_parser.specs.Text.{SpelledTree}
+use Rattle.ckc_parser.specs.Phase.{SpelledTree, parsing}
 use Rattle.ckc_parser.proofs.Once.{parsing_exact}
 use Rattle.ckc_resolve.specs.Phase.{naming, text_named}
 use Rattle.ckc_typed.specs.declared.typed.Typed.{Typed}
@@ -130,8 +129,8 @@ module _ (tree : SpelledTree) where
   pub fits_ends : (e : Fault) → Exact limiting tree (Err e) → Exact judging_tree tree (Err e)
   fits_ends e x = exact_err limiting later limiting_exact later_exact tree e x
 
-  pub fits_goes : Exact limiting tree (Ok tree) → (answer : Result Typed Fault) → Exact later tree answer → Exact judging_tree tree answer
-  fits_goes small answer x = exact_on limiting later limiting_exact later_exact tree tree answer small x
+  pub fits_goes : (small : SpelledTree) → Exact limiting tree (Ok small) → (answer : Result Typed Fault) → Exact later small answer → Exact judging_tree tree answer
+  fits_goes small is_small answer x = exact_on limiting later limiting_exact later_exact tree small answer is_small x
 
   pub naming_ends : (e : Fault) → Exact naming tree (Err e) → Exact later tree (Err e)
   naming_ends e x = exact_err naming from_names naming_exact from_names_exact tree e x

@@ -3,7 +3,7 @@ use Rattle.std.proofs.Common.{◌≡◌, ℕ, ◌*◌, ◌≤◌, List, Ok, sym,
 use Rattle.ckc_syntax.specs.declared.tree.NamedText.{NamedText}
 use Rattle.ckc_syntax_limits.specs.Marks.{marks_of, is_node}
 use Rattle.ckc_syntax_limits.specs.Small.{how_many, Small}
-use Rattle.ckc_parser.specs.Text.{SpelledTree}
+use Rattle.ckc_parser.specs.Phase.{SpelledTree}
 use Rattle.ckc_resolve.specs.Phase.{naming}
 use Rattle.ckc_source.specs.Code.{Program}
 use Rattle.ckc_typed.specs.declared.typed.Typed.{Typed}

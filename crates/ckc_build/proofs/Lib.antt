@@ -3,3 +3,4 @@ pub mod Fitting
 pub mod Programs
 pub mod Blame
 pub mod Confined
+pub mod Refused

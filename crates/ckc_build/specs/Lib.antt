@@ -2,3 +2,4 @@ pub mod Meanings
 pub mod Confined
 pub mod Built
 pub mod Sizes
+pub mod Codes

@@ -6,8 +6,7 @@ use Rattle.ckc_base.specs.Phases.{Phase, ◌>=>◌}
 use Rattle.ckc_blame.specs.Checked.{WhollyChecked}
 use Rattle.ckc_syntax_limits.specs.Phase.{limiting}
 use Rattle.ckc_lexer.specs.Phase.{lexing}
-use Rattle.ckc_parser.specs.Phase.{parsing}
-use Rattle.ckc_parser.specs.Text.{SpelledTree}
+use Rattle.ckc_parser.specs.Phase.{SpelledTree, parsing}
 use Rattle.ckc_resolve.specs.Phase.{naming}
 use Rattle.ckc_source.specs.Code.{Program}
 use Rattle.ckc_typed.specs.declared.typed.Typed.{Typed}

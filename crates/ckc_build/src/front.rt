@@ -4,6 +4,7 @@ ghost use Rattle.ckc_base.specs.Phases.{Exact};
 ghost use Rattle.ckc_blame.specs.Blamed.{IsBlamed, IsNeverStuck};
 ghost use Rattle.ckc_blame.specs.Checked.{WhollyChecked};
 ghost use Rattle.ckc_blame_steps.specs.Unchecked.{AreStoresBlamed};
+ghost use Rattle.ckc_syntax_limits.specs.Phase.{limiting};
 ghost use Rattle.ckc_build_elaborate.specs.Elaborated.{elaborated};
 ghost use Rattle.ckc_build.specs.Meanings.{judging};
 
@@ -14,10 +15,12 @@ use ckc_lexer::{end_of, lex};
 use ckc_parser::parse;
 use ckc_resolve::resolve;
 use ckc_scopes::scopes;
+use ckc_syntax::{Spelling, Tree};
 use ckc_syntax_limits::fits;
 use ckc_typed::Typed;
 use ckc_typing::type_of;
 use std::alloc::Global;
+use std::mem::forget;
 
 /// The text with its types and the ranges of its pointers, or the first error of the text.
 pub fn judge(alloc: Global, text: &[u8]) -> Result<Typed, Fault>
@@ -42,9 +45,23 @@ fn judged(alloc: Global, text: &[u8]) -> Result<Typed, Fault>
     // The tokens are left to the end of the process, as the trees are that the next phase has read.
     let tokens = lex(alloc, text)?.into_vec().leak();
     let tree = parse(alloc, tokens, end_of(text))?;
-    fits(&tree)?;
-    let named = resolve(alloc, tree)?;
+    let small = limited(tree)?;
+    let named = resolve(alloc, small)?;
     let typed = type_of(alloc, named)?;
     let scoped = scopes(typed)?;
     bounds(alloc, scoped)
+}
+
+/// The tree, if it keeps the limits of a text. One that does not may nest deeper than the host's stack reaches, so it is
+/// not taken apart, but left to the end of the process.
+fn limited<'a>(tree: Tree<Spelling<'a>, ()>) -> Result<Tree<Spelling<'a>, ()>, Fault>
+    ensures exact { Exact limiting tree.entry result }
+{
+    match fits(&tree) {
+        Ok(()) => Ok(tree),
+        Err(fault) => {
+            forget(tree);
+            Err(fault)
+        }
+    }
 }

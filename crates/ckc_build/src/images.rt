@@ -7,11 +7,13 @@ ghost use Rattle.ckc_build.specs.Meanings.{meanings};
 ghost use Rattle.ckc_build.specs.Built.{building, bytes_of};
 ghost use Rattle.ckc_build.specs.Sizes.{HasShortCode};
 
-use crate::laws::{checked_stores_lie_in_blocks, programs_fit, unchecked_code_is_to_blame};
+use crate::laws::{
+    checked_stores_lie_in_blocks, programs_fit, programs_have_the_form, unchecked_code_is_to_blame,
+};
 use crate::meanings::program;
 use ckc_base::Fault;
-use ckc_build_compilable::is_compilable;
 use ckc_build_compile::compile;
+use ckc_build_words::words_fit;
 use ckc_image::write;
 use ckc_source::Program;
 use std::alloc::Global;
@@ -41,11 +43,8 @@ fn image_of(alloc: Global, text: &[u8], p: &Program) -> Result<Vec<u8>, Fault>
     ensures answers { Answers building text.now (viewed bytes_of result) }
     ensures short { IfOk result (λ image. HasShortCode text.now image.items) }
 {
-    // The program of a text that is let through always has the form, so this is never answered. That is tested and not
-    // proved.
-    if !is_compilable(p) {
-        return Err(Fault::Memory);
-    }
+    words_fit(p);
+    programs_have_the_form();
     programs_fit();
     unchecked_code_is_to_blame();
     checked_stores_lie_in_blocks();

@@ -1,19 +1,24 @@
 //! What holds of the definitions, each the contract of a function that does nothing.
 ghost use Rattle.std.specs.Prelude.{◌≡◌, ◌≤◌, List, ℕ};
+ghost use Rattle.ckc_base.specs.declared.places.Refusal.{Refusal};
 ghost use Rattle.ckc_base.specs.Phases.{IsExact};
-ghost use Rattle.ckc_parser.specs.Text.{SpelledTree};
+ghost use Rattle.ckc_parser.specs.Phase.{SpelledTree};
 ghost use Rattle.ckc_source.specs.Code.{Program};
 ghost use Rattle.ckc_source.specs.LaidOut.{IsLaidOut};
+ghost use Rattle.ckc_checks_operands.specs.Compilable.{IsCompilable};
 ghost use Rattle.ckc_checks_operands.specs.Weights.{program_weight, most_weight};
 ghost use Rattle.ckc_blame.specs.Blamed.{IsBlamed, IsNeverStuck};
 ghost use Rattle.ckc_blame.specs.Checked.{WhollyChecked};
 ghost use Rattle.ckc_blame_steps.specs.Stores.{PlansLie};
 ghost use Rattle.ckc_blame_steps.specs.Unchecked.{AreStoresBlamed};
 ghost use Rattle.ckc_build_elaborate.specs.Elaborated.{elaborated};
+ghost use Rattle.ckc_build_words.specs.Words.{WordsFit};
 ghost use Rattle.ckc_typed.specs.declared.typed.Typed.{Typed};
+ghost use Rattle.ckc_build.specs.Codes.{IsTextCode};
 ghost use Rattle.ckc_build.specs.Meanings.{HasMeaning, IsWhollyChecked, judging, reading};
 
 use ckc_blame_steps::{accepted_stores_lie, accepted_texts_are_blamed, stores_are_to_blame};
+use ckc_build_forms::accepted_texts_have_the_form;
 use ckc_build_sizes::{marks_stay, programs_are_small};
 use ckc_typed_fit::small_stays;
 use ckc_typed_welltyped::{counts_stay, texts_exactly};
@@ -22,6 +27,13 @@ use ckc_typed_welltyped::{counts_stay, texts_exactly};
 pub fn judging_is_exact()
     ensures { IsExact judging }
 {}
+
+/// The codes of the refusals of a text, whichever phase refuses it.
+pub fn codes()
+    ensures { (text : List ℕ) (r : Refusal) → judging.Refuses text r → IsTextCode r.code }
+{
+    ckc_bounds::codes();
+}
 
 /// A text has at most one tree.
 pub fn one_tree()
@@ -46,6 +58,15 @@ pub fn programs_fit()
     counts_stay();
     marks_stay();
     programs_are_small();
+}
+
+/// The program of a text that has a meaning can be compiled, if the numbers in it fit in their words: those of each program
+/// that is there do. So `build` refuses no such text for the form of its program.
+pub fn programs_have_the_form()
+    ensures { (text : List ℕ) (p : Program) → HasMeaning text p → WordsFit p → IsCompilable p }
+{
+    texts_exactly();
+    accepted_texts_have_the_form();
 }
 
 /// If the meaning of a text is stuck, unchecked code is to blame: one of its steps up to there has mode Unchecked. So the
