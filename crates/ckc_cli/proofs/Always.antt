@@ -9,10 +9,11 @@ use Rattle.ckc_cli_commands.specs.declared.status.Status.{Status}
 use Rattle.ckc_cli_commands.specs.declared.status.Status.TheVariants as status
 use Rattle.ckc_cli_commands.specs.World.{World, Untouched}
 use Rattle.ckc_cli_commands.specs.Words.{Command}
-use Rattle.ckc_cli_commands.specs.Outcomes.{Outcome, Refuses, IsBad, Keeps, Puts, PutsLine, Executes, Interprets}
+use Rattle.ckc_cli_commands.specs.Outcomes.{Outcome, Refuses, IsBad, Keeps, Puts, PutsLine, Executes, Interprets, Samples}
 use Rattle.ckc_cli_commands.specs.Commands.{Fetch, fetches_of, Reads, Makes}
 use Rattle.ckc_cli_commands.specs.Running.{Ran, Listed, whole, front, status_of}
 use Rattle.ckc_cli_commands.specs.Interpreting.{ShowsAs}
+use Rattle.ckc_cli_commands.specs.Sampling.{Lined, all_lines, some_lines, Sampled, with_lines, without_lines, told_lines}
 use Rattle.ckc_cli_commands.specs.Causes.{Each, Holds, HoldsEach, LacksFirst, IsLacking, Keeping, kept, failed, no_memory, Comes, made, not_fetched, fetched, Caused, usage, obeyed, FailsOnce}
 use Rattle.ckc_cli.specs.Objects.{Tells, StoreIsFine}
 use Rattle.ckc_cli.specs.Laws.{Given, Agrees, PutsText}
@@ -112,6 +113,7 @@ module _ (words : List (List ℕ)) (before after : World) (same : Untouched) (co
         by_case (PutsLine line) y a comes = absurd a
         by_case (Executes parts limit) y a comes = absurd a
         by_case (Interprets p limit) y a comes = absurd a
+        by_case (Samples parts size) y a comes = absurd a
 
     pub bad_always : (part : ℕ) → Makes command bytes (IsBad part) → (s ≡ status.BadImage part) ⊎ (s ≡ status.Memory)
     bad_always part x = by_outcome (IsBad part) x (s ≡ status.BadImage part) by_case
@@ -124,6 +126,7 @@ module _ (words : List (List ℕ)) (before after : World) (same : Untouched) (co
         by_case (PutsLine line) y a comes = absurd a
         by_case (Executes parts limit) y a comes = absurd a
         by_case (Interprets p limit) y a comes = absurd a
+        by_case (Samples parts size) y a comes = absurd a
 
     pub kept_always : (name image : List ℕ) → Makes command bytes (Keeps name image) → (s ≡ status.Done) ⊎ (s ≡ status.Memory)
     kept_always name image x = by_outcome (Keeps name image) x (s ≡ status.Done) by_case
@@ -136,6 +139,7 @@ module _ (words : List (List ℕ)) (before after : World) (same : Untouched) (co
         by_case (PutsLine line) y a comes = absurd a
         by_case (Executes parts limit) y a comes = absurd a
         by_case (Interprets p limit) y a comes = absurd a
+        by_case (Samples parts size) y a comes = absurd a
 
     pub listed_always : (text : List ℕ) → PutsText command bytes text → ¬ Rose before.output.faults after.output.faults → (s ≡ status.Done) ⊎ (s ≡ status.Memory)
     listed_always text (inl x) n = by_outcome (Puts text) x (s ≡ status.Done) by_case
@@ -148,6 +152,7 @@ module _ (words : List (List ℕ)) (before after : World) (same : Untouched) (co
         by_case (PutsLine line) y a comes = absurd a
         by_case (Executes parts limit) y a comes = absurd a
         by_case (Interprets p limit) y a comes = absurd a
+        by_case (Samples parts size) y a comes = absurd a
     listed_always text (inr x) n = by_outcome (PutsLine text) x (s ≡ status.Done) by_case
       where
         by_case : (o : Outcome) → Makes command bytes o → Agrees (PutsLine text) o → Comes o before after same s → (s ≡ status.Done) ⊎ (s ≡ status.Memory)
@@ -158,6 +163,7 @@ module _ (words : List (List ℕ)) (before after : World) (same : Untouched) (co
         by_case (PutsLine line) y a comes = inl (listed_fine s line comes.0 n)
         by_case (Executes parts limit) y a comes = absurd a
         by_case (Interprets p limit) y a comes = absurd a
+        by_case (Samples parts size) y a comes = absurd a
 
     -- the machine of an image was run
     abbrev pub RanSome : Type 0
@@ -174,6 +180,7 @@ module _ (words : List (List ℕ)) (before after : World) (same : Untouched) (co
         by_case (PutsLine line) y a comes = absurd a
         by_case (Executes others most) y a comes = inl (others, most, comes.0.0, y, comes.0.1, comes.0.2)
         by_case (Interprets p most) y a comes = absurd a
+        by_case (Samples parts size) y a comes = absurd a
 
     pub meant_always : (p : Program) (limit : ℕ) → Makes command bytes (Interprets p limit) → ShowsAs p limit before after s ⊎ (s ≡ status.Memory)
     meant_always p limit x = by_outcome (Interprets p limit) x (ShowsAs p limit before after s) by_case
@@ -185,6 +192,7 @@ module _ (words : List (List ℕ)) (before after : World) (same : Untouched) (co
         by_case (Puts text) y a comes = absurd a
         by_case (PutsLine line) y a comes = absurd a
         by_case (Executes parts most) y a comes = absurd a
+        by_case (Samples parts size) y a comes = absurd a
         by_case (Interprets other most) y a comes = inl (subst (λ (q : Program). ShowsAs q limit before after s) (sym a.0) (subst (λ k. ShowsAs other k before after s) (sym a.1) comes.0))
 
     -- no fault of the store comes
@@ -199,6 +207,14 @@ module _ (words : List (List ℕ)) (before after : World) (same : Untouched) (co
         by_listing text (whole e p) = let z : status.Done ≡ status.StoreFault = sym e ∙ q in cc
         by_listing text (front e rose p) = let z : status.WriteFault ≡ status.StoreFault = sym e ∙ q in cc
 
+        by_lines : (lines : List (List ℕ)) → Lined lines before.output after.output s → ⊥
+        by_lines lines (all_lines e p n) = let z : status.Done ≡ status.StoreFault = sym e ∙ q in cc
+        by_lines lines (some_lines k le e rose p n) = let z : status.WriteFault ≡ status.StoreFault = sym e ∙ q in cc
+
+        by_sample : (parts : Parts) (size : ℕ) → Sampled parts size before.output after.output same.output s → ⊥
+        by_sample parts size (with_lines value e lined) = by_lines (told_lines parts size value) lined
+        by_sample parts size (without_lines o n stands e u) = not_shown o status.StoreFault (sym e ∙ q) refl
+
         by_case : (o : Outcome) → Comes o before after same s → ⊥
         by_case (Refuses fault) comes = let z : status.Refused fault ≡ status.StoreFault = sym comes.0 ∙ q in cc
         by_case (IsBad part) comes = let z : status.BadImage part ≡ status.StoreFault = sym comes.0 ∙ q in cc
@@ -206,7 +222,8 @@ module _ (words : List (List ℕ)) (before after : World) (same : Untouched) (co
         by_case (Puts text) comes = by_listing text comes.0
         by_case (PutsLine line) comes = by_listing line comes.0
         by_case (Executes parts limit) comes = not_shown comes.0.0 status.StoreFault (sym comes.0.1 ∙ q) refl
-        by_case (Interprets p limit) comes = not_meant comes.0.0 status.StoreFault (sym comes.0.1 ∙ q) refl
+        by_case (Interprets p limit) comes = not_meant comes.0.0 status.StoreFault (comes.0.1 ∙ ap Some q) refl
+        by_case (Samples parts size) comes = by_sample parts size comes.0
 
         by_result : Result s → ⊥
         by_result (inl r) = by_case r.0 r.2

@@ -71,6 +71,7 @@ module _ (never_stuck : (text : List ℕ) (p : Typed) → judging.Makes text p �
         over_said bytes (subst (λ (d : Command). HoldsEach before.store.files (fetches_of d) bytes) is h) line (subst (λ (d : Command). Makes d bytes (outcome.PutsLine line)) is x) c q
     said_comes (outcome.Executes parts limit) x c q = absurd (form (outcome.Executes parts limit) x)
     said_comes (outcome.Interprets p limit) x c q = absurd (form (outcome.Interprets p limit) x)
+    said_comes (outcome.Samples parts size) x c q = absurd (form (outcome.Samples parts size) x)
 
   said_by : s ≡ status.Done → Said
   said_by q = by_cause cause

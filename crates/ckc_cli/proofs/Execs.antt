@@ -16,7 +16,7 @@ use Rattle.ckc_cli_commands.specs.declared.status.Status.{Status}
 use Rattle.ckc_cli_commands.specs.declared.status.Status.TheVariants as status
 use Rattle.ckc_cli_commands.specs.World.{World, Untouched}
 use Rattle.ckc_cli_commands.specs.Words.{Command, Build, Exec}
-use Rattle.ckc_cli_commands.specs.Outcomes.{Outcome, Refuses, IsBad, Keeps, Puts, PutsLine, Executes, Interprets}
+use Rattle.ckc_cli_commands.specs.Outcomes.{Outcome, Refuses, IsBad, Keeps, Puts, PutsLine, Executes, Interprets, Samples}
 use Rattle.ckc_cli_commands.specs.Commands.{a_text, fetches_of, Reads, Makes}
 use Rattle.ckc_cli_commands.specs.Running.{Ran, status_of}
 use Rattle.ckc_cli_commands.specs.Causes.{HoldsEach, Comes, Caused, FailsOnce}
@@ -50,6 +50,7 @@ module _ (words : List (List ℕ)) (before after : World) (same : Untouched) (s 
       by_outcome (PutsLine line) x c = absurd (formed (Build source name) (text ∷ []) (PutsLine line) x)
       by_outcome (Executes parts most) x c = absurd (formed (Build source name) (text ∷ []) (Executes parts most) x)
       by_outcome (Interprets q most) x c = absurd (formed (Build source name) (text ∷ []) (Interprets q most) x)
+      by_outcome (Samples parts size) x c = absurd (formed (Build source name) (text ∷ []) (Samples parts size) x)
 
       by_result : always.Result words before after same (Build source name) (text ∷ []) g fine s → (s ≡ status.Done) ⊎ (s ≡ status.Memory)
       by_result (inl r) = by_outcome r.0 r.1 r.2
@@ -72,6 +73,7 @@ module _ (words : List (List ℕ)) (before after : World) (same : Untouched) (s 
             let most_is = formed (Exec name limit) (text ∷ []) (Executes parts most) x in
             inl (parts, c.0.0, subst (λ (t : List ℕ). Built t parts) text_is b.2, c.0.1, subst (λ k. Ran parts k before after same.input c.0.0) most_is c.0.2)
         by_outcome (Interprets q most) x c = absurd (formed (Exec name limit) (text ∷ []) (Interprets q most) x)
+        by_outcome (Samples parts size) x c = absurd (formed (Exec name limit) (text ∷ []) (Samples parts size) x)
 
         by_result : always.Result words before after same (Exec name limit) (text ∷ []) g fine s → RanBuilt text limit before after same s ⊎ (s ≡ status.Memory)
         by_result (inl r) = by_outcome r.0 r.1 r.2
@@ -133,7 +135,8 @@ module _ (words : List (List ℕ)) (before after : World) (same : Untouched) (s 
             let holds = subst (λ (c : Command). HoldsEach before.store.files (fetches_of c) x.bytes) is x.holds in
             let held = subst (HoldsEach before.store.files (a_text name ∷ [])) b.1 holds in
             (b.0, held.0, are b.0 y.0 y.1 b.2 y.3)
-        by_run (inr y) = absurd (subst (Form (Interprets y.0 y.1)) is (formed x.command x.bytes (Interprets y.0 y.1) y.2))
+        by_run (inr (inl y)) = absurd (subst (Form (Interprets y.0 y.1)) is (formed x.command x.bytes (Interprets y.0 y.1) y.2))
+        by_run (inr (inr y)) = absurd (subst (Form (Samples y.0 y.1)) is (formed x.command x.bytes (Samples y.0 y.1) y.2))
 
     run_by : (o : Observed) → o ≢ observed.WriteFault → s ≡ status_of o → (Are : List ℕ → Type 0) → ((text : List ℕ) (parts : Parts) (most : ℕ) → Built text parts → Ran parts most before after same.input o → Are text)
         → OfFile before.store.files name Are

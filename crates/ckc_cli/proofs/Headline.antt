@@ -34,11 +34,11 @@ taken_begins a b p = (taken p.0, ap taken p.1 ∙ flat_map-append got_byte a p.0
 
 module _ (text : List ℕ) (p : Program) (parts : Parts) (given : List ℕ) (follows : Follows (source p given) (machine parts given) 33554432)
     (blamed : (n : ℕ) → (source p given n).standing ≡ Stuck → IsSome (unchecked_since p given n) × ¬ IsWhollyChecked text) where
-  abbrev Borne : ℕ → Type 0
+  abbrev pub Borne : ℕ → Type 0
   Borne k = (n : ℕ) × IsBorneOut (source p given n) (machine parts given k)
 
   -- what the machine shows is borne out by the program, or the program is stuck
-  borne : (k : ℕ) → ComesToBeStuck text p given ⊎ Borne k
+  pub borne : (k : ℕ) → ComesToBeStuck text p given ⊎ Borne k
   borne k = let q = follows.back k in at q.0 q.1
     where
       at : (n : ℕ) → ((source p given n).standing ≡ Stuck) ⊎ IsBorneOut (source p given n) (machine parts given k) → ComesToBeStuck text p given ⊎ Borne k
@@ -120,7 +120,7 @@ bytes_alone [] h = tt
 bytes_alone (b ∷ more) h = (h.0, bytes_alone more h.1)
 
 module _ (text : List ℕ) (parts : Parts) (built : Built text parts) (limit : ℕ) (before after : World) (untaken : Type 0) where
-  blamed_by : (given : List ℕ) → AreBytes given → (n : ℕ) → (source built.program given n).standing ≡ Stuck → IsSome (unchecked_since built.program given n) × ¬ IsWhollyChecked text
+  pub blamed_by : (given : List ℕ) → AreBytes given → (n : ℕ) → (source built.program given n).standing ≡ Stuck → IsSome (unchecked_since built.program given n) × ¬ IsWhollyChecked text
   blamed_by given bytes n stuck = (built.blamed given n bytes stuck, λ checked. built.checked checked given n bytes stuck)
 
   abbrev Runs : Observed → Type 0

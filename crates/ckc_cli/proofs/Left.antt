@@ -16,9 +16,11 @@ use Rattle.ckc_cli_commands.specs.declared.status.Status.{Status}
 use Rattle.ckc_cli_commands.specs.declared.status.Status.TheVariants as status
 use Rattle.ckc_cli_commands.specs.World.{World, Untouched}
 use Rattle.ckc_cli_commands.specs.Words.{Command, Build, Assemble, Interp, Show, Judge}
-use Rattle.ckc_cli_commands.specs.Outcomes.{Outcome, Refuses, IsBad, Keeps, Puts, PutsLine, Executes, Interprets}
+use Rattle.ckc_cli_commands.specs.Outcomes.{Outcome, Refuses, IsBad, Keeps, Puts, PutsLine, Executes, Interprets, Samples}
 use Rattle.ckc_cli_commands.specs.Commands.{fetches_of, Reads, Makes}
 use Rattle.ckc_cli_commands.specs.Running.{Listed, whole, front}
+use Rattle.ckc_rv.specs.Machine.{Parts}
+use Rattle.ckc_cli_commands.specs.Sampling.{Lined, all_lines, some_lines, Sampled, with_lines, without_lines, told_lines}
 use Rattle.ckc_cli_commands.specs.Causes.{HoldsEach, Kept, Unkept, Keeping, kept, failed, no_memory, Comes, made, not_fetched, fetched, Caused, usage, obeyed}
 use Rattle.ckc_cli.specs.Laws.{Over, AsksToKeep, HasImage, KeepsOthers, shows_run}
 use Rattle.ckc_cli.proofs.OneCommand.{reads_once}
@@ -52,6 +54,14 @@ module _ (words : List (List ℕ)) (before after : World) (same : Untouched) whe
     idle_listing s text (whole e p) w d = d e
     idle_listing s text (front e rose p) w d = true_false (ap shows_run (sym e) ∙ w)
 
+    idle_lines : (s : Status) (lines : List (List ℕ)) → Lined lines before.output after.output s → shows_run s ≡ false → s ≢ status.Done → ⊥
+    idle_lines s lines (all_lines e p n) w d = d e
+    idle_lines s lines (some_lines k le e rose p n) w d = true_false (ap shows_run (sym e) ∙ w)
+
+    idle_sample : (s : Status) (parts : Parts) (size : ℕ) → Sampled parts size before.output after.output same.output s → shows_run s ≡ false → s ≢ status.Done → ⊥
+    idle_sample s parts size (with_lines value e lined) w d = idle_lines s (told_lines parts size value) lined w d
+    idle_sample s parts size (without_lines o n stands e u) w d = not_shown o s (sym e) w
+
     idle_comes : (s : Status) (o : Outcome) → Makes command bytes o → Comes o before after same s → shows_run s ≡ false → s ≢ status.Done → NoneAsked s → same.output × same.input
     idle_comes s (Refuses fault) x c w d n = (c.1.put, c.1.took)
     idle_comes s (IsBad part) x c w d n = (c.1.put, c.1.took)
@@ -61,7 +71,8 @@ module _ (words : List (List ℕ)) (before after : World) (same : Untouched) whe
     idle_comes s (Executes parts limit) x c w d n = absurd (not_shown c.0.0 s (sym c.0.1) w)
     idle_comes s (Interprets p limit) x c w d n =
         let i = interpreter command p limit (formed command bytes (Interprets p limit) x) in
-        absurd (n i.0 limit (c.0.1 ∙ unshown_meant c.0.0 (ap shows_run (sym c.0.1) ∙ w)) (subst (Reads words) i.1 r))
+        absurd (n i.0 limit (unshown_meant c.0.0 s c.0.1 w) (subst (Reads words) i.1 r))
+    idle_comes s (Samples parts size) x c w d n = absurd (idle_sample s parts size c.0 w d)
 
   -- under these statuses nothing was put or taken
   pub idle_by : (s : Status) → Caused words before after same s → shows_run s ≡ false → s ≢ status.Done → NoneAsked s → same.output × same.input
@@ -83,6 +94,8 @@ module _ (words : List (List ℕ)) (before after : World) (same : Untouched) whe
   keeper_comes s (Executes parts limit) command text target (inr e) f c = absurd (subst (Form (Executes parts limit)) e f)
   keeper_comes s (Interprets p limit) command text target (inl e) f c = absurd (subst (Form (Interprets p limit)) e f)
   keeper_comes s (Interprets p limit) command text target (inr e) f c = absurd (subst (Form (Interprets p limit)) e f)
+  keeper_comes s (Samples parts size) command text target (inl e) f c = absurd (subst (Form (Samples parts size)) e f)
+  keeper_comes s (Samples parts size) command text target (inr e) f c = absurd (subst (Form (Samples parts size)) e f)
 
   -- the words that ask to keep an image read this command
   asks_of : (command : Command) (target : List ℕ) → Reads words command → (w : AsksToKeep words target) → (command ≡ Build w.0 target) ⊎ (command ≡ Assemble w.0 target)
@@ -106,6 +119,7 @@ module _ (words : List (List ℕ)) (before after : World) (same : Untouched) whe
   list_comes s (PutsLine line) target f c = absurd f
   list_comes s (Executes parts limit) target f c = absurd f
   list_comes s (Interprets p limit) target f c = absurd f
+  list_comes s (Samples parts size) target f c = absurd f
 
   pub list_takes_nothing : (s : Status) → Caused words before after same s → (target : List ℕ) → Reads words (Show target) → same.input
   list_takes_nothing s (usage none e i k) target w = i.took
@@ -122,6 +136,7 @@ module _ (words : List (List ℕ)) (before after : World) (same : Untouched) whe
   check_comes s (PutsLine line) target f c = c.3
   check_comes s (Executes parts limit) target f c = absurd f
   check_comes s (Interprets p limit) target f c = absurd f
+  check_comes s (Samples parts size) target f c = absurd f
 
   pub check_takes_nothing : (s : Status) → Caused words before after same s → (target : List ℕ) → Reads words (Judge target) → same.input
   check_takes_nothing s (usage none e i k) target w = i.took
@@ -147,6 +162,7 @@ module _ (words : List (List ℕ)) (before after : World) (same : Untouched) whe
   left_comes s command r bytes h (PutsLine line) x c = nothing c.2
   left_comes s command r bytes h (Executes parts limit) x c = nothing c.1
   left_comes s command r bytes h (Interprets p limit) x c = nothing c.1
+  left_comes s command r bytes h (Samples parts size) x c = nothing c.1
 
   left : (s : Status) → Caused words before after same s → Left s
   left s (usage none e i k) = nothing i.unkept

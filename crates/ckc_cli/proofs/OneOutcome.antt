@@ -13,10 +13,11 @@ use Rattle.ckc_build.specs.Meanings.{judging, HasMeaning, FirstFault}
 use Rattle.ckc_build.proofs.Chain.{judging_exact}
 use Rattle.ckc_build.proofs.Programs.{meanings_exact}
 use Rattle.ckc_source.specs.Code.{Program}
-use Rattle.ckc_cli_commands.specs.Words.{Command, Build, Assemble, Exec, Interp, Run, Show, Judge}
-use Rattle.ckc_cli_commands.specs.Outcomes.{Outcome, Refuses, IsBad, Keeps, Puts, PutsLine, Executes, Interprets}
+use Rattle.ckc_cli_commands.specs.Words.{Command, Build, Assemble, Exec, Interp, Run, Show, Judge, Sample}
+use Rattle.ckc_cli_commands.specs.Outcomes.{Outcome, Refuses, IsBad, Keeps, Puts, PutsLine, Executes, Interprets, Samples}
 use Rattle.ckc_cli_commands.specs.Checking.{checked_line}
-use Rattle.ckc_cli_commands.specs.Commands.{BadBytes, longest_image, OfText, OfImage, OfOne, AsImage, Makes}
+use Rattle.ckc_cli_sample.specs.Sample.{sample_text}
+use Rattle.ckc_cli_commands.specs.Commands.{BadBytes, longest_image, OfText, OfImage, OfOne, OfNone, AsImage, Makes}
 use Rattle.ckc_cli.specs.Laws.{Agrees}
 
 -- ---- images
@@ -51,6 +52,7 @@ module _ {B : Type 0} (IsRefused : List ℕ → Refusal → Type 0) (IsMade : Li
   text_of text (PutsLine line) h = inr (h.0, h.2, h.1)
   text_of text (Executes parts limit) h = inr (h.0, h.2, h.1)
   text_of text (Interprets program limit) h = inr (h.0, h.2, h.1)
+  text_of text (Samples parts size) h = inr (h.0, h.2, h.1)
 
   texts_agree : ((text : List ℕ) (fault other : Refusal) → IsRefused text fault → IsRefused text other → fault ≡ other)
       → ((text : List ℕ) (fault : Refusal) (made : B) → IsRefused text fault → IsMade text made → ⊥)
@@ -74,6 +76,7 @@ module _ (outcome : Format → Parts → Outcome) where
   image_of bytes (PutsLine line) h = inr (h.0, h.1, h.3, h.2)
   image_of bytes (Executes parts limit) h = inr (h.0, h.1, h.3, h.2)
   image_of bytes (Interprets program limit) h = inr (h.0, h.1, h.3, h.2)
+  image_of bytes (Samples parts size) h = inr (h.0, h.1, h.3, h.2)
 
   images_agree : ((bytes : List ℕ) (f g : Format) (parts other : Parts) → IsImageIn f bytes parts → IsImageIn g bytes other → Agrees (outcome f parts) (outcome g other))
       → (bytes : List ℕ) (o other : Outcome) → OfImage outcome bytes o → OfImage outcome bytes other → Agrees o other
@@ -91,6 +94,11 @@ ones_agree : (Comes : List ℕ → Outcome → Type 0) → ((bytes : List ℕ) (
 ones_agree Comes h [] o other p q = absurd p
 ones_agree Comes h (bytes ∷ []) o other p q = h bytes o other p q
 ones_agree Comes h (bytes ∷ more ∷ rest) o other p q = absurd p
+
+none_agree : (Comes : Outcome → Type 0) → ((o other : Outcome) → Comes o → Comes other → Agrees o other)
+    → (fetched : List (List ℕ)) (o other : Outcome) → OfNone Comes fetched o → OfNone Comes fetched other → Agrees o other
+none_agree Comes h [] o other p q = h o other p q
+none_agree Comes h (bytes ∷ more) o other p q = absurd p
 
 same_listing : (bytes : List ℕ) (f g : Format) (p q : Parts) → IsImageIn f bytes p → IsImageIn g bytes q → shown_image f p.entry p.code p.initial ≡ shown_image g q.entry q.code q.initial
 same_listing bytes f g p q i j =
@@ -118,6 +126,10 @@ one_outcome (Judge text) =
     ones_agree (OfText FirstFault judging.Makes (λ p. PutsLine (checked_line p)))
     (texts_agree FirstFault judging.Makes (λ p. PutsLine (checked_line p)) meanings_exact.refused_once (λ t f made r m. meanings_exact.never_both t (elaborated made) f (made, m, refl) r)
     (λ t made other m n. ap checked_line (judging_exact.made_once t made other m n)))
+one_outcome (Sample seed size) =
+    none_agree (OfText FirstFault Built (λ parts. Samples parts size) (sample_text seed size))
+    (texts_agree FirstFault Built (λ parts. Samples parts size) meanings_exact.refused_once (λ t f made r m. meanings_exact.never_both t m.program f m.means r) (λ t made other m n. refl)
+    (sample_text seed size))
 
 -- ---- forms
 
@@ -132,6 +144,7 @@ Form (PutsLine line) (Judge text) = Unit {0}
 Form (Executes parts limit) (Exec text most) = limit ≡ most
 Form (Executes parts limit) (Run image most) = limit ≡ most
 Form (Interprets program limit) (Interp text most) = limit ≡ most
+Form (Samples parts size) (Sample seed functions) = size ≡ functions
 Form o command = ⊥
 
 formed_text : {B : Type 0} (IsRefused : List ℕ → Refusal → Type 0) (IsMade : List ℕ → B → Type 0) (outcome : B → Outcome) (command : Command) → ((made : B) → Form (outcome made) command)
@@ -155,6 +168,10 @@ formed_one Comes command h [] o x = absurd x
 formed_one Comes command h (bytes ∷ []) o x = h bytes o x
 formed_one Comes command h (bytes ∷ more ∷ rest) o x = absurd x
 
+formed_none : (Comes : Outcome → Type 0) (command : Command) → ((o : Outcome) → Comes o → Form o command) → (fetched : List (List ℕ)) (o : Outcome) → OfNone Comes fetched o → Form o command
+formed_none Comes command h [] o x = h o x
+formed_none Comes command h (bytes ∷ more) o x = absurd x
+
 pub formed : (command : Command) (fetched : List (List ℕ)) (o : Outcome) → Makes command fetched o → Form o command
 formed (Build text image) =
     formed_one (OfText FirstFault (AsImage Built) (Keeps image)) (Build text image) (formed_text FirstFault (AsImage Built) (Keeps image) (Build text image) (λ made. refl))
@@ -172,6 +189,9 @@ formed (Show image) =
 formed (Judge text) =
     formed_one (OfText FirstFault judging.Makes (λ p. PutsLine (checked_line p))) (Judge text)
     (formed_text FirstFault judging.Makes (λ p. PutsLine (checked_line p)) (Judge text) (λ made. tt))
+formed (Sample seed size) =
+    formed_none (OfText FirstFault Built (λ parts. Samples parts size) (sample_text seed size)) (Sample seed size)
+    (formed_text FirstFault Built (λ parts. Samples parts size) (Sample seed size) (λ made. refl) (sample_text seed size))
 
 -- which command keeps bytes under a name, and which runs a meaning
 pub keeper : (command : Command) (name bytes : List ℕ) → Form (Keeps name bytes) command → (text : List ℕ) × ((command ≡ Build text name) ⊎ (command ≡ Assemble text name))
@@ -182,6 +202,7 @@ keeper (Interp text limit) name bytes f = absurd f
 keeper (Run image limit) name bytes f = absurd f
 keeper (Show image) name bytes f = absurd f
 keeper (Judge text) name bytes f = absurd f
+keeper (Sample seed size) name bytes f = absurd f
 
 pub interpreter : (command : Command) (p : Program) (limit : ℕ) → Form (Interprets p limit) command → (name : List ℕ) × (command ≡ Interp name limit)
 interpreter (Build text image) p limit f = absurd f
@@ -191,8 +212,9 @@ interpreter (Interp text most) p limit f = (text, ap (Interp text) (sym f))
 interpreter (Run image most) p limit f = absurd f
 interpreter (Show image) p limit f = absurd f
 interpreter (Judge text) p limit f = absurd f
+interpreter (Sample seed size) p limit f = absurd f
 
--- ---- what `exec` and `interp` make of one text
+-- ---- what `exec`, `interp` and `sample` make of one text
 
 same_parts_of : (parts made : Parts) (limit most : ℕ) → Executes parts limit ≡ Executes made most → parts ≡ made
 same_parts_of parts made limit most e = cc
@@ -209,3 +231,14 @@ pub meant_by : (name : List ℕ) (limit most : ℕ) (fetched : List (List ℕ)) 
 meant_by name limit most [] p x = absurd x
 meant_by name limit most (text ∷ []) p x = (text, refl, subst (HasMeaning text) (sym (same_program_of p x.0 most limit x.2)) x.1)
 meant_by name limit most (text ∷ more ∷ rest) p x = absurd x
+
+same_sample_of : (parts made : Parts) (size functions : ℕ) → Samples parts size ≡ Samples made functions → parts ≡ made
+same_sample_of parts made size functions e = cc
+
+pub sampled_by : (seed size functions : ℕ) (fetched : List (List ℕ)) (parts : Parts) → Makes (Sample seed size) fetched (Samples parts functions) → Built (sample_text seed size) parts
+sampled_by seed size functions [] parts x = subst (Built (sample_text seed size)) (sym (same_sample_of parts x.0 functions size x.2)) x.1
+sampled_by seed size functions (bytes ∷ more) parts x = absurd x
+
+pub refused_by : (seed size : ℕ) (fetched : List (List ℕ)) (fault : Refusal) → Makes (Sample seed size) fetched (Refuses fault) → FirstFault (sample_text seed size) fault
+refused_by seed size [] fault x = x
+refused_by seed size (bytes ∷ more) fault x = absurd x

@@ -3,19 +3,23 @@ use Rattle.std.specs.Prelude.{◌≡◌, ◌≢◌, ◌⊎◌, ℕ, Bool, true, 
 use Rattle.std.specs.FinMap as fin
 use Rattle.ckc_outside.specs.Outside.{Files}
 use Rattle.ckc_outside.specs.Given.{Printed}
+use Rattle.ckc_base.specs.Traces.{Ended}
+use Rattle.ckc_asm_listing.specs.Listing.{text_of}
 use Rattle.ckc_rv.specs.Machine.{Parts}
 use Rattle.ckc_source.specs.Code.{Program}
 use Rattle.ckc_build.specs.Built.{Built}
 use Rattle.ckc_machine.specs.declared.observed.Observed.{Observed}
 use Rattle.ckc_machine.specs.declared.observed.Observed.TheVariants as observed
+use Rattle.ckc_machine.specs.Runs.{Says}
 use Rattle.ckc_cli_commands.specs.declared.status.Status.{Status}
 use Rattle.ckc_cli_commands.specs.declared.status.Status.TheVariants as status
 use Rattle.ckc_cli_commands.specs.World.{World, Untouched, untouched}
 use Rattle.ckc_cli_commands.specs.Words.{Command, Build, Assemble}
-use Rattle.ckc_cli_commands.specs.Outcomes.{Outcome, Refuses, IsBad, Keeps, Puts, PutsLine, Executes, Interprets}
+use Rattle.ckc_cli_commands.specs.Outcomes.{Outcome, Refuses, IsBad, Keeps, Puts, PutsLine, Executes, Interprets, Samples}
 use Rattle.ckc_cli_commands.specs.Commands.{fetches_of, Reads, Makes}
 use Rattle.ckc_cli_commands.specs.Running.{Ran, ListedFront, status_of}
 use Rattle.ckc_cli_commands.specs.Interpreting.{ShowsAs}
+use Rattle.ckc_cli_commands.specs.Sampling.{alone, told_lines}
 use Rattle.ckc_cli_commands.specs.Causes.{Each, HoldsEach, Kept, Caused, FailsOnce}
 use Rattle.ckc_cli.specs.Objects.{Tells}
 
@@ -62,6 +66,7 @@ Agrees (Puts text) (Puts other) = text ≡ other
 Agrees (PutsLine line) (PutsLine other) = line ≡ other
 Agrees (Executes parts limit) (Executes other most) = limit ≡ most
 Agrees (Interprets program limit) (Interprets other most) = (program ≡ other) × (limit ≡ most)
+Agrees (Samples parts size) (Samples other functions) = size ≡ functions
 Agrees o other = ⊥
 
 -- ---- what was done
@@ -74,11 +79,21 @@ HasImage command bytes = (name : List ℕ) × (image : List ℕ) × Makes comman
 abbrev pub PutsText : Command → List (List ℕ) → List ℕ → Type 0
 PutsText command bytes text = Makes command bytes (Puts text) ⊎ Makes command bytes (PutsLine text)
 
+-- the lines of a sample that ended are put
+abbrev pub TellsSample : Command → List (List ℕ) → List ℕ → Type 0
+TellsSample command bytes text =
+    (parts : Parts) × (size : ℕ) × (value : ℕ) × Makes command bytes (Samples parts size)
+    × ((alone parts).standing ≡ Ended value) × (text ≡ text_of (told_lines parts size value))
+
+-- a text is put, or the lines of a sample
+abbrev pub PutsSome : Command → List (List ℕ) → List ℕ → Type 0
+PutsSome command bytes text = PutsText command bytes text ⊎ TellsSample command bytes text
+
 -- an image was kept, or a text put
 abbrev pub IsDone : World → World → Command → List (List ℕ) → Type 0
 IsDone before after command bytes =
     ((name : List ℕ) × (image : List ℕ) × Makes command bytes (Keeps name image) × Kept before.store.files name image (Ok tt) after.store.files)
-    ⊎ ((text : List ℕ) × PutsText command bytes text × Printed before.output.written after.output.written text)
+    ⊎ ((text : List ℕ) × PutsSome command bytes text × Printed before.output.written after.output.written text)
 
 -- the machine of an image was run, and showed this
 abbrev pub IsShown : World → World → Untouched → Observed → Command → List (List ℕ) → Type 0
@@ -89,15 +104,21 @@ IsShown before after same o command bytes =
 abbrev pub IsMeant : World → World → Status → Command → List (List ℕ) → Type 0
 IsMeant before after s command bytes = (p : Program) × (limit : ℕ) × Makes command bytes (Interprets p limit) × ShowsAs p limit before after s
 
+-- the machine of a sample was run by itself, and showed this
+abbrev pub IsTried : Untouched → Observed → Command → List (List ℕ) → Type 0
+IsTried same o command bytes =
+    (parts : Parts) × (size : ℕ) × Makes command bytes (Samples parts size) × Says o (alone parts).standing × same.output × same.input
+
 -- the machine of an image was run, or the meaning of a text, and showed this
 abbrev pub IsRun : World → World → Untouched → Observed → Command → List (List ℕ) → Type 0
-IsRun before after same o command bytes = IsShown before after same o command bytes ⊎ IsMeant before after (status_of o) command bytes
+IsRun before after same o command bytes =
+    IsShown before after same o command bytes ⊎ (IsMeant before after (status_of o) command bytes ⊎ IsTried same o command bytes)
 
 -- the output failed in a run, or as a text was put
 abbrev pub IsCutShort : World → World → Untouched → Command → List (List ℕ) → Type 0
 IsCutShort before after same command bytes =
     IsRun before after same observed.WriteFault command bytes
-    ⊎ ((text : List ℕ) × PutsText command bytes text × ListedFront before.output.written after.output.written text)
+    ⊎ ((text : List ℕ) × PutsSome command bytes text × ListedFront before.output.written after.output.written text)
 
 -- The machine of an image of the text was run, and the status is what it showed.
 abbrev pub RanBuilt : List ℕ → ℕ → World → World → Untouched → Status → Type 0

@@ -1,5 +1,5 @@
 -- What `interp` shows, beside the meaning of its text.
-use Rattle.std.specs.Prelude.{◌≡◌, ◌≢◌, ◌⊎◌, ◌<◌, ℕ, List}
+use Rattle.std.specs.Prelude.{◌≡◌, ◌≢◌, ◌⊎◌, ◌<◌, ℕ, List, Some}
 use Rattle.ckc_base.specs.Traces.{Standing, Going, Stuck}
 use Rattle.ckc_source.specs.Code.{Program}
 use Rattle.ckc_source.specs.Source.{source}
@@ -20,7 +20,7 @@ ShowsMeaning limit before after o text = (p : Program) × HasMeaning text p × I
 -- exactly the bytes that the meaning puts and takes. A text that has a meaning is always run, but for want of memory,
 -- which comes before the run, or in it.
 pub record Meaning (name : List ℕ) (limit : ℕ) (before after : World) (same : Untouched) (s : Status) : Type 0 where
-  pub shown : (o : Seen) → o ≢ seen.Memory → s ≡ meant_status o → OfFile before.store.files name (ShowsMeaning limit before after o)
+  pub shown : (o : Seen) → o ≢ seen.Memory → meant_status o ≡ Some s → OfFile before.store.files name (ShowsMeaning limit before after o)
   pub memory : s ≡ status.Memory → (same.output × same.input) ⊎ OfFile before.store.files name (ShowsMeaning limit before after seen.Memory)
   pub always : (text : List ℕ) (p : Program) → Tells before.store.files name text → StoreIsFine before.store after.store → HasMeaning text p
       → ShowsAs p limit before after s ⊎ (s ≡ status.Memory)

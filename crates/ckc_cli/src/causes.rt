@@ -1,5 +1,5 @@
 //! Laws: what is so if a status comes.
-ghost use Rattle.std.specs.Prelude.{◌≡◌, ◌≢◌, ◌↔◌, ℕ, List, IsTrue, Option};
+ghost use Rattle.std.specs.Prelude.{◌≡◌, ◌≢◌, ◌↔◌, ℕ, List, IsTrue};
 ghost use Rattle.ckc_base.specs.declared.places.Refusal.{Refusal};
 ghost use Rattle.ckc_base.specs.declared.places.Pos.{Pos};
 ghost use Rattle.ckc_outside.specs.Outside.{Rose};
@@ -42,7 +42,7 @@ pub fn statuses_have_causes<S, O, F>()
 
     // Stuck comes by `interp` alone.
     ensures stuck { FromCause S O F (λ words before after same s.
-        (at : Pos) (since : Option Pos) → s ≡ Status.Stuck at since
+        (at since : Pos) → s ≡ Status.Stuck at since
         → (name : List ℕ) × (limit : ℕ) × Reads words (Interp name limit)) }
 {}
 

@@ -1,5 +1,5 @@
 //! Laws: `interp` shows the meaning of its text.
-ghost use Rattle.std.specs.Prelude.{◌≡◌, ◌⊎◌, ◌≤◌, ℕ, List, Option, Some, [], ◌∷◌};
+ghost use Rattle.std.specs.Prelude.{◌≡◌, ◌⊎◌, ◌≤◌, ℕ, List, Some, [], ◌∷◌};
 ghost use Rattle.ckc_base.specs.declared.places.Pos.{Pos};
 ghost use Rattle.ckc_base.specs.declared.runtime_checks.Check.{Check};
 ghost use Rattle.ckc_base.specs.Traces.{Ended, Stopped, Going};
@@ -32,10 +32,10 @@ pub fn interp_shows<S, O, F>()
         → s ≡ Status.Going → OfFile before.store.files name
         (ShowsMeaning limit before after Seen.Going)) }
     ensures interp_stuck { FromCause S O F (λ words before after same s.
-        (name : List ℕ) (limit : ℕ) (at : Pos) (since : Option Pos)
+        (name : List ℕ) (limit : ℕ) (at since : Pos)
         → Reads words (Interp name limit) → s ≡ Status.Stuck at since
         → OfFile before.store.files name
-        (ShowsMeaning limit before after (Seen.Stuck at since))) }
+        (ShowsMeaning limit before after (Seen.Stuck at (Some since)))) }
     ensures interp_memory { FromCause S O F (λ words before after same s.
         (name : List ℕ) (limit : ℕ) → Reads words (Interp name limit) → s ≡ Status.Memory
         → (same.output × same.input) ⊎ OfFile before.store.files name
@@ -67,8 +67,8 @@ pub fn interp_shows_always<S, O, F>()
         → Given words before.store.files (Interp name limit) (text ∷ [])
         → HasMeaning text p → before.input.left ≡ Some given → AllIsFine before after
         → n ≤ limit → IsStuckFirst p given n
-        → (s ≡ Status.Stuck (place_after p given n) (unchecked_since p given n))
-        ⊎ (s ≡ Status.Memory)) }
+        → ((since : Pos) × (unchecked_since p given n ≡ Some since)
+        × (s ≡ Status.Stuck (place_after p given n) since)) ⊎ (s ≡ Status.Memory)) }
     // The meaning of a text that has one is run.
     ensures interp_always { FromCall S O F (λ words before after same s.
         (name text : List ℕ) (limit : ℕ) (p : Program)

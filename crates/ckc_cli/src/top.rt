@@ -1,6 +1,6 @@
 ghost use Rattle.std.specs.Prelude.{ℕ, List, ◌≡◌};
 ghost use Rattle.ckc_outside.specs.Outside.{Rose};
-ghost use Rattle.ckc_cli_commands.specs.Words.{Exec, Interp, Judge, bytes_of};
+ghost use Rattle.ckc_cli_commands.specs.Words.{Exec, Interp, Judge, Sample, bytes_of};
 ghost use Rattle.ckc_cli_commands.specs.Commands.{Reads};
 ghost use Rattle.ckc_cli_commands.specs.World.{world, untouched};
 ghost use Rattle.ckc_cli_commands.specs.Causes.{Caused, FailsOnce, Reported, MayFail, puts_after};
@@ -9,6 +9,7 @@ ghost use Rattle.ckc_cli.specs.Agreeing.{Headline};
 ghost use Rattle.ckc_cli.specs.Meaning.{Meaning};
 ghost use Rattle.ckc_cli.specs.Blame.{Blame};
 ghost use Rattle.ckc_cli.specs.Checking.{Checking};
+ghost use Rattle.ckc_cli.specs.Sampling.{Sampling};
 
 use ckc_build::unchecked_code_is_to_blame;
 use ckc_cli_calls::put_line;
@@ -56,6 +57,13 @@ pub fn ccc<S: Source, O: Sink, E: Sink, F: Store>(
         → Reads (bytes_of words.now) (Judge name) → Checking name
         (world (S.seen input.old) (O.seen out.old) (E.seen err.old) (F.seen store.old))
         (world (S.seen input.new) (O.seen out.new) (E.seen err.new) (F.seen store.new)) result }
+
+    // `sample` runs the machine of the text of its seed and size, and tells of it in three lines, one call each.
+    ensures sample { (seed size : ℕ)
+        → Reads (bytes_of words.now) (Sample seed size) → Sampling seed size
+        (world (S.seen input.old) (O.seen out.old) (E.seen err.old) (F.seen store.old))
+        (world (S.seen input.new) (O.seen out.new) (E.seen err.new) (F.seen store.new))
+        (untouched input.old input.new out.old out.new store.old store.new) result }
 
     // The report of the status is put on err in one call; a fault of err changes no status.
     ensures report { Reported (report_of result) (E.seen err.old).written (E.seen err.new).written

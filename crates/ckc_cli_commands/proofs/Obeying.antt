@@ -36,7 +36,7 @@ over_limit f name limit before e h = subst (λ (f : Fetched). Fetches name limit
 pub whole_of : (f : Fetched) (bytes name : List ℕ) (limit : ℕ) (before : Stored) → f ≡ Whole bytes → Fetches name limit before (Ok f) → Holds before.files name bytes × (length bytes ≤ limit)
 whole_of f bytes name limit before e h = subst (λ (f : Fetched). Fetches name limit before (Ok f)) e h
 
-same_image : (f g : Format) (bytes : List ℕ) (p q : Parts) → IsImageIn f bytes p → IsImageIn g bytes q → p ≡ q
+pub same_image : (f g : Format) (bytes : List ℕ) (p q : Parts) → IsImageIn f bytes p → IsImageIn g bytes q → p ≡ q
 same_image f g bytes p q i j =
     let e = same_parts f g bytes p.entry q.entry p.code q.code p.initial q.initial i j in
     λ k. record { entry = e.1 k; code = e.2 k; initial = e.3 k }

@@ -3,7 +3,7 @@ use Rattle.std.proofs.Common.{◌≡◌, ◌≢◌, ℕ, List, ◌∷◌, Option
 use Rattle.ckc_cli_commands.specs.declared.words.Command as commands
 use Rattle.ckc_cli_commands.specs.declared.words.Keyword.{Keyword}
 use Rattle.ckc_cli_commands.specs.declared.words.Keyword.TheVariants as keywords
-use Rattle.ckc_cli_commands.specs.Words.{Command, Build, Assemble, Exec, Interp, Run, Show, Judge, NameAndLimit}
+use Rattle.ckc_cli_commands.specs.Words.{Command, Build, Assemble, Exec, Interp, Run, Show, Judge, Sample, NameAndLimit, SeedAndSize}
 use Rattle.ckc_cli_commands.specs.Commands.{row_of, Reads}
 use Rattle.ckc_cli_commands.specs.Commanded.{command_is}
 use Rattle.ckc_cli_commands.specs.code.Commanded.{spelling, HasArguments}
@@ -16,6 +16,7 @@ no_exec more none (Interp text limit) h = omega (arith, ap (λ (l : List ℕ). g
 no_exec more none (Run image limit) h = omega (arith, ap (λ (l : List ℕ). get_or l 0 0) h.0)
 no_exec more none (Show image) h = omega (arith, ap (λ (l : List ℕ). get_or l 0 0) h.0)
 no_exec more none (Judge text) h = omega (arith, ap (λ (l : List ℕ). get_or l 0 0) h.0)
+no_exec more none (Sample seed size) h = omega (arith, ap (λ (l : List ℕ). get_or l 0 0) h.0)
 
 pub no_interp : (more : List (List ℕ)) → ((name : List ℕ) (limit : ℕ) → NameAndLimit more name limit → ⊥) → (command : Command) → HasArguments keywords.Interp more command → ⊥
 no_interp more none (Build text image) h = omega (arith, ap (λ (l : List ℕ). get_or l 0 0) h.0)
@@ -25,6 +26,7 @@ no_interp more none (Interp text limit) h = none text limit h.1
 no_interp more none (Run image limit) h = omega (arith, ap (λ (l : List ℕ). get_or l 0 0) h.0)
 no_interp more none (Show image) h = omega (arith, ap (λ (l : List ℕ). get_or l 0 0) h.0)
 no_interp more none (Judge text) h = omega (arith, ap (λ (l : List ℕ). get_or l 0 0) h.0)
+no_interp more none (Sample seed size) h = omega (arith, ap (λ (l : List ℕ). get_or l 0 0) h.0)
 
 pub no_run : (more : List (List ℕ)) → ((name : List ℕ) (limit : ℕ) → NameAndLimit more name limit → ⊥) → (command : Command) → HasArguments keywords.Run more command → ⊥
 no_run more none (Build text image) h = omega (arith, ap (λ (l : List ℕ). get_or l 0 0) h.0)
@@ -34,6 +36,17 @@ no_run more none (Interp text limit) h = omega (arith, ap (λ (l : List ℕ). ge
 no_run more none (Run image limit) h = none image limit h.1
 no_run more none (Show image) h = omega (arith, ap (λ (l : List ℕ). get_or l 0 0) h.0)
 no_run more none (Judge text) h = omega (arith, ap (λ (l : List ℕ). get_or l 0 0) h.0)
+no_run more none (Sample seed size) h = omega (arith, ap (λ (l : List ℕ). get_or l 0 0) h.0)
+
+pub no_sample : (more : List (List ℕ)) → ((seed size : ℕ) → SeedAndSize more seed size → ⊥) → (command : Command) → HasArguments keywords.Sample more command → ⊥
+no_sample more none (Build text image) h = omega (arith, ap (λ (l : List ℕ). get_or l 0 0) h.0)
+no_sample more none (Assemble text image) h = omega (arith, ap (λ (l : List ℕ). get_or l 0 0) h.0)
+no_sample more none (Exec text limit) h = omega (arith, ap (λ (l : List ℕ). get_or l 0 0) h.0)
+no_sample more none (Interp text limit) h = omega (arith, ap (λ (l : List ℕ). get_or l 0 0) h.0)
+no_sample more none (Run image limit) h = omega (arith, ap (λ (l : List ℕ). get_or l 0 0) h.0)
+no_sample more none (Show image) h = omega (arith, ap (λ (l : List ℕ). get_or l 0 0) h.0)
+no_sample more none (Judge text) h = omega (arith, ap (λ (l : List ℕ). get_or l 0 0) h.0)
+no_sample more none (Sample seed size) h = none seed size h.1
 
 -- the first word of a command is spelled so
 spelled : (command : Command) → (k : Keyword) × ((row_of command).keyword ≡ spelling k)
@@ -44,6 +57,7 @@ spelled (Interp text limit) = (keywords.Interp, refl)
 spelled (Run image limit) = (keywords.Run, refl)
 spelled (Show image) = (keywords.List, refl)
 spelled (Judge text) = (keywords.Check, refl)
+spelled (Sample seed size) = (keywords.Sample, refl)
 
 pub head_is : (a b : List ℕ) (cs ds : List (List ℕ)) → a ∷ cs ≡ b ∷ ds → a ≡ b
 head_is a b cs ds e = cc

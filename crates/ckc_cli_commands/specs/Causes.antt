@@ -10,10 +10,11 @@ use Rattle.ckc_cli_commands.specs.declared.status.Status.{Status}
 use Rattle.ckc_cli_commands.specs.declared.status.Status.TheVariants as status
 use Rattle.ckc_cli_commands.specs.World.{World, Untouched}
 use Rattle.ckc_cli_commands.specs.Words.{Command}
-use Rattle.ckc_cli_commands.specs.Outcomes.{Outcome, Refuses, IsBad, Keeps, Puts, PutsLine, Executes, Interprets}
+use Rattle.ckc_cli_commands.specs.Outcomes.{Outcome, Refuses, IsBad, Keeps, Puts, PutsLine, Executes, Interprets, Samples}
 use Rattle.ckc_cli_commands.specs.Commands.{Fetch, fetches_of, Reads, Makes}
 use Rattle.ckc_cli_commands.specs.Running.{Ran, Listed, status_of}
 use Rattle.ckc_cli_commands.specs.Interpreting.{ShowsAs}
+use Rattle.ckc_cli_commands.specs.Sampling.{Sampled}
 
 -- ---- faults
 
@@ -66,6 +67,8 @@ Comes (PutsLine line) before after same s =
 Comes (Executes parts limit) before after same s =
     ((o : Observed) × (s ≡ status_of o) × Ran parts limit before after same.input o) × Unkept before.store after.store
 Comes (Interprets p limit) before after same s = ShowsAs p limit before after s × Unkept before.store after.store
+Comes (Samples parts size) before after same s =
+    Sampled parts size before.output after.output same.output s × Unkept before.store after.store × same.input
 
 -- ---- commands
 

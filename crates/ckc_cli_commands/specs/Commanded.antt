@@ -1,5 +1,5 @@
 -- The commands of the code as those of the definition.
-use Rattle.ckc_cli_commands.specs.Words.{Command, Build, Assemble, Exec, Interp, Run, Show, Judge}
+use Rattle.ckc_cli_commands.specs.Words.{Command, Build, Assemble, Exec, Interp, Run, Show, Judge, Sample}
 use Rattle.ckc_cli_commands.specs.declared.words.Command as commands
 use Rattle.ckc_cli_commands.specs.declared.words.Command.TheVariants as command
 
@@ -11,3 +11,4 @@ command_is (command.Interp text limit) = Interp text.now limit
 command_is (command.Run image limit) = Run image.now limit
 command_is (command.List image) = Show image.now
 command_is (command.Check text) = Judge text.now
+command_is (command.Sample seed size) = Sample seed size

@@ -9,8 +9,9 @@ use Rattle.ckc_asm_listing.specs.Listing.{shown_image}
 use Rattle.ckc_asm.specs.Phase.{assembling}
 use Rattle.ckc_build.specs.Built.{Built, IsImage, IsImageIn}
 use Rattle.ckc_build.specs.Meanings.{judging, HasMeaning, FirstFault}
-use Rattle.ckc_cli_commands.specs.Words.{Command, Build, Assemble, Exec, Interp, Run, Show, Judge, NameAndLimit}
-use Rattle.ckc_cli_commands.specs.Outcomes.{Outcome, Refuses, IsBad, Keeps, Puts, PutsLine, Executes, Interprets}
+use Rattle.ckc_cli_sample.specs.Sample.{sample_text}
+use Rattle.ckc_cli_commands.specs.Words.{Command, Build, Assemble, Exec, Interp, Run, Show, Judge, Sample, NameAndLimit, SeedAndSize}
+use Rattle.ckc_cli_commands.specs.Outcomes.{Outcome, Refuses, IsBad, Keeps, Puts, PutsLine, Executes, Interprets, Samples}
 use Rattle.ckc_cli_commands.specs.Checking.{checked_line}
 
 -- ---- what is fetched
@@ -57,6 +58,11 @@ abbrev pub OfOne : (List ℕ → Outcome → Type 0) → List (List ℕ) → Out
 OfOne Comes (bytes ∷ []) o = Comes bytes o
 OfOne Comes fetched o = ⊥
 
+-- an outcome comes, and nothing was fetched
+abbrev pub OfNone : (Outcome → Type 0) → List (List ℕ) → Outcome → Type 0
+OfNone Comes [] o = Comes o
+OfNone Comes (bytes ∷ more) o = ⊥
+
 -- ---- the commands
 
 -- A command: its first word, the other words, what it fetches, in this order, and the outcome that comes of the bytes.
@@ -85,6 +91,12 @@ row_of (Show image) =
 row_of (Judge text) =
     one_file (codes "check") (λ words. words ≡ text ∷ []) (a_text text)
     (OfText FirstFault judging.Makes (λ p. PutsLine (checked_line p)))
+row_of (Sample seed size) = record {
+  keyword = codes "sample";
+  Arguments = λ words. SeedAndSize words seed size;
+  fetches = [];
+  Makes = OfNone (OfText FirstFault Built (λ parts. Samples parts size) (sample_text seed size));
+}
 
 -- The words are those of the command. They are compared byte for byte, and a name may be any word.
 abbrev pub Reads : List (List ℕ) → Command → Type 0

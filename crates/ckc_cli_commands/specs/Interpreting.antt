@@ -1,5 +1,5 @@
 -- What running the meaning of a text shows.
-use Rattle.std.specs.Prelude.{◌≡◌, ℕ}
+use Rattle.std.specs.Prelude.{◌≡◌, ℕ, Option, None, Some}
 use Rattle.ckc_source.specs.Code.{Program}
 use Rattle.ckc_interp.specs.declared.seen.Seen as seens
 use Rattle.ckc_interp.specs.declared.seen.Seen.TheVariants as seen
@@ -19,16 +19,17 @@ pub record Interpreted (p : Program) (limit : ℕ) (before after : World) (o : s
   pub told : WhereTold before.input.left after.input.left (Interprets p limit (streams_of before) (streams_of after) o)
   pub any : OverAny before.input after.input (Interprets p limit (streams_of before) (streams_of after) o)
 
--- the status of what a run of a meaning shows
-abbrev pub meant_status : seens.Seen → Status
-meant_status (seen.Ended value) = status.Ended value
-meant_status (seen.Stopped check at) = status.Stopped check at
-meant_status seen.Going = status.Going
-meant_status (seen.Stuck at since) = status.Stuck at since
-meant_status seen.ReadFault = status.ReadFault
-meant_status seen.WriteFault = status.WriteFault
-meant_status seen.Memory = status.Memory
+-- The status of what a run of a meaning shows. What is stuck though no unchecked code ran has none: no text means that.
+abbrev pub meant_status : seens.Seen → Option Status
+meant_status (seen.Ended value) = Some (status.Ended value)
+meant_status (seen.Stopped check at) = Some (status.Stopped check at)
+meant_status seen.Going = Some status.Going
+meant_status (seen.Stuck at (Some since)) = Some (status.Stuck at since)
+meant_status (seen.Stuck at None) = None
+meant_status seen.ReadFault = Some status.ReadFault
+meant_status seen.WriteFault = Some status.WriteFault
+meant_status seen.Memory = Some status.Memory
 
 -- a run of the program shows the status
 abbrev pub ShowsAs : Program → ℕ → World → World → Status → Type 0
-ShowsAs p limit before after s = (o : seens.Seen) × (s ≡ meant_status o) × Interpreted p limit before after o
+ShowsAs p limit before after s = (o : seens.Seen) × (meant_status o ≡ Some s) × Interpreted p limit before after o

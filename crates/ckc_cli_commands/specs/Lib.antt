@@ -6,6 +6,7 @@ pub mod Commanded
 pub mod Checking
 pub mod Commands
 pub mod Running
+pub mod Sampling
 pub mod Causes
 pub mod Interpreting
 pub mod code

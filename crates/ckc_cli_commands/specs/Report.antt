@@ -1,5 +1,5 @@
 -- The exit status and the line of each status.
-use Rattle.std.specs.Prelude.{ℕ, ◌+◌, ◌%◌, List, [], ◌∷◌, ◌++◌, codes, Option, None, Some}
+use Rattle.std.specs.Prelude.{ℕ, ◌+◌, ◌%◌, List, [], ◌∷◌, ◌++◌, codes}
 use Rattle.std.specs.Fmt.{decimal}
 use Rattle.ckc_asm.specs.Names.{hex}
 use Rattle.ckc_base.specs.declared.places.Pos.{Pos}
@@ -39,11 +39,6 @@ kind_name Call = codes "call"
 abbrev pub place : Pos → List ℕ
 place at = decimal at.line ++ codes ":" ++ decimal at.col
 
--- where unchecked code first ran, if it did
-abbrev pub since_words : Option Pos → List ℕ
-since_words None = []
-since_words (Some since) = codes ", unchecked since " ++ place since
-
 -- the words of a status, without the end of the line
 abbrev pub report_words : Status → List ℕ
 report_words Done = []
@@ -51,7 +46,7 @@ report_words (Ended value) = []
 report_words (Stopped check at) = codes "stopped: " ++ name_of check ++ codes " at " ++ place at
 report_words Going = codes "going: limit reached"
 report_words (MachineFault kind pc) = codes "fault: " ++ kind_name kind ++ codes " at 0x" ++ hex 8 pc
-report_words (Stuck at since) = codes "stuck: at " ++ place at ++ since_words since
+report_words (Stuck at since) = codes "stuck: at " ++ place at ++ codes ", unchecked since " ++ place since
 report_words Usage = codes "ccc: wrong words"
 report_words (Refused refusal) = codes "refused: E" ++ decimal refusal.code ++ codes " at " ++ place refusal.pos
 report_words (BadImage part) = codes "bad image: part " ++ decimal part

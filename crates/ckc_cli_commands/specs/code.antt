@@ -3,3 +3,4 @@ pub mod Commands
 pub mod Fetching
 pub mod Judging
 pub mod Running
+pub mod Sampling

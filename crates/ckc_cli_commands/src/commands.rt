@@ -9,14 +9,16 @@ ghost use Rattle.ckc_outside.specs.Outside.{SeenSource, SeenSink, Stored};
 ghost use Rattle.ckc_cli_commands.specs.Causes.{OnlyFetched, Unkept, Asked, Came, Obeyed, input_faults, output_faults, store_faults};
 ghost use Rattle.ckc_cli_commands.specs.code.Judging.{fault_status, NoFault};
 ghost use Rattle.ckc_cli_commands.specs.code.Fetching.{Fetches, reads_after, writes_after, stores_after};
+ghost use Rattle.ckc_cli_commands.specs.code.Sampling.{OfSample};
 
 use crate::assembly::assemble;
 use crate::checking::say_checked;
-use crate::run::{list_bytes, meant, run_bytes};
+use crate::run::{list_bytes, meant, run_bytes, sample_bytes};
 use crate::status::Status;
 use ckc_base::{Fault, LONG_TEXT, LONGEST_TEXT, Refusal, START};
-use ckc_build::{build, judge, program};
+use ckc_build::{build, judge, program, unchecked_code_is_to_blame};
 use ckc_cli_calls::{fetch_file, keep_file};
+use ckc_cli_sample::sample_of;
 use ckc_interp::interp;
 use ckc_outside::{Fetched, Sink, Source, Store, StoreError};
 use std::alloc::Global;
@@ -234,6 +236,7 @@ fn interp_bytes<S: Source, O: Sink>(
             let seen = interp(alloc, &p, limit, input, out);
             // The program is left to the end of the process, which gives its memory back at once.
             forget(p);
+            unchecked_code_is_to_blame();
             meant(seen)
         }
     }
@@ -334,6 +337,39 @@ fn check_bytes<O: Sink>(alloc: Global, bytes: &[u8], out: &mut O) -> Status
             forget(typed);
             status
         }
+    }
+}
+
+/// `sample SEED SIZE`
+pub fn sample<O: Sink>(alloc: Global, seed: u32, size: u32, out: &mut O) -> Status
+    ensures cause { (input : SeenSource) (error error' : SeenSink) (store : Stored)
+        → Obeyed (w.Sample seed size)
+        (world input (O.seen out.old) error store)
+        (world input (O.seen out.new) error' store)
+        (output_alone out.old out.new) result }
+    ensures reads { (n : ℕ) → n ≡ input_faults result n }
+    ensures writes { (O.seen out.new).faults
+        ≡ output_faults result (O.seen out.old).faults }
+    ensures stores { (n : ℕ) → n ≡ store_faults result n }
+{
+    match sample_of(alloc, seed, size) {
+        Err(_) => Status::Memory,
+        Ok(text) => build_sample(alloc, text.as_slice(), size, out),
+    }
+}
+
+/// Builds the text of a sample and runs its image.
+fn build_sample<O: Sink>(alloc: Global, text: &[u8], size: u32, out: &mut O) -> Status
+    ensures cause { OfSample text.now size (O.seen out.old) (O.seen out.new)
+        (out.new ≡ out.old) result }
+    ensures reads { (n : ℕ) → n ≡ input_faults result n }
+    ensures writes { (O.seen out.new).faults
+        ≡ output_faults result (O.seen out.old).faults }
+    ensures stores { (n : ℕ) → n ≡ store_faults result n }
+{
+    match build(alloc, text) {
+        Err(fault) => status_of(fault),
+        Ok(image) => sample_bytes(alloc, image.as_slice(), size, out),
     }
 }
 

@@ -11,7 +11,7 @@ mod words;
 
 pub use ckc_machine::FaultKind;
 pub use commands::{
-    assemble_text, build_text, check_text, exec_text, interp_text, list_image, run_image,
+    assemble_text, build_text, check_text, exec_text, interp_text, list_image, run_image, sample,
 };
 pub use reporting::report;
 pub use status::Status;

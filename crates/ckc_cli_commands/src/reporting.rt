@@ -2,7 +2,7 @@ ghost use Rattle.std.specs.Prelude.{◌≡◌, ◌+◌, ◌≤◌, [], ◌∷◌
 ghost use Rattle.std.specs.Fmt.{decimal};
 ghost use Rattle.ckc_asm.specs.Names.{hex};
 ghost use Rattle.ckc_base.specs.Checks.{name_of};
-ghost use Rattle.ckc_cli_commands.specs.Report.{report_of, kind_name, place, since_words};
+ghost use Rattle.ckc_cli_commands.specs.Report.{report_of, kind_name, place};
 
 use crate::status::Status;
 use ckc_asm_listing::TextLine;
@@ -52,26 +52,17 @@ fn stopped_line(check: Check, at: &Pos) -> TextLine
     line
 }
 
-fn stuck_line(at: &Pos, since: &Option<Pos>) -> TextLine
-    ensures { result ≡ codes "stuck: at " ++ place at.now ++ since_words since.now ++ 10 ∷ [] }
+fn stuck_line(at: &Pos, since: &Pos) -> TextLine
+    ensures { result ≡ codes "stuck: at " ++ place at.now
+        ++ codes ", unchecked since " ++ place since.now ++ 10 ∷ [] }
 {
     let mut line = TextLine::new();
     line.push_text(b"stuck: at ");
     push_place(&mut line, at);
-    push_since(&mut line, since);
+    line.push_text(b", unchecked since ");
+    push_place(&mut line, since);
     line.push(b'\n');
     line
-}
-
-fn push_since(line: &mut TextLine, since: &Option<Pos>)
-    requires { length line.old ≤ 31 }
-    ensures text { line.new ≡ line.old ++ since_words since.now }
-    ensures length { length line.new ≤ length line.old + 39 }
-{
-    if let Some(at) = since {
-        line.push_text(b", unchecked since ");
-        push_place(line, at);
-    }
 }
 
 fn fault_line(kind: FaultKind, pc: u32) -> TextLine

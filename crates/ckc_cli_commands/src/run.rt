@@ -1,5 +1,5 @@
 //! Running and listing the bytes of an image, and what a run of a meaning shows.
-ghost use Rattle.std.specs.Prelude.{◌≡◌, ℕ};
+ghost use Rattle.std.specs.Prelude.{◌≡◌, ◌≢◌, ℕ, IsSome, Some};
 ghost use Rattle.ckc_rv.specs.Machine.{Parts};
 ghost use Rattle.ckc_asm_listing.specs.Listing.{shown_image};
 ghost use Rattle.ckc_cli_commands.specs.Interpreting.{meant_status};
@@ -7,12 +7,19 @@ ghost use Rattle.ckc_outside.specs.Outside.{SeenSink, Stored};
 ghost use Rattle.ckc_cli_commands.specs.World.{world, streams};
 ghost use Rattle.ckc_cli_commands.specs.Running.{Listed, status_of};
 ghost use Rattle.ckc_cli_commands.specs.code.Running.{Ends, OverImage};
+ghost use Rattle.ckc_cli_commands.specs.Words.{usual_limit};
+ghost use Rattle.ckc_cli_commands.specs.Sampling.{Lined, Sampled};
+ghost use Rattle.ckc_cli_commands.specs.code.Sampling.{Tried};
+ghost use Rattle.ckc_cli_sample.specs.Alone.{RunsAlone};
+ghost use Rattle.ckc_cli_sample.specs.Sample.{sample_lines};
 ghost use Rattle.ckc_cli_commands.specs.Causes.{input_faults, output_faults, store_faults};
 ghost use Rattle.ckc_machine.specs.Runs as machines;
 ghost use Rattle.ckc_interp.specs.Runs as meanings;
 
 use crate::status::Status;
+use crate::words::USUAL_LIMIT;
 use ckc_asm_listing::show;
+use ckc_cli_sample::{put_sample, run_alone};
 use ckc_image::View;
 use ckc_interp::Seen;
 use ckc_machine::{Machine, Observed};
@@ -88,9 +95,10 @@ fn shown(observed: Observed) -> Status
     }
 }
 
-/// The status of what a run of a meaning shows.
+/// The status of what a run of a meaning shows, where unchecked code ran if it is stuck.
 pub fn meant(seen: Seen) -> Status
-    ensures is { result ≡ meant_status seen }
+    requires blamed { IsSome (meant_status seen) }
+    ensures is { meant_status seen ≡ Some result }
     ensures reads { (n : ℕ) → meanings.read_faults seen n ≡ input_faults result n }
     ensures writes { (n : ℕ) → meanings.write_faults seen n ≡ output_faults result n }
     ensures stores { (n : ℕ) → n ≡ store_faults result n }
@@ -99,7 +107,8 @@ pub fn meant(seen: Seen) -> Status
         Seen::Ended(value) => Status::Ended(value),
         Seen::Stopped(check, pos) => Status::Stopped(check, pos),
         Seen::Going => Status::Going,
-        Seen::Stuck(at, since) => Status::Stuck(at, since),
+        Seen::Stuck(at, Some(since)) => Status::Stuck(at, since),
+        Seen::Stuck(_, None) => Status::Memory,
         Seen::ReadFault => Status::ReadFault,
         Seen::WriteFault => Status::WriteFault,
         Seen::Memory => Status::Memory,
@@ -123,5 +132,67 @@ pub fn list_bytes<O: Sink>(image: &[u8], out: &mut O) -> Status
             Ok(()) => Status::Done,
             Err(_) => Status::WriteFault,
         },
+    }
+}
+
+/// Runs the image of a sample, or says which part of the bytes disagrees.
+pub fn sample_bytes<O: Sink>(alloc: Global, image: &[u8], size: u32, out: &mut O) -> Status
+    ensures over { OverImage image.now (λ format parts. Tried parts size
+        (O.seen out.old) (O.seen out.new) (out.new ≡ out.old) result)
+        (out.new ≡ out.old) result }
+    ensures reads { (n : ℕ) → n ≡ input_faults result n }
+    ensures writes { (O.seen out.new).faults
+        ≡ output_faults result (O.seen out.old).faults }
+    ensures stores { (n : ℕ) → n ≡ store_faults result n }
+{
+    match View::read(image) {
+        Err(bad) => Status::BadImage(bad.0),
+        Ok(view) => sample_view(alloc, view, size, out),
+    }
+}
+
+/// Runs the image of a sample.
+fn sample_view<'a, O: Sink>(alloc: Global, view: View<'a>, size: u32, out: &mut O) -> Status
+    ensures tried { (parts : Parts) → parts.entry ≡ view.entry.entry
+        → parts.code ≡ view.entry.code.now → parts.initial ≡ view.entry.initial.now
+        → Tried parts size (O.seen out.old) (O.seen out.new) (out.new ≡ out.old) result }
+    ensures reads { (n : ℕ) → n ≡ input_faults result n }
+    ensures writes { (O.seen out.new).faults
+        ≡ output_faults result (O.seen out.old).faults }
+    ensures stores { (n : ℕ) → n ≡ store_faults result n }
+{
+    match run_alone(alloc, view, USUAL_LIMIT) {
+        Err(_) => Status::Memory,
+        Ok((observed, count)) => tell_sample(observed, size, count, out),
+    }
+}
+
+/// Puts the lines of a sample that ended; gives the status of what else its run showed.
+fn tell_sample<O: Sink>(observed: Observed, size: u32, count: u32, out: &mut O) -> Status
+    ensures sampled { (parts : Parts) → RunsAlone parts usual_limit observed count
+        → Sampled parts size (O.seen out.old) (O.seen out.new) (out.new ≡ out.old) result }
+    ensures reads { observed ≢ Observed.ReadFault → (n : ℕ) → n ≡ input_faults result n }
+    ensures writes { observed ≢ Observed.WriteFault → (O.seen out.new).faults
+        ≡ output_faults result (O.seen out.old).faults }
+    ensures stores { (n : ℕ) → n ≡ store_faults result n }
+{
+    match observed {
+        Observed::Ended(value) => say_ended(size, count, value, out),
+        _ => shown(observed),
+    }
+}
+
+/// Puts the lines of a sample that ended with a value.
+fn say_ended<O: Sink>(size: u32, count: u32, value: u32, out: &mut O) -> Status
+    ensures lined { Lined (sample_lines size count value)
+        (O.seen out.old) (O.seen out.new) result }
+    ensures reads { (n : ℕ) → n ≡ input_faults result n }
+    ensures writes { (O.seen out.new).faults
+        ≡ output_faults result (O.seen out.old).faults }
+    ensures stores { (n : ℕ) → n ≡ store_faults result n }
+{
+    match put_sample(size, count, value, out) {
+        Ok(()) => Status::Done,
+        Err(_) => Status::WriteFault,
     }
 }

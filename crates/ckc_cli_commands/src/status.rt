@@ -10,7 +10,7 @@ use ckc_machine::FaultKind;
 /// - `Ended(value)`, `Stopped(check, place)`: the program ended, or stopped at a run-time check.
 /// - `Going`: the limit of instructions, or of steps, was reached.
 /// - `MachineFault(kind, pc)`: a fault of the machine at the instruction at pc.
-/// - `Stuck(place, since)`: the meaning of the text is stuck at the place; where unchecked code first ran, if it did.
+/// - `Stuck(place, since)`: the meaning of the text is stuck at the place; where unchecked code first ran.
 /// - `Usage`: the words are no command.
 /// - `Refused(refusal)`: the text is not accepted.
 /// - `BadImage(part)`: the bytes are no image; the part that disagrees.
@@ -23,7 +23,7 @@ pub enum Status {
     Stopped(Check, Pos),
     Going,
     MachineFault(FaultKind, u32),
-    Stuck(Pos, Option<Pos>),
+    Stuck(Pos, Pos),
     Usage,
     Refused(Refusal),
     BadImage(u8),

@@ -1,12 +1,13 @@
 //! The words of the command line.
-ghost use Rattle.std.specs.Prelude.{◌≡◌, ◌≢◌, ℕ, List, MatchOption};
+ghost use Rattle.std.specs.Prelude.{◌≡◌, ◌≢◌, ◌≤◌, ℕ, List, MatchOption};
 ghost use Rattle.ckc_cli_commands.specs.Words as w;
-ghost use Rattle.ckc_cli_commands.specs.Words.{IsLimit, NameAndLimit, bytes_of};
+ghost use Rattle.ckc_cli_commands.specs.Words.{IsNumber, IsLimit, IsSeed, IsSize, NameAndLimit, SeedAndSize, bytes_of};
 ghost use Rattle.ckc_cli_commands.specs.Commands.{Reads};
 ghost use Rattle.ckc_cli_commands.specs.Commanded.{command_is};
 ghost use Rattle.ckc_cli_commands.specs.code.Commanded.{spelling, HasArguments, IsTwo, IsOne};
 
-/// What the words ask for, with the names of files and the most instructions that are executed, or steps that are run.
+/// What the words ask for, with the names of files and the most instructions that are executed, or steps that are run; or
+/// with what begins the numbers of a sample, and how many functions it has.
 #[derive(Clone, Copy)]
 pub enum Command<'a> {
     Build(&'a str, &'a str),
@@ -16,6 +17,7 @@ pub enum Command<'a> {
     Run(&'a str, u64),
     List(&'a str),
     Check(&'a str),
+    Sample(u32, u32),
 }
 
 /// The first word of a command.
@@ -28,10 +30,11 @@ enum Keyword {
     Run,
     List,
     Check,
+    Sample,
 }
 
 /// The limit if the words say none.
-const USUAL_LIMIT: u64 = 1_000_000_000;
+pub const USUAL_LIMIT: u64 = 1_000_000_000;
 
 /// The command that the words are.
 pub fn command_of(words: &[String]) -> Option<Command<'_>>
@@ -59,6 +62,7 @@ fn keyword_of(name: &str) -> Option<Keyword>
         "run" => Some(Keyword::Run),
         "list" => Some(Keyword::List),
         "check" => Some(Keyword::Check),
+        "sample" => Some(Keyword::Sample),
         _ => None,
     }
 }
@@ -98,6 +102,10 @@ fn command_with(keyword: Keyword, more: &[String]) -> Option<Command<'_>>
             None => None,
             Some(text) => Some(Command::Check(text)),
         },
+        Keyword::Sample => match seed_and_size(more) {
+            None => None,
+            Some((seed, size)) => Some(Command::Sample(seed, size)),
+        },
     }
 }
 
@@ -136,20 +144,79 @@ fn name_and_limit(words: &[String]) -> Option<(&str, u64)>
     }
 }
 
+fn seed_and_size(words: &[String]) -> Option<(u32, u32)>
+    ensures { MatchOption result ((seed size : ℕ)
+        → ¬ SeedAndSize (bytes_of words.now) seed size)
+        (λ found. SeedAndSize (bytes_of words.now) found.0 found.1) }
+{
+    match words {
+        [first, second] => match seed_of(first.as_str()) {
+            None => None,
+            Some(seed) => match size_of(second.as_str()) {
+                None => None,
+                Some(size) => Some((seed, size)),
+            },
+        },
+        _ => None,
+    }
+}
+
 fn limit_of(word: &str) -> Option<u64>
     ensures { MatchOption result ((limit : ℕ)
         → ¬ IsLimit word.now limit) (λ limit. IsLimit word.now limit) }
 {
-    if word.len() > 18 || word.as_bytes().first() == Some(&b'+') {
-        return None;
-    }
-    match word.parse::<u64>() {
-        Err(_) => None,
-        Ok(limit) => {
+    match number_of(word, 18) {
+        None => None,
+        Some(limit) => {
             if limit == 0 {
                 return None;
             }
             Some(limit)
         }
+    }
+}
+
+fn seed_of(word: &str) -> Option<u32>
+    ensures { MatchOption result ((seed : ℕ)
+        → ¬ IsSeed word.now seed) (λ seed. IsSeed word.now seed) }
+{
+    match number_of(word, 10) {
+        None => None,
+        Some(seed) => {
+            if seed > 0xffff_ffff {
+                return None;
+            }
+            Some(seed as u32)
+        }
+    }
+}
+
+fn size_of(word: &str) -> Option<u32>
+    ensures { MatchOption result ((size : ℕ)
+        → ¬ IsSize word.now size) (λ size. IsSize word.now size) }
+{
+    match number_of(word, 3) {
+        None => None,
+        Some(size) => {
+            if size == 0 || size > 250 {
+                return None;
+            }
+            Some(size as u32)
+        }
+    }
+}
+
+/// The number that a word of so many digits at most is.
+fn number_of(word: &str, most: usize) -> Option<u64>
+    requires { most ≤ 18 }
+    ensures { MatchOption result ((n : ℕ)
+        → ¬ IsNumber most word.now n) (λ n. IsNumber most word.now n) }
+{
+    if word.len() > most || word.as_bytes().first() == Some(&b'+') {
+        return None;
+    }
+    match word.parse::<u64>() {
+        Err(_) => None,
+        Ok(n) => Some(n),
     }
 }

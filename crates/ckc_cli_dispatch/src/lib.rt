@@ -1,8 +1,10 @@
 //! From the words of the command line to what the command does, and to its status.
 #![tactic(auto)]
 
-ghost use Rattle.std.specs.Prelude.{◌≡◌};
+ghost use Rattle.std.specs.Prelude.{◌≡◌, []};
+ghost use Rattle.ckc_cli_commands.specs.Words as w;
 ghost use Rattle.ckc_cli_commands.specs.Words.{bytes_of};
+ghost use Rattle.ckc_cli_commands.specs.Commands.{Reads, fetches_of};
 ghost use Rattle.ckc_cli_commands.specs.Commanded.{command_is};
 ghost use Rattle.ckc_outside.specs.Outside.{SeenSink};
 ghost use Rattle.ckc_cli_commands.specs.World.{world, streams, untouched};
@@ -10,7 +12,7 @@ ghost use Rattle.ckc_cli_commands.specs.Causes.{Caused, Obeyed, input_faults, ou
 
 use ckc_cli_commands::{
     Command, Status, assemble_text, build_text, check_text, command_of, exec_text, interp_text,
-    list_image, run_image,
+    list_image, run_image, sample,
 };
 use ckc_outside::{Sink, Source, Store};
 use std::alloc::Global;
@@ -33,6 +35,9 @@ pub fn asked<S: Source, O: Sink, F: Store>(
         ≡ output_faults result (O.seen out.old).faults }
     ensures stores { (F.seen store.new).faults
         ≡ store_faults result (F.seen store.old).faults }
+    // The store is not called if the words read no command that fetches a file.
+    ensures uncalled { ((command : w.Command) → Reads (bytes_of words.now) command
+        → fetches_of command ≡ []) → store.new ≡ store.old }
 {
     match command_of(words) {
         None => Status::Usage,
@@ -58,6 +63,7 @@ fn obey<'a, S: Source, O: Sink, F: Store>(
         ≡ output_faults result (O.seen out.old).faults }
     ensures stores { (F.seen store.new).faults
         ≡ store_faults result (F.seen store.old).faults }
+    ensures uncalled { fetches_of (command_is command.entry) ≡ [] → store.new ≡ store.old }
 {
     match command {
         Command::Build(text, image) => build_text(alloc, text, image, store),
@@ -67,5 +73,6 @@ fn obey<'a, S: Source, O: Sink, F: Store>(
         Command::Run(image, limit) => run_image(alloc, image, limit, input, out, store),
         Command::List(image) => list_image(alloc, image, out, store),
         Command::Check(text) => check_text(alloc, text, out, store),
+        Command::Sample(seed, size) => sample(alloc, seed, size, out),
     }
 }

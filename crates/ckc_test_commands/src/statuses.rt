@@ -28,8 +28,7 @@ pub fn status_of(text: &str, page: &mut Page) -> Status {
 fn status_of_two(name: &str, first: &str, second: &str, page: &mut Page) -> Status {
     match name {
         "fault" => Status::MachineFault(kind_of(first, page), page.word_of(second)),
-        "stuck" if second.is_empty() => Status::Stuck(place_of(first, page), None),
-        "stuck" => Status::Stuck(place_of(first, page), Some(place_of(second, page))),
+        "stuck" => Status::Stuck(place_of(first, page), place_of(second, page)),
         "refused" => refused(page.word_of(first), place_of(second, page), page),
         "stopped" => stopped(page.word_of(first), place_of(second, page), page),
         _ => no_status(page),

@@ -13,6 +13,7 @@ spelling keyword.Interp = codes "interp"
 spelling keyword.Run = codes "run"
 spelling keyword.List = codes "list"
 spelling keyword.Check = codes "check"
+spelling keyword.Sample = codes "sample"
 
 -- the words are the arguments of a command with this first word
 abbrev pub HasArguments : Keyword → List (List ℕ) → Command → Type 0

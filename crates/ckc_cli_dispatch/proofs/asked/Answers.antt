@@ -13,3 +13,6 @@ returns-in-Some-clause-cause g c = λ error error'.
     let wanted = untouched c.args.input.now r.input c.args.out.now r.out c.args.store.now r.store in
     obeyed (command_is c.in-Some.command) c.in-Some.ensures
     (obeyed_with w w' given wanted c.obey.result (λ e. e) (λ e. e) (command_is c.in-Some.command) (c.obey.ensures.cause error error'))
+
+pub returns-in-Some-clause-uncalled : goal.returns-in-Some-clause-uncalled
+returns-in-Some-clause-uncalled g c = λ none. c.obey.ensures.uncalled (none (command_is c.in-Some.command) c.in-Some.ensures)

@@ -1,8 +1,9 @@
 use Rattle.std.proofs.Common.{refl}
-use Rattle.ckc_cli_commands.specs.Words.{Command, Build, Assemble, Exec, Interp, Run, Show, Judge}
+use Rattle.ckc_cli_commands.specs.Words.{Command, Build, Assemble, Exec, Interp, Run, Show, Judge, Sample}
 use Rattle.ckc_cli_commands.specs.declared.words.Command.TheVariants as command
+use Rattle.ckc_cli_commands.specs.Commands.{a_text, an_image}
 use Rattle.ckc_cli_commands.specs.World.{World, Untouched, world, streams, not_given, output_alone}
-use Rattle.ckc_cli_dispatch.proofs.Narrowed.{obeyed_with, command_as}
+use Rattle.ckc_cli_dispatch.proofs.Narrowed.{obeyed_with, command_as, fetches_one}
 use Rattle.ckc_cli_dispatch.proofs.obey.Goals as goal
 
 pub returns-in-Build-clause-cause : goal.returns-in-Build-clause-cause
@@ -81,3 +82,38 @@ returns-in-Check-clause-cause g c = λ error error'.
     let is : Command = Judge c.in-Check.text.now in
     command_as w w' wanted s is c.args.command (command.Check c.in-Check.text) c.in-Check.is refl
     (obeyed_with w w' (output_alone out out') wanted s (λ e. e) (λ _. refl) is (c.check_text.ensures.cause (g.S.Source.seen input) error error'))
+
+pub returns-in-Sample-clause-cause : goal.returns-in-Sample-clause-cause
+returns-in-Sample-clause-cause g c = λ error error'.
+    let input = c.args.input.now in
+    let out = c.args.out.now in
+    let out' = c.sample.new.out in
+    let store = g.F.Store.seen c.args.store.now in
+    let w : World = world (g.S.Source.seen input) (g.O.Sink.seen out) error store in
+    let w' : World = world (g.S.Source.seen input) (g.O.Sink.seen out') error' store in
+    let wanted : Untouched = streams input input out out' in
+    let s = c.sample.result in
+    let is : Command = Sample c.in-Sample.seed c.in-Sample.size in
+    command_as w w' wanted s is c.args.command (command.Sample c.in-Sample.seed c.in-Sample.size) c.in-Sample.is refl
+    (obeyed_with w w' (output_alone out out') wanted s (λ e. e) (λ _. refl) is (c.sample.ensures.cause (g.S.Source.seen input) error error' store))
+
+pub returns-in-Build-clause-uncalled : goal.returns-in-Build-clause-uncalled
+returns-in-Build-clause-uncalled g c = λ none. absurd (fetches_one (a_text c.in-Build.text.now) c.args.command (command.Build c.in-Build.text c.in-Build.image) c.in-Build.is refl none)
+
+pub returns-in-Assemble-clause-uncalled : goal.returns-in-Assemble-clause-uncalled
+returns-in-Assemble-clause-uncalled g c = λ none. absurd (fetches_one (a_text c.in-Assemble.text.now) c.args.command (command.Assemble c.in-Assemble.text c.in-Assemble.image) c.in-Assemble.is refl none)
+
+pub returns-in-Exec-clause-uncalled : goal.returns-in-Exec-clause-uncalled
+returns-in-Exec-clause-uncalled g c = λ none. absurd (fetches_one (a_text c.in-Exec.text.now) c.args.command (command.Exec c.in-Exec.text c.in-Exec.limit) c.in-Exec.is refl none)
+
+pub returns-in-Interp-clause-uncalled : goal.returns-in-Interp-clause-uncalled
+returns-in-Interp-clause-uncalled g c = λ none. absurd (fetches_one (a_text c.in-Interp.text.now) c.args.command (command.Interp c.in-Interp.text c.in-Interp.limit) c.in-Interp.is refl none)
+
+pub returns-in-Run-clause-uncalled : goal.returns-in-Run-clause-uncalled
+returns-in-Run-clause-uncalled g c = λ none. absurd (fetches_one (an_image c.in-Run.image.now) c.args.command (command.Run c.in-Run.image c.in-Run.limit) c.in-Run.is refl none)
+
+pub returns-in-List-clause-uncalled : goal.returns-in-List-clause-uncalled
+returns-in-List-clause-uncalled g c = λ none. absurd (fetches_one (an_image c.in-List.image.now) c.args.command (command.List c.in-List.image) c.in-List.is refl none)
+
+pub returns-in-Check-clause-uncalled : goal.returns-in-Check-clause-uncalled
+returns-in-Check-clause-uncalled g c = λ none. absurd (fetches_one (a_text c.in-Check.text.now) c.args.command (command.Check c.in-Check.text) c.in-Check.is refl none)

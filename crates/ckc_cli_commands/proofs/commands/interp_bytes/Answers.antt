@@ -5,6 +5,7 @@ use Rattle.ckc_cli_commands.specs.Words.{Interp}
 use Rattle.ckc_cli_commands.specs.World.{World, world, streams}
 use Rattle.ckc_cli_commands.specs.Outcomes as outcome
 use Rattle.ckc_cli_commands.specs.Causes as causes
+use Rattle.ckc_cli_commands.proofs.Blamed.{has_status}
 use Rattle.ckc_cli_commands.proofs.Obeying.{faulted}
 use Rattle.ckc_cli_commands.proofs.commands.interp_bytes.Goals as goal
 
@@ -16,6 +17,13 @@ returns-in-Err-clause-cause g c = λ text error error' before after unkept.
     let w' : World = world (g.S.Source.seen input) (g.O.Sink.seen out) error' after in
     faulted w w' (streams input input out out) c.status_of.result meanings (Interp text c.args.limit) c.args.bytes.now c.in-Err.fault (λ r f. f) c.in-Err.ensures.exact.answers c.status_of.ensures.is
     (record { unkept = unkept; put = refl; took = refl })
+
+pub meant-requires : goal.meant-requires
+meant-requires g c = record {
+  blamed =
+      has_status (program_of c.in-Ok.p) (c.unchecked_code_is_to_blame.ensures.blamed c.args.bytes.now (program_of c.in-Ok.p) c.in-Ok.ensures.exact.answers)
+      c.args.limit _ _ _ _ c.interp-seen.result c.interp-seen.ensures.any;
+}
 
 pub returns-in-Ok-clause-cause : goal.returns-in-Ok-clause-cause
 returns-in-Ok-clause-cause g c = λ text error error' before after unkept.
