@@ -1,0 +1,5 @@
+pub mod Calls
+pub mod Ending
+pub mod Standing
+pub mod Sums
+pub mod Trailing
