@@ -62,7 +62,8 @@ goes_to_target registers world (High is_signed t a b) = to_value (Some t) (value
 goes_to_target registers world (Load width t a) = to_value (Some t) (value_in registers a) _ (λ p. to_value (Some t) (value_at width world.memory p) _ (λ x. refl))
 goes_to_target registers world (Store width a b) =
     to_value None (value_in registers a) _ (λ p. to_value None (value_in registers b) _ (λ v. to_store world _ (memory_with width world.memory p v)))
-goes_to_target registers world (Check check at a) = to_value None (value_in registers a) _ (λ v. to_if None (v == 0) (Stops check at) (Done [] world) tt refl)
+goes_to_target registers world (Check check at comparison a b) =
+    to_value None (compared comparison (value_in registers a) (value_in registers b)) _ (λ v. to_if None (v == 0) (Stops check at) (Done [] world) tt refl)
 goes_to_target registers world (Call target callee arguments at) = tt
 goes_to_target registers world (Get t) = to_get world.memory t world.input
 goes_to_target registers world (Put a) = to_value None (value_in registers a) _ (λ v. refl)
@@ -111,22 +112,6 @@ module _ (registers lower : Values) where
       → SameOutcome (with_value (value_in registers a) f) (with_value (value_in lower a) f)
   one_same a f h = with_same (value_in registers a) (value_in lower a) f f (operand_same a h) (λ x. inr refl)
 
-  pub outcome_same : (world : World) (op : TacOp) → ((r : ℕ) → reads r op ≡ true → Same (registers r) (lower r))
-      → SameOutcome (outcome_of registers world op) (outcome_of lower world op)
-  outcome_same world (Const t n) h = inr refl
-  outcome_same world (Copy t a) h = with_same (registers a) (lower a) _ _ (h a (same_test a a refl)) (λ x. inr refl)
-  outcome_same world (Bin op t a b) h = two_same a b h _
-  outcome_same world (High is_signed t a b) h = two_same a b h _
-  outcome_same world (Load width t a) h = one_same a _ h
-  outcome_same world (Store width a b) h = two_same a b h _
-  outcome_same world (Check check at a) h = one_same a _ h
-  outcome_same world (Call target callee arguments at) h = inr refl
-  outcome_same world (Get t) h = inr refl
-  outcome_same world (Put a) h = one_same a _ h
-  outcome_same world (Alloc t a size) h = one_same a _ h
-
-  -- ---- comparisons, and lists of arguments
-
   compared_of : (comparison : Comparison) (o p o' p' : Option ℕ) → Same o o' → Same p p' → Same (compared comparison o p) (compared comparison o' p')
   compared_of comparison o p o' p' (inl e) k = inl (ap (λ q. compared comparison q p) e)
   compared_of comparison (Some x) p o' p' (inr e) (inl k) = inl (ap (λ q. compared comparison (Some x) q) k)
@@ -137,6 +122,24 @@ module _ (registers lower : Values) where
       → Same (compared comparison (value_in registers a) (value_in registers b)) (compared comparison (value_in lower a) (value_in lower b))
   compared_same comparison a b h =
       compared_of comparison (value_in registers a) (value_in registers b) (value_in lower a) (value_in lower b) (left_same a b h) (right_same a b h)
+
+  pub outcome_same : (world : World) (op : TacOp) → ((r : ℕ) → reads r op ≡ true → Same (registers r) (lower r))
+      → SameOutcome (outcome_of registers world op) (outcome_of lower world op)
+  outcome_same world (Const t n) h = inr refl
+  outcome_same world (Copy t a) h = with_same (registers a) (lower a) _ _ (h a (same_test a a refl)) (λ x. inr refl)
+  outcome_same world (Bin op t a b) h = two_same a b h _
+  outcome_same world (High is_signed t a b) h = two_same a b h _
+  outcome_same world (Load width t a) h = one_same a _ h
+  outcome_same world (Store width a b) h = two_same a b h _
+  outcome_same world (Check check at comparison a b) h = with_same
+      (compared comparison (value_in registers a) (value_in registers b)) (compared comparison (value_in lower a) (value_in lower b)) _ _
+      (compared_same comparison a b h) (λ x. inr refl)
+  outcome_same world (Call target callee arguments at) h = inr refl
+  outcome_same world (Get t) h = inr refl
+  outcome_same world (Put a) h = one_same a _ h
+  outcome_same world (Alloc t a size) h = one_same a _ h
+
+  -- ---- lists of arguments
 
   pub returned_same : (a : Operand) → ((r : ℕ) → is_register r a ≡ true → Same (registers r) (lower r)) → Same (value_in registers a) (value_in lower a)
   returned_same a h = operand_same a h

@@ -15,7 +15,7 @@ fn copy_of_op(alloc: Global, op: &TacOp) -> Result<TacOp, AllocError>
         TacOp::High(signed, t, a, b) => Ok(TacOp::High(*signed, *t, *a, *b)),
         TacOp::Load(width, t, a) => Ok(TacOp::Load(*width, *t, *a)),
         TacOp::Store(width, a, b) => Ok(TacOp::Store(*width, *a, *b)),
-        TacOp::Check(check, at, a) => Ok(TacOp::Check(*check, *at, *a)),
+        TacOp::Check(check, at, c, a, b) => Ok(TacOp::Check(*check, *at, *c, *a, *b)),
         TacOp::Call(t, callee, args, at) => {
             let args = Seq::from_slice(alloc, args.as_slice())?;
             Ok(TacOp::Call(*t, *callee, args, *at))

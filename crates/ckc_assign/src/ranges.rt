@@ -110,7 +110,7 @@ fn target(op: &TacOp) -> Option<u32>
         TacOp::High(_, t, _, _) => Some(*t),
         TacOp::Load(_, t, _) => Some(*t),
         TacOp::Store(_, _, _) => None,
-        TacOp::Check(_, _, _) => None,
+        TacOp::Check(_, _, _, _, _) => None,
         TacOp::Call(t, _, _, _) => *t,
         TacOp::Get(t) => Some(*t),
         TacOp::Put(_) => None,
@@ -137,7 +137,7 @@ fn see_reads(op: &TacOp, place: u32, ranges: &mut [Range])
         TacOp::High(_, _, a, b) => see_two(*a, *b, place, ranges),
         TacOp::Load(_, _, a) => see_operand(*a, place, ranges),
         TacOp::Store(_, a, b) => see_two(*a, *b, place, ranges),
-        TacOp::Check(_, _, a) => see_operand(*a, place, ranges),
+        TacOp::Check(_, _, _, a, b) => see_two(*a, *b, place, ranges),
         TacOp::Call(_, _, args, _) => see_each(args.as_slice(), place, ranges),
         TacOp::Get(_) => {}
         TacOp::Put(a) => see_operand(*a, place, ranges),

@@ -20,9 +20,9 @@ use Rattle.ckc_source.specs.Words.{divides}
 use Rattle.ckc_core.specs.Code.{Expr, Local, Code, End, Set, Store, Check, Alloc, If, Loop, Break, Function}
 use Rattle.ckc_checks_operands.specs.Cases.{casts_one, is_bounded, takes_range}
 use Rattle.ckc_checks_operands.specs.code.Operands.{shifted, is_direct, is_zero, operand, keeps_index, held}
-use Rattle.ckc_checks_operands.specs.code.Pointers.{index_far, index_in, reads_signed, exact_test}
+use Rattle.ckc_checks_operands.specs.code.Pointers.{index_far, index_in, reads_signed, exact_test, is_counted, count_of, is_array}
 use Rattle.ckc_core.specs.Loops.{does_something, idle_in, idle_loops}
-use Rattle.ckc_checks_follow.specs.code.Inserted.{unless_direct, put_if, unless_zero, operation_code, exact_code, moved_code, bounded_code, judged, pointer_at, index_at, reached_code, with_range, pointer_code, trusted_range, value_code, operand_code, operands_code, marked, aim_code, guarded, stored_code, written, assigned, taken, fixed, allowed_code, written_there, right_assigned, valued, behind_planned, plans_code, writes_code, result_kept, statements, zeroed, function_code, inserted}
+use Rattle.ckc_checks_follow.specs.code.Inserted.{unless_direct, put_if, unless_zero, operation_code, exact_code, moved_code, outside_code, count_code, first_code, own_pointer, own_index, counted_code, bounded_code, judged, pointer_at, index_at, reached_code, with_range, pointer_code, trusted_range, value_code, operand_code, operands_code, marked, aim_code, guarded, stored_code, written, assigned, taken, fixed, allowed_code, written_there, right_assigned, valued, behind_planned, plans_code, writes_code, result_kept, statements, zeroed, function_code, inserted}
 
 -- no loop in it does nothing, and if the flag says so it does something itself
 pub record Fine (w : Bool) (c : Code) : Type 0 where
@@ -67,22 +67,40 @@ moved_fine : (w : Bool) (shift : Shift) (a i : Expr) (t : ℕ) (rest : Code) →
 moved_fine w shift a i t rest h =
     either_fine w shift.checked _ _ (exact_fine w shift a i _ (set_fine w t _ rest h)) (set_fine w t _ rest h)
 
-bounded_fine : (w last : Bool) (access : Access) (p : source.Expr) (i : Expr) (t : ℕ) (rest : Code) → Fine w rest → Fine w (bounded_code last access p i t rest)
-bounded_fine w last access p i t rest h =
-    check_fine w _ _ _ _ (zero_fine w i _ _ (λ r k. check_fine w check.Arith access.at (exact_test false (reads_signed access.index) access.size (Local t) i) _ (set_fine w t (shifted false access.size (Local t) i) r k)) (check_fine w _ _ _ rest h))
+branch_fine : (w last : Bool) (i count : Expr) (outside rest : Code) → Fine false outside → Fine w rest → Fine w (count_code last i count outside rest)
+branch_fine w true i count outside rest out h = fork_fine w _ outside End rest out end_fine h
+branch_fine w false i count outside rest out h = fork_fine w _ End outside rest end_fine out h
 
-judged_fine : (w : Bool) (through : Through) (access : Access) (p : source.Expr) (a i : Expr) (t : ℕ) (rest : Code) → Fine w rest → Fine w (judged through access p a i t rest)
-judged_fine w Named access p a i t rest h = h
-judged_fine w Raw access p a i t rest h = h
-judged_fine w One access p a i t rest h = check_fine w _ _ a rest h
-judged_fine w Array access p a i t rest h = bounded_fine w false access p i t rest h
-judged_fine w Terminated access p a i t rest h = bounded_fine w true access p i t rest h
+outside_fine : (access : Access) (i : Expr) (t : ℕ) → Fine false (outside_code access i t)
+outside_fine access i t = check_fine false _ _ _ _ (check_fine false _ _ _ End end_fine)
+
+first_fine : (w last : Bool) (at : Pos) (count : Expr) (rest : Code) → Fine w rest → Fine w (first_code last at count rest)
+first_fine w true at count rest h = h
+first_fine w false at count rest h = check_fine w _ at count rest h
+
+counted_fine : (w last : Bool) (access : Access) (i count : Expr) (a t : ℕ) (rest : Code) → Fine w rest → Fine w (counted_code last access i count a t rest)
+counted_fine w last access i count a t rest h =
+    either_fine w (is_zero i) _ _ (first_fine w last access.at count rest h)
+    (branch_fine w last i count (outside_code access i a) _ (outside_fine access i a) (set_fine w t (shifted false access.size (Local a) i) rest h))
+
+bounded_fine : (w last : Bool) (access : Access) (p index : source.Expr) (i : Expr) (t : ℕ) (rest : Code) → Fine w rest → Fine w (bounded_code last access p index i t rest)
+bounded_fine w last access p index i t rest h =
+    let counted = counted_fine w last access (own_index index i) (count_of access.size p) (own_pointer p t) t rest h in
+    either_fine w (is_counted access.size p) _ _ (either_fine w (is_array p) _ _ counted (check_fine w check.Null access.at (Local (own_pointer p t)) _ counted))
+    (check_fine w _ _ _ _ (zero_fine w i _ _ (λ r k. check_fine w check.Arith access.at (exact_test false (reads_signed access.index) access.size (Local t) i) _ (set_fine w t (shifted false access.size (Local t) i) r k)) (check_fine w _ _ _ rest h)))
+
+judged_fine : (w : Bool) (through : Through) (access : Access) (p index : source.Expr) (a i : Expr) (t : ℕ) (rest : Code) → Fine w rest → Fine w (judged through access p index a i t rest)
+judged_fine w Named access p index a i t rest h = h
+judged_fine w Raw access p index a i t rest h = h
+judged_fine w One access p index a i t rest h = check_fine w _ _ a rest h
+judged_fine w Array access p index a i t rest h = bounded_fine w false access p index i t rest h
+judged_fine w Terminated access p index a i t rest h = bounded_fine w true access p index i t rest h
 
 reached_fine : (w : Bool) (access : Access) (p i : source.Expr) (on_p on_i : Code → Code) (t : ℕ) (rest : Code) → ((r : Code) → Fine w r → Fine w (on_p r)) → ((r : Code) → Fine w r → Fine w (on_i r)) → Fine w rest
     → Fine w (reached_code access p i on_p on_i t rest)
 reached_fine w access p i on_p on_i t rest goes comes h =
     put_fine w (is_bounded access.through) p on_p _ goes (put_fine w (keeps_index (is_bounded access.through) i) i on_i _ comes
-    (judged_fine w access.through access p (pointer_at access p t) (index_at access i (index_in access p t)) t rest h))
+    (judged_fine w access.through access p i (pointer_at access p t) (index_at access i (index_in access p t)) t rest h))
 
 with_fine : (w ranged : Bool) (t : ℕ) (low length : Expr) (rest : Code) → Fine w rest → Fine w (with_range ranged t low length rest)
 with_fine w true t low length rest h = set_fine w _ low _ (set_fine w _ length rest h)

@@ -1,6 +1,6 @@
 -- What is inserted names only what is there.
 use Rattle.std.proofs.Common.{◌≡◌, ℕ, zero, suc, ◌+◌, ◌-◌, ◌≤◌, ◌<◌, List, [], ◌∷◌, length, refl, sym, ◌∙◌, ap, subst, arith, lit<}
-use Rattle.std.specs.Prelude.{ℤ, pos, negsuc, ◌^◌, ◌==◌, Bool, true, false, not, ◌||◌, max, if◌then◌else◌, Option, Some, None, slice_get, map, All, IfSome}
+use Rattle.std.specs.Prelude.{ℤ, pos, negsuc, ◌^◌, ◌/◌, ◌==◌, Bool, true, false, not, ◌||◌, max, if◌then◌else◌, Option, Some, None, slice_get, map, All, IfSome}
 use Rattle.std.specs.Option.{option_map}
 use Rattle.std.proofs.lemmas.Option.{slice_get-map}
 use Rattle.std.proofs.lemmas.List.Elements.{All-nil, All-cons, All-head, All-tail, All-map, All-weaker}
@@ -25,6 +25,7 @@ use Rattle.ckc_source.specs.declared.stmt.Kept.{Kept}
 use Rattle.ckc_source.specs.declared.stmt.Kept.TheVariants as kept
 use Rattle.ckc_source.specs.Code as source
 use Rattle.std.proofs.lemmas.Int.{ints}
+use Rattle.std.proofs.Math.Nat.{div-le_self}
 use Rattle.ckc_base.specs.Words.{word_of}
 use Rattle.ckc_source.specs.Words.{divides, width_of}
 use Rattle.ckc_core.specs.Code.{Expr, Const, Local, Load, Bin, Code, End, Set, Store, Check, Function}
@@ -38,8 +39,8 @@ use Rattle.ckc_checks_operands.specs.Compilable as form
 use Rattle.ckc_checks_operands.specs.Compilable.{IsBase, IsVariable, IsSmall, IsEnd, IsJudged, IsRanged, IsAccess, IsChecked, IsCompilableExpr, IsCompilablePart, IsCompilableTarget, IsCompilableRight, IsCompilableAssign, IsCompilableKept, IsCompilableCode, IsCompilableFunction, IsCompilable, IsCount, IsBounded, HasRange, IsCast}
 use Rattle.ckc_checks_operands.specs.Cases.{casts_one, is_bounded, is_ranged, takes_range}
 use Rattle.ckc_checks_operands.specs.code.Operands.{is_direct, operated, low_byte, kept_in, as_truth, is_zero, scaled, shifted, at_offset, element_of, place_at, held, keeps_index, direct, operand}
-use Rattle.ckc_checks_operands.specs.code.Pointers.{reads_signed, exact_test, base_at, amount_at, end_at, counted_end, range_end, upper_test, range_test, static_place, index_far, index_in, held_test, bounds_test, length_at, below_or_at, bytes_left, bytes_fit, cast_test}
-use Rattle.ckc_checks_follow.specs.code.Inserted.{put_if, room_if, exact_code, bounded_code, judged, pointer_at, index_at, reached_place, operation_code, expr_code, operand_code, operands_code, operands, expr_room, operand_room, operands_room, is_narrow, marked, aim_code, target_count, guarded, stored_code, written, fixed, allowed_code, written_there, right_assigned, valued, behind_planned, plans_code, writes_code, bundle_code, target_room, guard_room, aimed_room, assigned_room, valued_room, bundle_room, result_in, result_kept, statements, room, zeroed, function_code, inserted, reached_element, access_room, value_room, with_range, no_range, pointer_code, tested_code, trusted_range, moved_range, value_code, access_code}
+use Rattle.ckc_checks_operands.specs.code.Pointers.{reads_signed, exact_test, base_at, amount_at, end_at, counted_end, range_end, upper_test, range_test, static_place, index_far, index_in, held_test, bounds_test, length_at, below_or_at, bytes_left, bytes_fit, cast_test, is_counted, count_of, is_array}
+use Rattle.ckc_checks_follow.specs.code.Inserted.{put_if, room_if, exact_code, outside_code, count_code, first_code, own_pointer, own_index, counted_code, bounded_code, judged, pointer_at, index_at, reached_place, operation_code, expr_code, operand_code, operands_code, operands, expr_room, operand_room, operands_room, is_narrow, marked, aim_code, target_count, guarded, stored_code, written, fixed, allowed_code, written_there, right_assigned, valued, behind_planned, plans_code, writes_code, bundle_code, target_room, guard_room, aimed_room, assigned_room, valued_room, bundle_room, result_in, result_kept, statements, room, zeroed, function_code, inserted, reached_element, access_room, value_room, with_range, no_range, pointer_code, tested_code, trusted_range, moved_range, value_code, access_code}
 
 -- an expression needs a temporary for its value
 pub expr_room_some : (e : source.Expr) → 1 ≤ expr_room e
@@ -199,6 +200,15 @@ module _ (few locals : ℕ) (more : few ≤ locals) where
   bounds_over last true p t h k fits = range_over last p (Local t) h k (omega arith)
   bounds_over last false p t h k fits = held_test_over last t fits
 
+  count_over : (size : ℕ) (p : source.Expr) → IsBounded few (is_ranged p) p → IsCompilableExpr few p → IsExprOver locals (count_of size p)
+  count_over size (source.Limited x limits) h k = let is = h.2 in amount_over limits.upper.variable limits.upper.add is.1 is.2
+  count_over size (source.Array at bytes) h k = by (size == 0)
+    where
+      by : (zero : Bool) → (if zero then 0 else bytes / size) < 2 ^ 32
+      by true = lit< tt
+      by false = omega (arith, div-le_self bytes size, h)
+  count_over size p h k = lit< tt
+
   length_over : (size : ℕ) (count : Count) (u : ℕ) → size < 2 ^ 32 → u < locals → IsCount count → IsExprOver locals (length_at size count u)
   length_over size (counts.Fixed n) u h below is = omega arith
   length_over size (counts.Member offset form add) u h below is =
@@ -264,22 +274,52 @@ module _ (few locals : ℕ) (more : few ≤ locals) where
     by_zero true x y h k = h
     by_zero false x y h k = k
 
-    bounded_over : (last : Bool) (access : Access) (p : source.Expr) (i : Expr) (t : ℕ) (rest : Code) → IsPlace access.at → access.size < 2 ^ 32 → IsBounded few (is_ranged p) p → IsCompilableExpr few p
-        → t + index_far (not (is_ranged p)) ≤ locals → IsExprOver locals i → Over rest → Over (bounded_code last access p i t rest)
-    bounded_over last access p i t rest at size bounded h fits y over =
+    outside_over : (access : Access) (i : Expr) (t : ℕ) → IsPlace access.at → access.size < 2 ^ 32 → t < locals → IsExprOver locals i → Over (outside_code access i t)
+    outside_over access i t at size below y = (at, exact_over false (reads_signed access.index) access.size (Local t) i size below y, (at, lit< tt, tt))
+
+    branch_over : (last : Bool) (i count : Expr) (outside rest : Code) → IsExprOver locals i → IsExprOver locals count → Over outside → Over rest → Over (count_code last i count outside rest)
+    branch_over true i count outside rest x y out over = ((y, x), out, tt, over)
+    branch_over false i count outside rest x y out over = ((x, y), tt, out, over)
+
+    first_over : (last : Bool) (at : Pos) (count : Expr) (rest : Code) → IsPlace at → IsExprOver locals count → Over rest → Over (first_code last at count rest)
+    first_over true at count rest place y over = over
+    first_over false at count rest place y over = (place, y, over)
+
+    counted_code_over : (last : Bool) (access : Access) (i count : Expr) (a t : ℕ) (rest : Code) → IsPlace access.at → access.size < 2 ^ 32 → a < locals → t < locals → IsExprOver locals i
+        → IsExprOver locals count → Over rest → Over (counted_code last access i count a t rest)
+    counted_code_over last access i count a t rest at size own below x y over =
+        by_zero (is_zero i) _ _ (first_over last access.at count rest at y over)
+        (branch_over last i count (outside_code access i a) (Set t (shifted false access.size (Local a) i) rest) x y (outside_over access i a at size own x)
+        (below, shifted_over false access.size (Local a) i size own x, over))
+
+    own_pointer_over : (p : source.Expr) (t : ℕ) → IsCompilableExpr few p → t < locals → own_pointer p t < locals
+    own_pointer_over (source.Limited x limits) t h below = omega arith
+    own_pointer_over p t h below = below
+
+    own_index_over : (index : source.Expr) (i : Expr) → IsCompilableExpr few index → IsExprOver locals i → IsExprOver locals (own_index index i)
+    own_index_over (source.Local x) i h y = omega arith
+    own_index_over index i h y = y
+
+    bounded_over : (last : Bool) (access : Access) (p index : source.Expr) (i : Expr) (t : ℕ) (rest : Code) → IsPlace access.at → access.size < 2 ^ 32 → IsBounded few (is_ranged p) p → IsCompilableExpr few p → IsCompilableExpr few index
+        → t + index_far (not (is_ranged p)) ≤ locals → IsExprOver locals i → Over rest → Over (bounded_code last access p index i t rest)
+    bounded_over last access p index i t rest at size bounded h hi fits y over =
         let below : t < locals = omega (arith, far_one (not (is_ranged p))) in
         let within : Over (Check check.Bounds access.at (bounds_test last p t) rest) = (at, bounds_over last (is_ranged p) p t bounded h fits, over) in
         let there : Over (Set t (shifted false access.size (Local t) i) (Check check.Bounds access.at (bounds_test last p t) rest)) =
         (below, shifted_over false access.size (Local t) i size below y, within) in
+        let own = own_pointer_over p t h below in
+        let counted : Over (counted_code last access (own_index index i) (count_of access.size p) (own_pointer p t) t rest) =
+        counted_code_over last access (own_index index i) (count_of access.size p) (own_pointer p t) t rest at size own below (own_index_over index i hi y) (count_over access.size p bounded h) over in
+        by_zero (is_counted access.size p) _ _ (by_zero (is_array p) _ _ counted (at, own, counted))
         (at, below, by_zero (is_zero i) _ _ within (at, exact_over false (reads_signed access.index) access.size (Local t) i size below y, there))
 
     judged_over : (through : Through) (access : Access) (p index : source.Expr) (a i : Expr) (t : ℕ) (rest : Code) → IsPlace access.at → access.size < 2 ^ 32 → IsJudged few through access.size p index
-        → IsCompilableExpr few p → t + index_far (takes_range through p) ≤ locals → IsExprOver locals a → IsExprOver locals i → Over rest → Over (judged through access p a i t rest)
-    judged_over Named access p index a i t rest at size h k fits x y over = over
-    judged_over Raw access p index a i t rest at size h k fits x y over = over
-    judged_over One access p index a i t rest at size h k fits x y over = (at, x, over)
-    judged_over Array access p index a i t rest at size h k fits x y over = bounded_over false access p i t rest at size h.2 k fits y over
-    judged_over Terminated access p index a i t rest at size h k fits x y over = bounded_over true access p i t rest at size h.2 k fits y over
+        → IsCompilableExpr few p → IsCompilableExpr few index → t + index_far (takes_range through p) ≤ locals → IsExprOver locals a → IsExprOver locals i → Over rest → Over (judged through access p index a i t rest)
+    judged_over Named access p index a i t rest at size h k hi fits x y over = over
+    judged_over Raw access p index a i t rest at size h k hi fits x y over = over
+    judged_over One access p index a i t rest at size h k hi fits x y over = (at, x, over)
+    judged_over Array access p index a i t rest at size h k hi fits x y over = bounded_over false access p index i t rest at size h.2 k hi fits y over
+    judged_over Terminated access p index a i t rest at size h k hi fits x y over = bounded_over true access p index i t rest at size h.2 k hi fits y over
 
     reached_over : (access : Access) (p i : source.Expr) (t : ℕ) (rest : Code) → IsAccess few access p i → IsCompilableExpr few p → IsCompilableExpr few i
         → ((rest : Code) → t + value_room (takes_range access.through p) p ≤ locals → Over rest → Over (value_code (takes_range access.through p) p t rest))
@@ -292,7 +332,7 @@ module _ (few locals : ℕ) (more : few ≤ locals) where
         let left : t + room_if checked p (value_room far p) ≤ locals = omega arith in
         let right : u + room_if (keeps_index checked i) i (value_room false i) ≤ locals = omega arith in
         put_over far checked p t _ on_p left (put_over false (keeps_index checked i) i u _ on_i right
-        (judged_over access.through access p i (pointer_at access p t) (index_at access i u) t rest h.0 h.1 h.3 hp (omega arith)
+        (judged_over access.through access p i (pointer_at access p t) (index_at access i u) t rest h.0 h.1 h.3 hp hi (omega arith)
         (held_over far checked p t hp left) (held_over false (keeps_index checked i) i u hi right) over))
 
     with_range_over : (r : Bool) (t : ℕ) (low length : Expr) (rest : Code) → t + index_far r ≤ locals → IsExprOver locals low → IsExprOver locals length → Over rest → Over (with_range r t low length rest)

@@ -27,8 +27,8 @@ use Rattle.ckc_checks_operands.specs.Compilable.{element_nodes, access_nodes, sh
 use Rattle.ckc_checks_operands.specs.Weights.{value_weight, expr_weight, access_weight, arguments_weight}
 use Rattle.ckc_checks_operands.specs.Cases.{casts_one, is_bounded, is_ranged, takes_range}
 use Rattle.ckc_checks_operands.specs.code.Operands.{is_direct, operated, low_byte, as_truth, is_zero, scaled, shifted, at_offset, element_of, place_at, held, keeps_index, direct, operand}
-use Rattle.ckc_checks_operands.specs.code.Pointers.{reads_signed, exact_test, base_at, amount_at, end_at, static_place, counted_end, range_end, range_test, index_far, index_in, held_test, bounds_test, length_at, below_or_at, bytes_left, bytes_fit, elements_fit}
-use Rattle.ckc_checks_follow.specs.code.Inserted.{put_if, exact_code, moved_code, element_code, bounded_code, judged, reached_place, operation_code, expr_code, operand_code, operands_code, operands, reached_element, access_code, value_code, with_range, no_range, pointer_code, tested_code, trusted_range, moved_range}
+use Rattle.ckc_checks_operands.specs.code.Pointers.{reads_signed, exact_test, base_at, amount_at, end_at, static_place, counted_end, range_end, range_test, index_far, index_in, held_test, bounds_test, length_at, below_or_at, bytes_left, bytes_fit, elements_fit, is_counted, count_of, is_array}
+use Rattle.ckc_checks_follow.specs.code.Inserted.{put_if, exact_code, moved_code, element_code, outside_code, count_code, first_code, own_pointer, own_index, counted_code, unless_array, bounded_code, judged, reached_place, operation_code, expr_code, operand_code, operands_code, operands, reached_element, access_code, value_code, with_range, no_range, pointer_code, tested_code, trusted_range, moved_range}
 use Rattle.ckc_source.specs.declared.expr.Integer.{Integer}
 use Rattle.ckc_source.specs.declared.expr.Integer.TheVariants as integer
 use Rattle.ckc_source.specs.declared.expr.Limits.{Limits}
@@ -255,23 +255,74 @@ step_sized far access (source.Number n) u t rest =
 step_sized true access i u t rest = omega (arith, step_by false access (Local u) t rest refl (omega arith))
 step_sized false access i u t rest = omega (arith, step_by false access (Local u) t rest refl (omega arith))
 
+-- ---- accesses through a pointer that has a count
+
+count_sized : (size : ℕ) (p : source.Expr) → expr_size (count_of size p) ≤ 16
+count_sized size (source.Limited x limits) = amount_sized limits.upper.variable limits.upper.add
+count_sized size (source.Array at bytes) = omega arith
+count_sized size p = omega arith
+
+outside_sized : (access : Access) (i : Expr) (t : ℕ) → expr_size i ≤ 5 → code_size (outside_code access i t) ≤ 126
+outside_sized access i t h = omega (arith, exact_sized false (reads_signed access.index) access.size (Local t) i)
+
+branch_sized : (last : Bool) (i count : Expr) (outside rest : Code) → expr_size i ≤ 5 → expr_size count ≤ 16 → code_size outside ≤ 126 → code_size (count_code last i count outside rest) ≤ 168 + code_size rest
+branch_sized true i count outside rest h k few = omega arith
+branch_sized false i count outside rest h k few = omega arith
+
+first_sized : (last : Bool) (at : Pos) (count : Expr) (rest : Code) → expr_size count ≤ 16 → code_size (first_code last at count rest) ≤ 30 + code_size rest
+first_sized true at count rest h = omega arith
+first_sized false at count rest h = omega arith
+
+counted_by : (zero last : Bool) (access : Access) (i count : Expr) (a t : ℕ) (rest : Code) → is_zero i ≡ zero → expr_size i ≤ 5 → expr_size count ≤ 16
+    → code_size (if zero then first_code last access.at count rest else count_code last i count (outside_code access i a) (Set t (shifted false access.size (Local a) i) rest))
+    ≤ (if zero then 30 else 200) + code_size rest
+counted_by true last access i count a t rest e h k = omega (arith, first_sized last access.at count rest k)
+counted_by false last access i count a t rest e h k =
+    let there = Set t (shifted false access.size (Local a) i) rest in
+    omega (arith, branch_sized last i count (outside_code access i a) there h k (outside_sized access i a h), set_shifted access.size a i e)
+
+counted_few : (far zero : Bool) → (if zero then 30 else 200) + 62 ≤ 60 * (if far then (if zero then 3 else 5) else (if zero then 4 else 6))
+counted_few true true = omega arith
+counted_few true false = omega arith
+counted_few false true = omega arith
+counted_few false false = omega arith
+
+-- what an index behind a count takes
+index_counted : (far last : Bool) (access : Access) (i : source.Expr) (count : Expr) (u a t : ℕ) (rest : Code) → expr_size count ≤ 16
+    → code_size (counted_code last access (own_index i (held (keeps_index true i) i u)) count a t rest) + 62 ≤ 60 * element_nodes far i + code_size rest
+index_counted far last access (source.Number n) count u a t rest k =
+    omega (arith, counted_by (n == 0) last access (Const n) count a t rest refl (omega arith) k, counted_few far (n == 0), number_nodes far n)
+index_counted true last access (source.Local x) count u a t rest k = omega (arith, counted_by false last access (Local x) count a t rest refl (omega arith) k)
+index_counted false last access (source.Local x) count u a t rest k = omega (arith, counted_by false last access (Local x) count a t rest refl (omega arith) k)
+index_counted true last access i count u a t rest k = omega (arith, counted_by false last access (Local u) count a t rest refl (omega arith) k)
+index_counted false last access i count u a t rest k = omega (arith, counted_by false last access (Local u) count a t rest refl (omega arith) k)
+
+null_sized : (array : Bool) (at : Pos) (t : ℕ) (rest : Code) → code_size (if array then rest else Check check.Null at (Local t) rest) ≤ 14 + code_size rest
+null_sized true at t rest = omega arith
+null_sized false at t rest = omega arith
+
+judge_by : (counted last : Bool) (access : Access) (p i : source.Expr) (t u : ℕ) (inner : Code)
+    → code_size (if counted
+    then unless_array p access.at (own_pointer p t) (counted_code last access (own_index i (held (keeps_index true i) i u)) (count_of access.size p) (own_pointer p t) t inner)
+    else Check check.Null access.at (Local t) (element_code access (held (keeps_index true i) i u) t (Check check.Bounds access.at (bounds_test last p t) inner)))
+    + 34 ≤ 60 * element_nodes (not (is_ranged p)) i + code_size inner
+judge_by true last access p i t u inner =
+    let a = own_pointer p t in
+    let code = counted_code last access (own_index i (held (keeps_index true i) i u)) (count_of access.size p) a t inner in
+    omega (arith, null_sized (is_array p) access.at a code, index_counted (not (is_ranged p)) last access i (count_of access.size p) u a t inner (count_sized access.size p))
+judge_by false last access p i t u inner =
+    let within = Check check.Bounds access.at (bounds_test last p t) inner in
+    omega (arith, step_sized (not (is_ranged p)) access i u t within, bounds_sized last (is_ranged p) p t)
+
 bounded_sized : (last : Bool) (access : Access) (p i : source.Expr) (t u : ℕ) (inner : Code)
     → ((rest : Code) → code_size (value_code (not (is_ranged p)) p t rest) ≤ value_weight (not (is_ranged p)) p + code_size rest)
     → ((rest : Code) → code_size (value_code false i u rest) ≤ value_weight false i + code_size rest)
-    → code_size (value_code (not (is_ranged p)) p t (put_if (keeps_index true i) i (value_code false i u) (bounded_code last access p (held (keeps_index true i) i u) t inner)))
+    → code_size (value_code (not (is_ranged p)) p t (put_if (keeps_index true i) i (value_code false i u) (bounded_code last access p i (held (keeps_index true i) i u) t inner)))
     + 34 ≤ 60 * element_nodes (not (is_ranged p)) i + value_weight (not (is_ranged p)) p + index_nodes i (expr_weight i) + code_size inner
 bounded_sized last access p i t u inner on_p on_i =
-    let k = held (keeps_index true i) i u in
-    let within = Check check.Bounds access.at (bounds_test last p t) inner in
-    let judge = bounded_code last access p k t inner in
+    let judge = bounded_code last access p i (held (keeps_index true i) i u) t inner in
     let second = put_if (keeps_index true i) i (value_code false i u) judge in
-    omega (
-      arith,
-      on_p second,
-      index_sized i u judge (on_i judge),
-      step_sized (not (is_ranged p)) access i u t within,
-      bounds_sized last (is_ranged p) p t,
-    )
+    omega (arith, on_p second, index_sized i u judge (on_i judge), judge_by (is_counted access.size p) last access p i t u inner)
 
 raw_sized : (size : ℕ) (a : Expr) (i : source.Expr) (t : ℕ) → expr_size (shifted false size a (operand i t)) ≤ 27 + expr_size a + index_nodes i (expr_size (operand i t))
 raw_sized size a (source.Number n) t = by (n == 0)
@@ -286,7 +337,7 @@ reached_sized : (through : Through) (access : Access) (p i : source.Expr) (t u :
     → ((rest : Code) → code_size (value_code (takes_range through p) p t rest) ≤ value_weight (takes_range through p) p + code_size rest)
     → ((rest : Code) → code_size (value_code false i u rest) ≤ value_weight false i + code_size rest)
     → code_size (put_if (is_bounded through) p (value_code (takes_range through p) p t) (put_if (keeps_index (is_bounded through) i) i (value_code false i u)
-    (judged through access p (held (is_bounded through) p t) (held (keeps_index (is_bounded through) i) i u) t inner)))
+    (judged through access p i (held (is_bounded through) p t) (held (keeps_index (is_bounded through) i) i u) t inner)))
     + expr_size (element_of through access.size (held (is_bounded through) p t) (held (keeps_index (is_bounded through) i) i u)) + 34
     ≤ 60 * access_nodes through p i + value_weight (takes_range through p) p + index_nodes i (expr_weight i) + code_size inner
 reached_sized Named access p i t u inner on_p on_i =

@@ -30,8 +30,8 @@ use Rattle.ckc_checks_operands.specs.Compilable as form
 use Rattle.ckc_checks_operands.specs.Compilable.{IsCompilablePart, IsCompilableTarget, IsCompilableRight, IsCompilableAssign, IsCompilableCode, IsCompilableFunction, IsCompilable}
 use Rattle.ckc_checks_operands.specs.Cases.{casts_one, is_bounded, is_ranged, takes_range}
 use Rattle.ckc_checks_operands.specs.code.Operands.{is_direct, operated, low_byte, as_truth, is_zero, scaled, shifted, at_offset, element_of, place_at, held, keeps_index, direct, operand}
-use Rattle.ckc_checks_operands.specs.code.Pointers.{reads_signed, exact_test, base_at, amount_at, end_at, static_place, counted_end, range_end, range_test, index_far, index_in, held_test, bounds_test, length_at, below_or_at, bytes_left, bytes_fit, elements_fit, cast_test}
-use Rattle.ckc_checks_follow.specs.code.Inserted.{put_if, room_if, exact_code, bounded_code, judged, pointer_at, index_at, reached_place, operation_code, expr_code, operand_code, operands_code, operands, operand_room, operands_room, is_narrow, marked, aim_code, target_count, guarded, stored_code, written, fixed, allowed_code, written_there, right_assigned, valued, behind_planned, plans_code, writes_code, aimed_room, assigned_room, valued_room, bundle_room, result_kept, statements, room, zeroed, function_code, inserted, reached_element, access_code, access_room, value_room, range_room, value_code, with_range, no_range, pointer_code, tested_code, trusted_range, moved_range}
+use Rattle.ckc_checks_operands.specs.code.Pointers.{reads_signed, exact_test, base_at, amount_at, end_at, static_place, counted_end, range_end, range_test, index_far, index_in, held_test, bounds_test, length_at, below_or_at, bytes_left, bytes_fit, elements_fit, cast_test, is_counted, count_of, is_array}
+use Rattle.ckc_checks_follow.specs.code.Inserted.{put_if, room_if, exact_code, outside_code, count_code, first_code, own_pointer, own_index, counted_code, bounded_code, judged, pointer_at, index_at, reached_place, operation_code, expr_code, operand_code, operands_code, operands, operand_room, operands_room, is_narrow, marked, aim_code, target_count, guarded, stored_code, written, fixed, allowed_code, written_there, right_assigned, valued, behind_planned, plans_code, writes_code, aimed_room, assigned_room, valued_room, bundle_room, result_kept, statements, room, zeroed, function_code, inserted, reached_element, access_code, access_room, value_room, range_room, value_code, with_range, no_range, pointer_code, tested_code, trusted_range, moved_range}
 use Rattle.ckc_source.specs.declared.expr.Integer.{Integer}
 use Rattle.ckc_source.specs.declared.expr.Integer.TheVariants as integer
 use Rattle.ckc_source.specs.declared.expr.Limits.{Limits}
@@ -191,21 +191,57 @@ put_small : (r always : Bool) (e : source.Expr) (t : ℕ) (rest : Code) → ((re
 put_small r true e t rest h k = h rest k
 put_small r false e t rest h k = unless_small (is_direct e) (value_code r e t rest) rest (h rest k) k
 
-bounded_small : (last : Bool) (access : Access) (p : source.Expr) (i : Expr) (t : ℕ) (rest : Code) → depth i ≤ 800 → KeepsLimits rest → KeepsLimits (bounded_code last access p i t rest)
-bounded_small last access p i t rest h k =
+count_depth : (size : ℕ) (p : source.Expr) → depth (count_of size p) ≤ 2
+count_depth size (source.Limited x limits) = amount_depth limits.upper.variable limits.upper.add
+count_depth size (source.Array at bytes) = omega arith
+count_depth size p = omega arith
+
+outside_small : (access : Access) (i : Expr) (t : ℕ) → depth i ≤ 800 → KeepsLimits (outside_code access i t)
+outside_small access i t h =
+    let exact : depth (exact_test false (reads_signed access.index) access.size (Local t) i) ≤ 1000 =
+    omega (arith, exact_depth false (reads_signed access.index) access.size (Local t) i) in
+    (exact, (omega arith, tt))
+
+branch_small : (last : Bool) (i count : Expr) (outside rest : Code) → depth i ≤ 800 → depth count ≤ 2 → KeepsLimits outside → KeepsLimits rest → KeepsLimits (count_code last i count outside rest)
+branch_small true i count outside rest h k out small = (omega arith, out, tt, small)
+branch_small false i count outside rest h k out small = (omega arith, tt, out, small)
+
+first_small : (last : Bool) (at : Pos) (count : Expr) (rest : Code) → depth count ≤ 2 → KeepsLimits rest → KeepsLimits (first_code last at count rest)
+first_small true at count rest h k = k
+first_small false at count rest h k = (omega arith, k)
+
+own_depth : (index : source.Expr) (i : Expr) → depth i ≤ 800 → depth (own_index index i) ≤ 800
+own_depth (source.Local x) i h = omega arith
+own_depth index i h = h
+
+counted_small : (last : Bool) (access : Access) (i count : Expr) (a t : ℕ) (rest : Code) → depth i ≤ 800 → depth count ≤ 2 → KeepsLimits rest → KeepsLimits (counted_code last access i count a t rest)
+counted_small last access i count a t rest h few k =
+    let step : depth (shifted false access.size (Local a) i) ≤ 1000 = omega (arith, shifted_depth false access.size (Local a) i) in
+    unless_small (is_zero i) _ _
+    (branch_small last i count (outside_code access i a) (Set t (shifted false access.size (Local a) i) rest) h few (outside_small access i a h) (step, k))
+    (first_small last access.at count rest few k)
+
+null_small : (array : Bool) (at : Pos) (t : ℕ) (rest : Code) → KeepsLimits rest → KeepsLimits (if array then rest else Check check.Null at (Local t) rest)
+null_small true at t rest k = k
+null_small false at t rest k = (omega arith, k)
+
+bounded_small : (last : Bool) (access : Access) (p index : source.Expr) (i : Expr) (t : ℕ) (rest : Code) → depth i ≤ 800 → KeepsLimits rest → KeepsLimits (bounded_code last access p index i t rest)
+bounded_small last access p index i t rest h k =
     let within : KeepsLimits (Check check.Bounds access.at (bounds_test last p t) rest) = (bounds_depth last (is_ranged p) p t, k) in
     let step : depth (shifted false access.size (Local t) i) ≤ 1000 = omega (arith, shifted_depth false access.size (Local t) i) in
     let exact : depth (exact_test false (reads_signed access.index) access.size (Local t) i) ≤ 1000 =
     omega (arith, exact_depth false (reads_signed access.index) access.size (Local t) i) in
-    (omega arith, unless_small (is_zero i) _ _ (exact, (step, within)) within)
+    unless_small (is_counted access.size p) _ _ (omega arith, unless_small (is_zero i) _ _ (exact, (step, within)) within)
+    (null_small (is_array p) access.at (own_pointer p t) _
+    (counted_small last access (own_index index i) (count_of access.size p) (own_pointer p t) t rest (own_depth index i h) (count_depth access.size p) k))
 
-judged_small : (through : Through) (access : Access) (p : source.Expr) (a i : Expr) (t : ℕ) (rest : Code) → depth a ≤ 800 → depth i ≤ 800 → KeepsLimits rest
-    → KeepsLimits (judged through access p a i t rest)
-judged_small Named access p a i t rest x y k = k
-judged_small Raw access p a i t rest x y k = k
-judged_small One access p a i t rest x y k = (omega arith, k)
-judged_small Array access p a i t rest x y k = bounded_small false access p i t rest y k
-judged_small Terminated access p a i t rest x y k = bounded_small true access p i t rest y k
+judged_small : (through : Through) (access : Access) (p index : source.Expr) (a i : Expr) (t : ℕ) (rest : Code) → depth a ≤ 800 → depth i ≤ 800 → KeepsLimits rest
+    → KeepsLimits (judged through access p index a i t rest)
+judged_small Named access p index a i t rest x y k = k
+judged_small Raw access p index a i t rest x y k = k
+judged_small One access p index a i t rest x y k = (omega arith, k)
+judged_small Array access p index a i t rest x y k = bounded_small false access p index i t rest y k
+judged_small Terminated access p index a i t rest x y k = bounded_small true access p index i t rest y k
 
 -- what finds an access, and then the rest
 reached_small : (p i : source.Expr) (t : ℕ) (access : Access) (rest : Code) → form.depth p ≤ 200 → form.depth i ≤ 200 → KeepsLimits rest
@@ -216,7 +252,7 @@ reached_small p i t access rest pointer index k on_p on_i =
     let checked = is_bounded access.through in
     let u = index_in access p t in
     put_small (takes_range access.through p) checked p t _ on_p (put_small false (keeps_index checked i) i u _ on_i
-    (judged_small access.through access p (pointer_at access p t) (index_at access i u) t rest (held_depth checked p t pointer) (held_depth (keeps_index checked i) i u index) k))
+    (judged_small access.through access p i (pointer_at access p t) (index_at access i u) t rest (held_depth checked p t pointer) (held_depth (keeps_index checked i) i u index) k))
 
 element_reached : (access : Access) (p i : source.Expr) (t : ℕ) → form.depth p ≤ 200 → form.depth i ≤ 200 → depth (reached_element access p i t) ≤ 850
 element_reached access p i t pointer index =

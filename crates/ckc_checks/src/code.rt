@@ -8,18 +8,19 @@ ghost use Rattle.ckc_base.specs.declared.arithmetic.Width.TheVariants.{Word};
 ghost use Rattle.ckc_checks_operands.specs.code.Operands.{as_truth, at_offset, low_byte, operated, held, keeps_index, place_at, operand};
 ghost use Rattle.ckc_checks_operands.specs.Cases.{is_bounded};
 ghost use Rattle.ckc_checks_operands.specs.code.Pointers.{index_in, length_at, end_at};
-ghost use Rattle.ckc_checks_follow.specs.code.Inserted.{divide_check, operation_code, exact_code, moved_code, element_code, bounded_code, judged, pointer_at, index_at, reached_element, reached_place, with_range, no_range, pointer_code, tested_code, trusted_range, moved_range, access_code};
+ghost use Rattle.ckc_checks_follow.specs.code.Inserted.{divide_check, operation_code, exact_code, moved_code, reached_element, reached_place, with_range, no_range, pointer_code, tested_code, trusted_range, moved_range, access_code};
 ghost use Rattle.ckc_checks.specs.code.Building.{behind, reached_value, value_code_if, expr_code_if};
 
+use crate::accesses::judge_access;
 use ckc_base::{BinOp, Boxed, Check, Pos, Seq, Width, sum};
 use ckc_checks_operands::{
-    as_truth, at_offset, binary, bounds_test, cast_passes, casts_one, direct, element_of, end_at,
-    exact_test, held, index_far, index_in, is_bounded, is_direct, is_zero, keeps_index, length_at,
-    low_byte, null_check, operand, operated, reads_signed, scaled, shifted, takes_range,
+    as_truth, at_offset, binary, cast_passes, casts_one, direct, element_of, end_at, exact_test,
+    held, index_far, index_in, is_bounded, is_direct, is_zero, keeps_index, length_at, low_byte,
+    operand, operated, reads_signed, scaled, shifted, takes_range,
 };
 use ckc_core::{CoreExpr, CoreStmt};
 use ckc_source::operators::divides;
-use ckc_source::{Access, Count, ExprTree, Integer, Limits, Operation, Shift, Through};
+use ckc_source::{Access, Count, ExprTree, Integer, Limits, Operation, Shift};
 use std::alloc::{AllocError, Global};
 
 /// An empty list of statements.
@@ -149,76 +150,6 @@ fn narrow(alloc: Global, e: &ExprTree, t: u32, code: &mut Seq<CoreStmt>) -> Resu
     let value = operand(alloc, e, t)?;
     let value = low_byte(alloc, value)?;
     front(code, CoreStmt::Set(t, value))
-}
-
-/// Puts the step from a checked pointer in t to its element at an index in front.
-fn step(
-    alloc: Global,
-    access: Access,
-    i: &ExprTree,
-    t: u32,
-    next: u32,
-    code: &mut Seq<CoreStmt>,
-) -> Result<(), AllocError>
-    ensures { OnOk result (behind code.new ≡ element_code access
-        (held (keeps_index true (source_of i.now)) (source_of i.now) next) t (behind code.old)) }
-{
-    let index = held(alloc, keeps_index(true, i), i, next)?;
-    if is_zero(&index) {
-        return Ok(());
-    }
-    let there = shifted(alloc, false, access.size, CoreExpr::Local(t), index)?;
-    front(code, CoreStmt::Set(t, there))?;
-    let is_signed = reads_signed(access.index);
-    let exact = exact_test(alloc, false, is_signed, access.size, t, i, next)?;
-    front(code, CoreStmt::Check(Check::Arith, access.at, exact))
-}
-
-/// Puts the checks of an access to an element of an array in front, through a checked pointer that is in t.
-fn bounded(
-    alloc: Global,
-    last: bool,
-    access: Access,
-    p: &ExprTree,
-    i: &ExprTree,
-    t: u32,
-    next: u32,
-    code: &mut Seq<CoreStmt>,
-) -> Result<(), AllocError>
-    ensures { OnOk result (behind code.new ≡ bounded_code last access (source_of p.now)
-        (held (keeps_index true (source_of i.now)) (source_of i.now) next) t (behind code.old)) }
-{
-    let within = bounds_test(alloc, last, p, t)?;
-    front(code, CoreStmt::Check(Check::Bounds, access.at, within))?;
-    step(alloc, access, i, t, next, code)?;
-    front(code, null_check(access.at, CoreExpr::Local(t)))
-}
-
-/// Puts the checks of an access in front, of which the pointer is in t and the index in the temporary `next`.
-pub fn judge(
-    alloc: Global,
-    through: Through,
-    access: Access,
-    p: &ExprTree,
-    i: &ExprTree,
-    t: u32,
-    next: u32,
-    code: &mut Seq<CoreStmt>,
-) -> Result<(), AllocError>
-    ensures { OnOk result (behind code.new ≡ judged through access (source_of p.now)
-        (held (is_bounded through) (source_of p.now) t)
-        (held (keeps_index (is_bounded through) (source_of i.now)) (source_of i.now) next) t
-        (behind code.old)) }
-{
-    match through {
-        Through::Named | Through::Raw => Ok(()),
-        Through::One => {
-            let pointer = operand(alloc, p, t)?;
-            front(code, null_check(access.at, pointer))
-        }
-        Through::Array => bounded(alloc, false, access, p, i, t, next, code),
-        Through::Terminated => bounded(alloc, true, access, p, i, t, next, code),
-    }
 }
 
 /// The element that an access goes to, of which the pointer is in t.
@@ -500,24 +431,6 @@ fn shift(
         check_exact(alloc, shift, of_pointer, i, of_index, code)?;
     }
     Ok(())
-}
-
-/// Puts the checks of an access in front, of which the pointer is in t.
-fn judge_access(
-    alloc: Global,
-    access: Access,
-    p: &ExprTree,
-    i: &ExprTree,
-    t: u32,
-    code: &mut Seq<CoreStmt>,
-) -> Result<(), AllocError>
-    ensures { OnOk result (behind code.new ≡ judged access.through access (source_of p.now)
-        (pointer_at access (source_of p.now) t)
-        (index_at access (source_of i.now) (index_in access (source_of p.now) t)) t
-        (behind code.old)) }
-{
-    let next = index_in(access, p, t)?;
-    judge(alloc, access.through, access, p, i, t, next, code)
 }
 
 /// Puts the code in front that has the value of an access once its pointer and its index are found and judged.

@@ -1,6 +1,7 @@
 //! From the program of a text to core code, with all checks written out.
 #![tactic(auto)]
 
+mod accesses;
 mod code;
 mod laws;
 mod program;

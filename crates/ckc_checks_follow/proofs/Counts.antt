@@ -300,7 +300,7 @@ base_nodes x bases.Own = omega arith
 base_nodes x (bases.Local y) = omega arith
 base_nodes x (bases.Fixed a) = omega arith
 
-amount_nodes : (v : Option Variable) (add : ℤ) → nodes (amount_at v add) ≤ 3
+pub amount_nodes : (v : Option Variable) (add : ℤ) → nodes (amount_at v add) ≤ 3
 amount_nodes None add = omega arith
 amount_nodes (Some v) add = omega (arith, at_offset_nodes (word_of add) (Local v.local))
 

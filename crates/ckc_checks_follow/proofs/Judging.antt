@@ -1,6 +1,6 @@
 -- Accesses: core code comes to the element that an access goes to, or stops as the access does.
-use Rattle.std.proofs.Common.{◌≡◌, ℕ, ◌^◌, ◌+◌, ◌-◌, ◌*◌, ◌≤◌, ◌<◌, ◌==◌, List, refl, sym, ◌∙◌, ap, subst, arith}
-use Rattle.std.specs.Prelude.{Bool, true, false, ◌&&◌, if◌then◌else◌, Some, None, Result, Ok, Err, nat_lt, nat_le, bit_and, not, pos, ◌+ℤ◌}
+use Rattle.std.proofs.Common.{◌≡◌, ℕ, ◌^◌, ◌+◌, ◌-◌, ◌*◌, ◌%◌, ◌≤◌, ◌<◌, ◌==◌, List, refl, sym, ◌∙◌, ap, subst, arith}
+use Rattle.std.specs.Prelude.{slice_index, Bool, true, false, ◌&&◌, if◌then◌else◌, Some, None, Result, Ok, Err, nat_lt, nat_le, bit_and, not, pos, ◌+ℤ◌}
 use Rattle.std.proofs.lemmas.Int.{ints}
 use Rattle.std.proofs.Math.IntN.{*ℤ-zero}
 use Rattle.std.proofs.lemmas.Bool.Decides.{nat_tests}
@@ -23,21 +23,22 @@ use Rattle.ckc_source.specs.declared.outcome.Halt.{Halt}
 use Rattle.ckc_source.specs.declared.outcome.Halt.TheVariants.{Stopped, Stuck}
 use Rattle.ckc_source.specs.Code as source
 use Rattle.ckc_source.specs.Words.{exact, as_address, elements_behind, divides}
-use Rattle.ckc_source.specs.Eval.{Store, given, given_both, ranged, stops, at_address, element, element_through, place_in, in_range, exact_element, operates, tests, evaluated}
-use Rattle.ckc_core.specs.Code.{Expr, Local, Code, Set, Check, Function}
-use Rattle.ckc_core.specs.Meaning.{Rest, State, Caller, value_of, both, nodes}
+use Rattle.ckc_source.specs.Eval.{Store, given, given_both, ranged, stops, at_address, element, element_through, place_in, in_range, exact_element, end_address, operates, tests, evaluated}
+use Rattle.ckc_core.specs.Code.{Expr, Const, Local, Bin, Code, End, Set, Check, Function}
+use Rattle.ckc_core.specs.Meaning.{Rest, Next, State, Caller, value_of, both, nodes}
 use Rattle.ckc_checks_operands.specs.Compilable.{IsZero, IsJudged, IsAccess, IsCompilableExpr, IsRanged, IsBounded, HasRange, element_nodes, value_nodes, expr_nodes}
 use Rattle.ckc_checks_operands.specs.code.Operands.{operated, is_zero, shifted, element_of, held, keeps_index, operand}
 use Rattle.ckc_checks_operands.specs.Cases.{is_bounded, is_ranged, takes_range}
-use Rattle.ckc_checks_operands.specs.code.Pointers.{below_end, index_far, held_test, reads_signed, exact_test, range_test}
-use Rattle.ckc_checks_follow.specs.code.Inserted.{put_if, reached_element, value_code, access_code, element_code, judged, reached_place, operation_code, expr_code}
-use Rattle.ckc_checks_follow.proofs.Paths.{no_quiet}
-use Rattle.ckc_checks_follow.proofs.Running.{first_runs, at, by_set, by_pass, by_fail}
-use Rattle.ckc_checks_follow.proofs.Bounded.{GivesWord}
+use Rattle.ckc_checks_operands.specs.code.Pointers.{below_end, index_far, held_test, reads_signed, exact_test, range_test, is_counted, count_of, is_array}
+use Rattle.ckc_checks_follow.specs.code.Inserted.{put_if, reached_element, value_code, access_code, element_code, outside_code, count_code, first_code, own_pointer, own_index, counted_code, unless_array, judged, reached_place, operation_code, expr_code}
+use Rattle.ckc_checks_follow.proofs.Paths.{Quiet, no_quiet}
+use Rattle.ckc_checks_follow.proofs.Running.{Runs, first_runs, at, by_set, by_pass, by_fail, by_if, by_end}
+use Rattle.ckc_checks_follow.proofs.Bounded.{Gives, GivesWord, reads_number}
 use Rattle.ckc_checks_follow.proofs.Values.{IsValue, Agree, Sees, word_seen, at_offset_value, zero_value, shifted_value}
 use Rattle.ckc_checks_follow.proofs.Ranges.{flag_zero, moved_word, moved_place, cancels, exact_place, exact_value, both_tests, is_under, range_value, under_moved, held_value_of, range_known}
-use Rattle.ckc_checks_follow.proofs.Counts.{written_same, written_only, operated_nodes, shifted_nodes, elements_some, value_steps, found_steps, found_few, place_nodes_of, test_steps, test_few, test_within, some_node, operand_nodes, expr_steps, held_steps, operand_steps, index_steps, judged_steps, index_alone, exact_nodes}
-use Rattle.ckc_checks_follow.proofs.Ending.{end_test, IsEnded, reached_known, end_ranged, end_held}
+use Rattle.ckc_checks_follow.proofs.Quick.{HasCount, reach_inside, reach_outside, under_most, product_most, count_known, array_some, counted_ranged, count_nodes}
+use Rattle.ckc_checks_follow.proofs.Counts.{written_same, written_only, operated_nodes, shifted_nodes, elements_some, elements_near, value_steps, found_steps, found_few, place_nodes_of, test_steps, test_few, test_within, some_node, operand_nodes, expr_steps, held_steps, operand_steps, index_steps, judged_steps, index_alone, exact_nodes}
+use Rattle.ckc_checks_follow.proofs.Ending.{both_some, end_test, IsEnded, reached_known, end_ranged, end_held}
 use Rattle.ckc_checks_follow.proofs.Coming.{Below, Only, only_below, only_behind, HasAt, PutRange, RangeClaim, Comes, then_comes, Put, Held, set_value, operation_by, known, Claim, HeldIn, OperandClaim, agree_below, held_from, index_from, weaken, Both, pair_comes}
 
 module _ (functions : List Function) (callers : List Caller) (world : World) where
@@ -266,11 +267,226 @@ module _ (functions : List Function) (callers : List Caller) (world : World) whe
             (subst (λ (b : ℕ). Comes functions callers world 0 0 (at callers world next rest l1) (Ok b) next rest (AtElement t l)) (sym e.1)
             (0, at callers world next rest l1, omega arith, omega arith, no_quiet functions (at callers world next rest l1), (l1, refl, g))))))
 
+    -- ---- pointers that have a count of elements
+
+    -- the test of an index against a count
+    abbrev count_test : Bool → (i count : Expr) → Expr
+    count_test last i count = if last then Bin binary.LtU count i else Bin binary.LtU i count
+
+    -- the branch of an index goes past the stops, or to them
+    turns : (last : Bool) (i count : Expr) (outside next : Code) (rest : Rest) (l : Values) (k c : ℕ) (inside : Bool) → value_of l world.memory i ≡ Some k → value_of l world.memory count ≡ Some c → is_under last k c ≡ inside
+        → Quiet functions (nodes (count_test last i count) + 1) (at callers world (count_code last i count outside next) rest l) (at callers world (if inside then End else outside) (Next next rest) l)
+    turns false i count outside next rest l k c inside h j e =
+        subst (λ code. Quiet functions (nodes (Bin binary.LtU i count) + 1) (at callers world (count_code false i count outside next) rest l) (at callers world code (Next next rest) l))
+        (by inside e)
+        (by_if functions callers world (Bin binary.LtU i count) End outside next rest l (flag (nat_lt k c)) (both_some (applied binary.LtU) (value_of l world.memory i) (value_of l world.memory count) k c h j))
+      where
+        by : (inside : Bool) → nat_lt k c ≡ inside → (if flag (nat_lt k c) == 0 then outside else End) ≡ (if inside then End else outside)
+        by true e = ap (λ b. if flag b == 0 then outside else End) e
+        by false e = ap (λ b. if flag b == 0 then outside else End) e
+    turns true i count outside next rest l k c inside h j e =
+        subst (λ code. Quiet functions (nodes (Bin binary.LtU count i) + 1) (at callers world (count_code true i count outside next) rest l) (at callers world code (Next next rest) l))
+        (by inside e)
+        (by_if functions callers world (Bin binary.LtU count i) outside End next rest l (flag (nat_lt c k)) (both_some (applied binary.LtU) (value_of l world.memory count) (value_of l world.memory i) c k j h))
+      where
+        above : (b : Bool) → nat_le k c ≡ b → nat_lt c k ≡ not b
+        above true e = grind (arith, nat_tests)
+        above false e = grind (arith, nat_tests)
+
+        by : (inside : Bool) → nat_le k c ≡ inside → (if flag (nat_lt c k) == 0 then End else outside) ≡ (if inside then End else outside)
+        by true e = ap (λ b. if flag b == 0 then End else outside) (above true e)
+        by false e = ap (λ b. if flag b == 0 then End else outside) (above false e)
+
+    test_nodes : (last : Bool) (i count : Expr) → nodes i ≡ 1 → nodes count ≤ 3 → nodes (count_test last i count) ≤ 5
+    test_nodes true i count one few = omega arith
+    test_nodes false i count one few = omega arith
+
+    -- what is behind a pointer with a count
+    abbrev Behind : Bool → Access → (v size c k : ℕ) → Result ℕ Halt
+    Behind last access v size c k =
+        given (at_address (as_address (elements_behind v size (exact access.index k))) access.at) (in_range last (Within v (v + size * c)) access.at)
+
+    -- an element that the count does not show stops
+    outside_comes : (last : Bool) (access : Access) (i : Expr) (a t v k c : ℕ) (after next : Code) (rest : Rest) (l : Values) → 1 ≤ access.size → access.size < 2 ^ 31 → v < 2 ^ 32 → k < 2 ^ 32
+        → l a ≡ Some v → value_of l world.memory i ≡ Some k → nodes i ≡ 1 → v + access.size * c < 2147483648 → is_under last k c ≡ false
+        → Comes functions callers world 0 16 (at callers world (outside_code access i a) (Next after rest) l) (Behind last access v access.size c k) next rest (AtElement t l)
+    outside_comes last access i a t v k c after next rest l some small low few h j one short e =
+        let far = Check check.Bounds access.at (Const 0) End in
+        let address = at_address (as_address (elements_behind v access.size (exact access.index k))) access.at in
+        let begin = at callers world (outside_code access i a) (Next after rest) l in
+        then_comes functions callers world 0 14 2 16 begin address (in_range last (Within v (v + access.size * c)) access.at) far (Next after rest)
+        (λ q l'. ((l' ≡ l) × (q ≡ moved_word false access.size k v)) × (address ≡ Ok q)) (λ b u. (l' : Values) × (u ≡ at callers world next rest l') × AtElement t l b l') (omega arith)
+        (known functions callers world n s sees 0 14 begin address far (Next after rest) (λ q l'. (l' ≡ l) × (q ≡ moved_word false access.size k v))
+        (exact_comes false access.index access.size k v a i access.at far (Next after rest) l some small few low h j one))
+        (λ q l' got.
+        subst (λ r. Runs functions 0 2 (at callers world far (Next after rest) l') r (λ b u. (l' : Values) × (u ≡ at callers world next rest l') × AtElement t l b l'))
+        (sym (reach_outside last access.index access.size v k c q access.at some small few short e got.1))
+        (2, omega arith, by_fail functions callers world check.Bounds access.at (Const 0) End (Next after rest) l' 0 refl refl))
+
+    -- an element that the count shows is there
+    inside_comes : (last : Bool) (access : Access) (i : Expr) (a t v k c : ℕ) (next : Code) (rest : Rest) (l : Values) → 1 ≤ access.size → k < 2 ^ 32
+        → l a ≡ Some v → value_of l world.memory i ≡ Some k → nodes i ≡ 1 → v + access.size * c < 2147483648 → is_under last k c ≡ true
+        → Comes functions callers world 0 7 (at callers world End (Next (Set t (shifted false access.size (Local a) i) next) rest) l) (Behind last access v access.size c k) next rest (AtElement t l)
+    inside_comes last access i a t v k c next rest l some few h j one short e =
+        let there = Set t (shifted false access.size (Local a) i) next in
+        let most : access.size * k ≤ access.size * c = product_most access.size k c (under_most last k c e) in
+        subst (λ r. Comes functions callers world 0 7 (at callers world End (Next there rest) l) r next rest (AtElement t l)) (sym (reach_inside last access.index access.size v k c access.at some short e))
+        (first_runs functions 1 0 6 7 (at callers world End (Next there rest) l) (at callers world there rest l) (Ok (v + access.size * k)) (λ b u. (l' : Values) × (u ≡ at callers world next rest l') × AtElement t l b l') (omega arith)
+        (by_end functions callers world there rest l)
+        (goes_to t (v + access.size * k) 6 (shifted false access.size (Local a) i) next rest l (omega (arith, shifted_nodes false access.size (Local a) i)) (omega (arith, most))
+        (shifted_value l world.memory false access.size (Local a) i v k h j (omega arith) few ∙ ap Some (whole v (access.size * k) (omega (arith, most))))))
+      where
+        whole : (v p : ℕ) → v + p < 2147483648 → (v + p % 2 ^ 32) % 2 ^ 32 ≡ v + p
+        whole v p h = omega arith
+
+    -- the first element
+    first_comes : (last : Bool) (access : Access) (count : Expr) (t v k c : ℕ) (next : Code) (rest : Rest) (l : Values) → 1 ≤ access.size → access.size < 2 ^ 31 → v < 2 ^ 32 → k ≡ 0
+        → l t ≡ Some v → value_of l world.memory count ≡ Some c → nodes count ≤ 3 → v + access.size * c < 2147483648
+        → Comes functions callers world 0 4 (at callers world (first_code last access.at count next) rest l) (Behind last access v access.size c k) next rest (AtElement t l)
+    first_comes last access count t v k c next rest l some small low zero h j one short = by last (c == 0) refl
+      where
+        here : v + access.size * k ≡ v
+        here = let none : access.size * k ≡ access.size * 0 = ap (λ n. access.size * n) zero in omega (arith, none)
+
+        there : (last : Bool) → is_under last k c ≡ true → Comes functions callers world 0 0 (at callers world next rest l) (Behind last access v access.size c k) next rest (AtElement t l)
+        there last e =
+            subst (λ r. Comes functions callers world 0 0 (at callers world next rest l) r next rest (AtElement t l)) (sym (reach_inside last access.index access.size v k c access.at some short e))
+            (0, at callers world next rest l, omega arith, omega arith, no_quiet functions (at callers world next rest l), (l, refl, ((λ x e. refl), h ∙ ap Some (sym here), omega (arith, here))))
+
+        stop : is_under false k c ≡ false → Behind false access v access.size c k ≡ stops check.Bounds access.at
+        stop e =
+            let first = first_element access v k zero low in
+            ap (λ r. given r (in_range false (Within v (v + access.size * c)) access.at)) first
+            ∙ reach_outside false access.index access.size v k c v access.at some small (omega arith) short e first
+
+        by : (last none : Bool) → (c == 0) ≡ none → Comes functions callers world 0 4 (at callers world (first_code last access.at count next) rest l) (Behind last access v access.size c k) next rest (AtElement t l)
+        by true none e =
+            first_runs functions 0 0 0 4 (at callers world next rest l) (at callers world next rest l) (Behind true access v access.size c k) (λ a u. (l' : Values) × (u ≡ at callers world next rest l') × AtElement t l a l') (omega arith)
+            (no_quiet functions (at callers world next rest l)) (there true (let under : nat_le k c ≡ true = grind (arith, nat_tests) in under))
+        by false true e =
+            let none : nat_lt k c ≡ false = grind (arith, nat_tests) in
+            subst (λ r. Comes functions callers world 0 4 (at callers world (Check check.Bounds access.at count next) rest l) r next rest (AtElement t l)) (sym (stop none))
+            (nodes count + 1, omega arith, by_fail functions callers world check.Bounds access.at count next rest l c j e)
+        by false false e =
+            let under : nat_lt k c ≡ true = grind (arith, nat_tests) in
+            first_runs functions (nodes count + 1) 0 0 4 (at callers world (Check check.Bounds access.at count next) rest l) (at callers world next rest l) (Behind false access v access.size c k) (λ a u. (l' : Values) × (u ≡ at callers world next rest l') × AtElement t l a l') (omega arith)
+            (by_pass functions callers world check.Bounds access.at count next rest l c j e) (there false under)
+
+    -- an element behind a pointer that has a count
+    behind_comes : (last : Bool) (access : Access) (index : source.Expr) (i count : Expr) (a t v k c : ℕ) (next : Code) (rest : Rest) (l : Values) → 1 ≤ access.size → access.size < 2 ^ 31 → v < 2 ^ 32 → k < 2 ^ 32
+        → l t ≡ Some v → l a ≡ Some v → value_of l world.memory i ≡ Some k → nodes i ≡ 1 → (is_zero i ≡ false → 5 ≤ element_nodes false index) → value_of l world.memory count ≡ Some c → nodes count ≤ 3
+        → v + access.size * c < 2147483648
+        → Comes functions callers world 0 (14 * element_nodes false index - 22) (at callers world (counted_code last access i count a t next) rest l)
+        (Behind last access v access.size c k) next rest (AtElement t l)
+    behind_comes last access index i count a t v k c next rest l some small low few h own j one more g thin short = by (is_zero i) refl
+      where
+        outside : Code
+        outside = outside_code access i a
+
+        there : Code
+        there = Set t (shifted false access.size (Local a) i) next
+
+        turned : (inside : Bool) → is_under last k c ≡ inside
+            → Comes functions callers world 0 16 (at callers world (if inside then End else outside) (Next there rest) l) (Behind last access v access.size c k) next rest (AtElement t l)
+        turned true e =
+            first_runs functions 0 0 7 16 (at callers world End (Next there rest) l) (at callers world End (Next there rest) l) (Behind last access v access.size c k) (λ b u. (l' : Values) × (u ≡ at callers world next rest l') × AtElement t l b l') (omega arith)
+            (no_quiet functions (at callers world End (Next there rest) l)) (inside_comes last access i a t v k c next rest l some few own j one short e)
+        turned false e = outside_comes last access i a t v k c there next rest l some small low few own j one short e
+
+        by : (zero : Bool) → is_zero i ≡ zero
+            → Comes functions callers world 0 (14 * element_nodes false index - 22)
+            (at callers world (if zero then first_code last access.at count next else count_code last i count outside there) rest l)
+            (Behind last access v access.size c k) next rest (AtElement t l)
+        by true z =
+            first_runs functions 0 0 4 (14 * element_nodes false index - 22) (at callers world (first_code last access.at count next) rest l) (at callers world (first_code last access.at count next) rest l)
+            (Behind last access v access.size c k) (λ b u. (l' : Values) × (u ≡ at callers world next rest l') × AtElement t l b l') (omega (arith, elements_near index))
+            (no_quiet functions (at callers world (first_code last access.at count next) rest l))
+            (first_comes last access count t v k c next rest l some small low (zero_word l i k z j) h g thin short)
+        by false z =
+            first_runs functions (nodes (count_test last i count) + 1) 0 16 (14 * element_nodes false index - 22) (at callers world (count_code last i count outside there) rest l)
+            (at callers world (if is_under last k c then End else outside) (Next there rest) l)
+            (Behind last access v access.size c k) (λ b u. (l' : Values) × (u ≡ at callers world next rest l') × AtElement t l b l')
+            (omega (arith, more z, test_nodes last i count one thin))
+            (turns last i count outside there rest l k c (is_under last k c) j g refl) (turned (is_under last k c) refl)
+
+    -- an index that is read where it is
+    own_nodes : (index : source.Expr) (w : ℕ) → nodes (own_index index (held (keeps_index true index) index w)) ≡ 1
+    own_nodes (source.Local y) w = refl
+    own_nodes index w = index_alone index w
+
+    own_nonzero : (index : source.Expr) (w : ℕ) → is_zero (own_index index (held (keeps_index true index) index w)) ≡ false → 5 ≤ element_nodes false index
+    own_nonzero (source.Local y) w z = omega arith
+    own_nonzero index w z = nonzero_nodes false index w z
+
+    own_value : (index : source.Expr) (w : ℕ) (y : Value) (l : Values) → IsCompilableExpr n index → Agree n s.locals l → evaluated s index ≡ Ok y
+        → value_of l world.memory (held (keeps_index true index) index w) ≡ Some y.number → value_of l world.memory (own_index index (held (keeps_index true index) index w)) ≡ Some y.number
+    own_value (source.Local z) w y l less agree e h = agree z less ∙ ap Some (number_is z y e)
+      where
+        number_is : (z : ℕ) (y : Value) → evaluated s (source.Local z) ≡ Ok y → slice_index s.locals z ≡ y.number
+        number_is z y e = ap (λ (r : Result Value Halt). elim r [ Ok v ↦ v.number | Err h ↦ slice_index s.locals z ]) e
+    own_value index w y l less agree e h = h
+
+    -- a pointer that is read where it is
+    own_there : (p : source.Expr) (t : ℕ) (x : Value) (l : Values) → IsCompilableExpr n p → Agree n s.locals l → evaluated s p ≡ Ok x → l t ≡ Some x.number → l (own_pointer p t) ≡ Some x.number
+    own_there (source.Limited z limits) t x l less agree e h = agree z less ∙ ap Some (sym number)
+      where
+        number : x.number ≡ slice_index s.locals z
+        number =
+            let m = slice_index s.locals z in
+            let gives : Gives m (Ok x) = subst (Gives m) e (reads_number s.shapes s.blocks limits.to m (end_address s.locals limits.to.size m limits.lower) (end_address s.locals limits.to.size m limits.upper)) in gives
+    own_there p t x l less agree e h = h
+
+    -- the checks of an access through a pointer that has a count
+    counted_comes : (last : Bool) (access : Access) (p index : source.Expr) (t w : ℕ) (next : Code) (rest : Rest) (l : Values) (x y : Value) → 1 ≤ access.size → access.size < 2 ^ 31
+        → x.number < 2 ^ 32 → y.number < 2 ^ 32 → l t ≡ Some x.number → value_of l world.memory (held (keeps_index true index) index w) ≡ Some y.number → Agree n s.locals l
+        → IsCompilableExpr n p → IsCompilableExpr n index → evaluated s p ≡ Ok x → evaluated s index ≡ Ok y
+        → (is_array p ≡ true → (x.number == 0) ≡ false) → ((x.number == 0) ≡ false → HasCount n s world.memory access.size p x)
+        → Comes functions callers world 0 (14 * element_nodes false index - 20)
+        (at callers world (unless_array p access.at (own_pointer p t) (counted_code last access (own_index index (held (keeps_index true index) index w)) (count_of access.size p) (own_pointer p t) t next)) rest l)
+        (given (exact_element access x y.number) (in_range last x.range access.at)) next rest (AtElement t l)
+    counted_comes last access p index t w next rest l x y some small low few h j agree hp hi eq_p eq_i not_null counts = by (is_array p) refl (x.number == 0) refl
+      where
+        a : ℕ
+        a = own_pointer p t
+
+        i : Expr
+        i = own_index index (held (keeps_index true index) index w)
+
+        own : l (own_pointer p t) ≡ Some x.number
+        own = own_there p t x l hp agree eq_p h
+
+        code : Code
+        code = counted_code last access i (count_of access.size p) a t next
+
+        address : Result ℕ Halt
+        address = at_address (as_address (elements_behind x.number access.size (exact access.index y.number))) access.at
+
+        behind : (x.number == 0) ≡ false → Comes functions callers world 0 (14 * element_nodes false index - 22) (at callers world code rest l) (given address (in_range last x.range access.at)) next rest (AtElement t l)
+        behind z =
+            let c = counts z in
+            subst (λ range. Comes functions callers world 0 (14 * element_nodes false index - 22) (at callers world code rest l) (given address (in_range last range access.at)) next rest (AtElement t l)) (sym c.1)
+            (behind_comes last access index i (count_of access.size p) a t x.number y.number c.0 next rest l some small low few h own (own_value index w y l hi agree eq_i j) (own_nodes index w) (own_nonzero index w)
+            (c.3 l agree) (count_nodes access.size p) c.2)
+
+        by : (array : Bool) → is_array p ≡ array → (none : Bool) → (x.number == 0) ≡ none
+            → Comes functions callers world 0 (14 * element_nodes false index - 20) (at callers world (if array then code else Check check.Null access.at (Local a) code) rest l)
+            (given (if none then stops check.Null access.at else address) (in_range last x.range access.at)) next rest (AtElement t l)
+        by true e true z = absurd (let wrong : true ≡ false = sym z ∙ not_null e in cc)
+        by true e false z =
+            first_runs functions 0 0 (14 * element_nodes false index - 22) (14 * element_nodes false index - 20) (at callers world code rest l) (at callers world code rest l)
+            (given address (in_range last x.range access.at)) (λ b u. (l' : Values) × (u ≡ at callers world next rest l') × AtElement t l b l') (omega arith)
+            (no_quiet functions (at callers world code rest l)) (behind z)
+        by false e true z = (2, omega (arith, elements_near index), by_fail functions callers world check.Null access.at (Local a) code rest l x.number own z)
+        by false e false z =
+            first_runs functions 2 0 (14 * element_nodes false index - 22) (14 * element_nodes false index - 20) (at callers world (Check check.Null access.at (Local a) code) rest l) (at callers world code rest l)
+            (given address (in_range last x.range access.at)) (λ b u. (l' : Values) × (u ≡ at callers world next rest l') × AtElement t l b l') (omega (arith, elements_near index))
+            (by_pass functions callers world check.Null access.at (Local a) code rest l x.number own z) (behind z)
+
     -- the checks of an access
     judged_comes : (access : Access) (through : Through) (p index : source.Expr) (t : ℕ) (next : Code) (rest : Rest) (before l : Values) (x y : Value) → n ≤ t → Agree n s.locals l
         → is_bounded through ≡ false → IsJudged n through access.size p index → Both functions callers world n s sees (held (is_bounded through) p t) (held (keeps_index (is_bounded through) index) index (t + 1)) t before x y l
         → Comes functions callers world 0 (judged_steps through p index t)
-        (at callers world (judged through access p (held (is_bounded through) p t) (held (keeps_index (is_bounded through) index) index (t + 1)) t next) rest l) (element_through through access x y.number) next rest
+        (at callers world (judged through access p index (held (is_bounded through) p t) (held (keeps_index (is_bounded through) index) index (t + 1)) t next) rest l) (element_through through access x y.number) next rest
         (Placed access through (held (is_bounded through) p t) (held (keeps_index (is_bounded through) index) index (t + 1)) t before)
     judged_comes access Named p index t next rest before l x y le agree un h both = (
       0,
@@ -386,7 +602,7 @@ module _ (functions : List Function) (callers : List Caller) (world : World) whe
         → ((x : Value) (q : ℕ) (l3 : Values) → Placed access through (held (is_bounded through) p t) (held (keeps_index (is_bounded through) i) i (t + 1)) t l q l3 → evaluated s p ≡ Ok x
         → Comes functions callers world least m (at callers world last rest l3) (f x q) more rest R)
         → Comes functions callers world least k (at callers world (put_if (is_bounded through) p (expr_code p t) (put_if (keeps_index (is_bounded through) i) i (expr_code i (t + 1))
-        (judged through access p (held (is_bounded through) p t) (held (keeps_index (is_bounded through) i) i (t + 1)) t last))) rest l)
+        (judged through access p i (held (is_bounded through) p t) (held (keeps_index (is_bounded through) i) i (t + 1)) t last))) rest l)
         (given_both (evaluated s p) (evaluated s i) (λ v k. given (element_through through access v k.number) (f v))) more rest R
     near_comes {A} access through p i t least m k last more rest l f R un claim_p claim_i le h hp hi agree few next =
         let checked = is_bounded through in
@@ -394,7 +610,7 @@ module _ (functions : List Function) (callers : List Caller) (world : World) whe
         let a = held checked p t in
         let b = held keeps i (t + 1) in
         let ju = judged_steps through p i t in
-        let judge = judged through access p a b t last in
+        let judge = judged through access p i a b t last in
         pair_comes functions callers world n s sees checked keeps p i (held_steps checked p) (index_steps keeps i) t least (ju + m) k judge more rest l
         (λ v k. given (element_through through access v k.number) (f v)) R
         (held_from functions callers world n s sees checked p claim_p) (index_from functions callers world n s sees checked i claim_i) le hp hi agree (omega arith)
@@ -404,21 +620,46 @@ module _ (functions : List Function) (callers : List Caller) (world : World) whe
         (judged_comes access through p i t last rest l l2 x y le (agree_below functions callers world n s sees t l2 l le both.0 agree) un h both)
         (λ q l3 r. next x q l3 r eq_p))
 
-    -- an access that is judged by a range, computed or in temporaries
-    abbrev array_code : (last b : Bool) → Access → (p i : source.Expr) → ℕ → Code → Code
-    array_code last b access p i t next =
+    -- an access that is judged by a range, computed or in temporaries, or by a count
+    abbrev array_code : (last b c : Bool) → Access → (p i : source.Expr) → ℕ → Code → Code
+    array_code last b c access p i t next =
         value_code (not b) p t (put_if (keeps_index true i) i (expr_code i (t + index_far (not b)))
-        (Check check.Null access.at (Local t) (element_code access (held (keeps_index true i) i (t + index_far (not b))) t
+        (if c then unless_array p access.at (own_pointer p t) (counted_code last access (own_index i (held (keeps_index true i) i (t + index_far (not b)))) (count_of access.size p) (own_pointer p t) t next)
+        else Check check.Null access.at (Local t) (element_code access (held (keeps_index true i) i (t + index_far (not b))) t
         (Check check.Bounds access.at (if b then range_test last p (Local t) else held_test last t) next))))
 
-    array_comes : {A : Type 0} (last b : Bool) (access : Access) (p i : source.Expr) (t least m k : ℕ) (next more : Code) (rest : Rest) (l : Values) (f : Value → ℕ → Result A Halt) (R : A → Values → Type 0)
-        → is_ranged p ≡ b → Claim functions callers world n s sees p → RangeClaim functions callers world n s sees p → Claim functions callers world n s sees i → n ≤ t → 1 ≤ access.size → access.size < 2 ^ 31 → IsBounded n b p
+    array_comes : {A : Type 0} (last b c : Bool) (access : Access) (p i : source.Expr) (t least m k : ℕ) (next more : Code) (rest : Rest) (l : Values) (f : Value → ℕ → Result A Halt) (R : A → Values → Type 0)
+        → is_ranged p ≡ b → is_counted access.size p ≡ c → Claim functions callers world n s sees p → RangeClaim functions callers world n s sees p → Claim functions callers world n s sees i → n ≤ t → 1 ≤ access.size → access.size < 2 ^ 31 → IsBounded n b p
         → IsCompilableExpr n p → IsCompilableExpr n i → Agree n s.locals l
         → (14 * value_nodes (not b) p - 2) + (index_steps (keeps_index true i) i (t + index_far (not b)) + (14 * element_nodes (not b) i - 20)) + m ≤ k
         → ((x : Value) (q : ℕ) (l3 : Values) → Below t l3 l × (l3 t ≡ Some q) × (q < 2 ^ 32) → IsEnded l3 world.memory (end_test b p t) x.range q → evaluated s p ≡ Ok x → Comes functions callers world least m (at callers world next rest l3) (f x q) more rest R)
-        → Comes functions callers world least k (at callers world (array_code last b access p i t next) rest l)
+        → Comes functions callers world least k (at callers world (array_code last b c access p i t next) rest l)
         (given_both (evaluated s p) (evaluated s i) (λ v k. given (given (exact_element access v k.number) (in_range last v.range access.at)) (f v))) more rest R
-    array_comes {A} last true access p i t least m k next more rest l f R is claim_p range_p claim_i le some small bounded hp hi agree few go =
+    array_comes {A} last true true access p i t least m k next more rest l f R is counted claim_p range_p claim_i le some small bounded hp hi agree few go =
+        let w = t + 1 in
+        let js = 14 * element_nodes false i - 20 in
+        let judge = unless_array p access.at (own_pointer p t) (counted_code last access (own_index i (held (keeps_index true i) i w)) (count_of access.size p) (own_pointer p t) t next) in
+        pair_comes functions callers world n s sees true (keeps_index true i) p i (held_steps true p) (index_steps (keeps_index true i) i) t least (js + m) k judge more rest l
+        (λ v k. given (given (exact_element access v k.number) (in_range last v.range access.at)) (f v)) R
+        (held_from functions callers world n s sees true p claim_p) (index_from functions callers world n s sees true i claim_i) le hp hi agree (omega arith)
+        (λ x y l2 both eq_p eq_i.
+        let start = at callers world judge rest l2 in
+        let find = given (exact_element access x y.number) (in_range last x.range access.at) in
+        then_comes functions callers world least js m (js + m) start find (f x) next rest
+        (λ q l3. AtElement t l2 q l3 × (find ≡ Ok q)) (λ v u. (l' : Values) × (u ≡ at callers world more rest l') × R v l') (omega arith)
+        (known functions callers world n s sees 0 js start find next rest (AtElement t l2)
+        (counted_comes last access p i t w next rest l2 x y some small both.3 both.4 (both.1 l2 (λ z less. refl)) (both.2 l2 (λ z less. refl)) (agree_below functions callers world n s sees t l2 l le both.0 agree) hp hi eq_p eq_i
+        (λ array. array_some s access.size p x counted array eq_p)
+        (λ z. count_known n s world.memory sees access.size p x some counted bounded hp eq_p z)))
+        (λ q l3 got.
+        let g = got.0 in
+        let reached = reached_known last access x y.number q got.1 in
+        let below : Below t l3 l = λ z less. only_below t l3 l2 g.0 z less ∙ both.0 z less in
+        go x q l3 (below, g.1, g.2)
+        (end_ranged n s world.memory p x t q l3 (range_known n s world.memory sees p x is bounded hp eq_p reached.0) (agree_below functions callers world n s sees t l3 l le below agree) g.1) eq_p))
+    array_comes {A} last false true access p i t least m k next more rest l f R is counted claim_p range_p claim_i le some small bounded hp hi agree few go =
+        absurd (let wrong : true ≡ false = sym (counted_ranged access.size p counted) ∙ is in cc)
+    array_comes {A} last true false access p i t least m k next more rest l f R is uncounted claim_p range_p claim_i le some small bounded hp hi agree few go =
         let w = t + 1 in
         let test = range_test last p (Local t) in
         let js = 14 * element_nodes false i - 20 in
@@ -440,7 +681,7 @@ module _ (functions : List Function) (callers : List Caller) (world : World) whe
         let below : Below t l3 l = λ z less. only_below t l3 l2 g.0 z less ∙ both.0 z less in
         go x q l3 (below, g.1, g.2)
         (end_ranged n s world.memory p x t q l3 (range_known n s world.memory sees p x is bounded hp eq_p reached.0) (agree_below functions callers world n s sees t l3 l le below agree) g.1) eq_p))
-    array_comes {A} last false access p i t least m k next more rest l f R is claim_p range_p claim_i le some small bounded hp hi agree few go =
+    array_comes {A} last false false access p i t least m k next more rest l f R is uncounted claim_p range_p claim_i le some small bounded hp hi agree few go =
         let w = t + 3 in
         let test = held_test last t in
         let js = 14 * element_nodes true i - 20 in
@@ -481,7 +722,7 @@ module _ (functions : List Function) (callers : List Caller) (world : World) whe
         → Below t l3 l × ((later : Values) → Below (t + 2) later l3 → value_of later world.memory (element_of through access.size (held (is_bounded through) p t) (held (keeps_index (is_bounded through) i) i (t + index_far (takes_range through p)))) ≡ Some q) × (q < 2 ^ 32)
         → Ended through p t x.range q l3 → evaluated s p ≡ Ok x → Comes functions callers world least m (at callers world last rest l3) (f x q) more rest R)
         → Comes functions callers world least k (at callers world (put_if (is_bounded through) p (value_code (takes_range through p) p t) (put_if (keeps_index (is_bounded through) i) i (expr_code i (t + index_far (takes_range through p)))
-        (judged through access p (held (is_bounded through) p t) (held (keeps_index (is_bounded through) i) i (t + index_far (takes_range through p))) t last))) rest l)
+        (judged through access p i (held (is_bounded through) p t) (held (keeps_index (is_bounded through) i) i (t + index_far (takes_range through p))) t last))) rest l)
         (given_both (evaluated s p) (evaluated s i) (λ v k. given (element_through through access v k.number) (f v))) more rest R
     found_by {A} access Named p i t least m k last more rest l f R claim_p range_p claim_i le h hp hi agree few next =
         near_comes access Named p i t least m k last more rest l f R refl claim_p claim_i le h hp hi agree few (λ x q l3 r eq. next x q l3 r tt eq)
@@ -490,10 +731,10 @@ module _ (functions : List Function) (callers : List Caller) (world : World) whe
     found_by {A} access One p i t least m k last more rest l f R claim_p range_p claim_i le h hp hi agree few next =
         near_comes access One p i t least m k last more rest l f R refl claim_p claim_i le h hp hi agree few (λ x q l3 r eq. next x q l3 r tt eq)
     found_by {A} access Array p i t least m k last more rest l f R claim_p range_p claim_i le h hp hi agree few next =
-        array_comes false (is_ranged p) access p i t least m k last more rest l f R refl claim_p range_p claim_i le h.0 h.1 h.2 hp hi agree few
+        array_comes false (is_ranged p) (is_counted access.size p) access p i t least m k last more rest l f R refl refl claim_p range_p claim_i le h.0 h.1 h.2 hp hi agree few
         (λ x q l3 g end eq. next x q l3 (g.0, (λ later below. below t (omega arith) ∙ g.1), g.2) tt eq)
     found_by {A} access Terminated p i t least m k last more rest l f R claim_p range_p claim_i le h hp hi agree few next =
-        array_comes true (is_ranged p) access p i t least m k last more rest l f R refl claim_p range_p claim_i le h.0 h.1 h.2 hp hi agree few
+        array_comes true (is_ranged p) (is_counted access.size p) access p i t least m k last more rest l f R refl refl claim_p range_p claim_i le h.0 h.1 h.2 hp hi agree few
         (λ x q l3 g end eq. next x q l3 (g.0, (λ later below. below t (omega arith) ∙ g.1), g.2) end eq)
 
     pub found_comes : {A : Type 0} (access : Access) (p i : source.Expr) (t least m k : ℕ) (last more : Code) (rest : Rest) (l : Values) (f : Value → ℕ → Result A Halt) (R : A → Values → Type 0)

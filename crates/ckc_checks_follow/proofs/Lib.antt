@@ -9,6 +9,7 @@ pub mod Values
 pub mod True
 pub mod Ends
 pub mod Ranges
+pub mod Quick
 pub mod Casts
 pub mod Counts
 pub mod Coming

@@ -210,20 +210,20 @@ HasRange n s memory p x =
     (low high : ℕ) × (x.range ≡ Within low high) × ((l : Values) → Agree n s.locals l → value_of l memory (range_end false p) ≡ Some low)
     × ((l : Values) → Agree n s.locals l → value_of l memory (range_end true p) ≡ Some high)
 
--- A pointer with limits that is read, and is not null, has its range, which is one of words.
+-- A pointer with limits that is read, and is not null, has its range, which is one of words and ends below 2^31.
 pub read_range : (n : ℕ) (s : Store) (memory : Memory) → Sees n s memory → (to : Pointee) (m : ℕ) (from to_end : ℤ) (v : Value) → reads s.shapes s.blocks to m from to_end ≡ Ok v → (v.number == 0) ≡ false
-    → (low high : ℕ) × (v.range ≡ Within low high) × (from ≡ pos low) × (to_end ≡ pos high) × (low < 2 ^ 32) × (high < 2 ^ 32) × (low ≤ high)
+    → (low high : ℕ) × (v.range ≡ Within low high) × (from ≡ pos low) × (to_end ≡ pos high) × (low < 2 ^ 32) × (high < 2 ^ 32) × (low ≤ high) × (high < 2147483648)
 read_range n s memory sees to m from to_end v e z = start (m == 0) from to_end e
   where
     found : (low high : ℕ) (good : Bool) → is_true s.shapes s.blocks to m low high ≡ good → (if good then ranged m low high else Err Stuck) ≡ Ok v
-        → (l h : ℕ) × (v.range ≡ Within l h) × (pos low ≡ pos l) × (pos high ≡ pos h) × (l < 2 ^ 32) × (h < 2 ^ 32) × (l ≤ h)
+        → (l h : ℕ) × (v.range ≡ Within l h) × (pos low ≡ pos l) × (pos high ≡ pos h) × (l < 2 ^ 32) × (h < 2 ^ 32) × (l ≤ h) × (h < 2147483648)
     found low high true good e =
         let within = true_ends s.shapes to m low high first_place (data_end + 1) s.blocks sees.same.within good in
-        (low, high, sym (ap range_in e), refl, refl, omega (arith, within), omega (arith, within), within.0)
+        (low, high, sym (ap range_in e), refl, refl, omega (arith, within), omega (arith, within), within.0, omega (arith, within))
     found low high false good e = absurd cc
 
     start : (zero : Bool) (low high : ℤ) → (if zero then plain 0 else reads_within s.shapes s.blocks to m low high) ≡ Ok v
-        → (l h : ℕ) × (v.range ≡ Within l h) × (low ≡ pos l) × (high ≡ pos h) × (l < 2 ^ 32) × (h < 2 ^ 32) × (l ≤ h)
+        → (l h : ℕ) × (v.range ≡ Within l h) × (low ≡ pos l) × (high ≡ pos h) × (l < 2 ^ 32) × (h < 2 ^ 32) × (l ≤ h) × (h < 2147483648)
     start true low high e =
         let none : 0 ≡ v.number = ap (λ (r : Result Value Halt). elim r [ Ok w ↦ w.number | Err h ↦ 0 ]) e in
         absurd (let wrong : true ≡ false = ap (λ k. k == 0) none ∙ z in cc)

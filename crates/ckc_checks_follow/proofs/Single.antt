@@ -40,7 +40,7 @@ HasOne size (Err h) = Unit {0}
 
 -- ---- places
 
-none_behind : (n size : ℕ) → elements_behind n size (pos 0) ≡ pos n
+pub none_behind : (n size : ℕ) → elements_behind n size (pos 0) ≡ pos n
 none_behind n size = ap (λ z. pos n +ℤ z) (*ℤ-zero (pos size)) ∙ +ℤ_idr (pos n)
 
 one_behind : (n size : ℕ) → elements_behind n size (pos 1) ≡ pos (n + size)
@@ -56,7 +56,7 @@ exact_one integer.Char = refl
 int_same : (x y : ℤ) (b : Bool) → Decides b (x ≡ y) → b ≡ true → x ≡ y
 int_same x y b d e = d.0 e
 
-own_address : (locals : List ℕ) (n : ℕ) (b : Base) → is_own b ≡ true → base_address locals n b ≡ n
+pub own_address : (locals : List ℕ) (n : ℕ) (b : Base) → is_own b ≡ true → base_address locals n b ≡ n
 own_address locals n bases.Own h = refl
 own_address locals n (bases.Local x) h = absurd cc
 own_address locals n (bases.Fixed a) h = absurd cc
@@ -65,7 +65,7 @@ no_variable : (locals : List ℕ) (x : Option Variable) (add : ℤ) → is_absen
 no_variable locals None add h = refl
 no_variable locals (Some x) add h = absurd cc
 
-fixed_end : (locals : List ℕ) (size n : ℕ) (e : End) (add : ℤ) → is_fixed_end e add ≡ true → end_address locals size n e ≡ elements_behind n size add
+pub fixed_end : (locals : List ℕ) (size n : ℕ) (e : End) (add : ℤ) → is_fixed_end e add ≡ true → end_address locals size n e ≡ elements_behind n size add
 fixed_end locals size n e add h =
     let p = and_true (is_own e.base) (is_absent e.variable && int_eq e.add add) h in
     let q = and_true (is_absent e.variable) (int_eq e.add add) p.1 in

@@ -15,7 +15,8 @@ fn is_one(e: &ExprTree) -> bool
     is_this(1, number(e))
 }
 
-fn is_own(base: Base) -> bool
+/// Whether limits are counted from the pointer itself.
+pub fn is_own(base: Base) -> bool
     ensures { result ≡ is_own base }
 {
     match base {
@@ -34,7 +35,7 @@ fn is_absent(variable: Option<Variable>) -> bool
 }
 
 /// Whether an end of limits lies so many elements after the pointer itself.
-fn is_fixed_end(e: End, add: i32) -> bool
+pub fn is_fixed_end(e: End, add: i32) -> bool
     ensures { result ≡ is_fixed_end e add }
 {
     is_own(e.base) && (is_absent(e.variable) && e.add == add)

@@ -16,6 +16,6 @@ pub use exprs::{
 pub use lengths::{cast_passes, length_at};
 pub use numbers::{is_number, is_this, number};
 pub use ranges::{
-    below_end, bounds_test, end_at, exact_test, held, index_far, index_in, is_bounded, is_ranged,
-    keeps_index, reads_signed, static_place, takes_range,
+    below_end, bounds_test, count_of, end_at, exact_test, held, index_far, index_in, is_array,
+    is_bounded, is_counted, is_ranged, keeps_index, reads_signed, static_place, takes_range,
 };

@@ -7,14 +7,15 @@ ghost use Rattle.ckc_base.specs.declared.arithmetic.BinOp.TheVariants.{LtU, Sub}
 ghost use Rattle.ckc_base.specs.declared.arithmetic.Width.TheVariants.{Word};
 ghost use Rattle.ckc_checks_operands.specs.Cases.{is_named, is_bounded, is_static, is_fixed, is_ranged, takes_range};
 ghost use Rattle.ckc_checks_operands.specs.code.Operands.{keeps_index, held, shifted};
-ghost use Rattle.ckc_checks_operands.specs.code.Pointers.{below_end, reads_signed, exact_test, base_at, amount_at, end_at, static_place, counted_end, range_end, range_test, index_far, index_in, held_test, bounds_test};
+ghost use Rattle.ckc_checks_operands.specs.code.Pointers.{below_end, reads_signed, exact_test, base_at, amount_at, end_at, static_place, counted_end, range_end, range_test, index_far, index_in, held_test, bounds_test, are_counted, is_whole, is_counted, count_of, is_array};
 
+use crate::casts::{is_fixed_end, is_own};
 use crate::exprs::{at_offset, operand, shifted};
 use crate::numbers::{is_number, number};
 use ckc_base::{BinOp, Boxed, Width, sum};
 use ckc_checks_guards::{below_or_at, binary, cancels, upper_test};
 use ckc_core::CoreExpr;
-use ckc_source::{Access, Base, Count, End, ExprTree, Integer, Through, Variable};
+use ckc_source::{Access, Base, Count, End, ExprTree, Integer, Limits, Through, Variable};
 use std::alloc::{AllocError, Global};
 
 /// Whether an access is judged by the range of its pointer.
@@ -357,5 +358,60 @@ pub fn below_end(alloc: Global, p: &ExprTree, t: u32) -> Result<CoreExpr, AllocE
         let length = sum(t, 2)?;
         let from = from_low(alloc, t, low)?;
         binary(alloc, BinOp::Ne, from, CoreExpr::Local(length))
+    }
+}
+
+/// Whether limits go from the pointer itself to a count of elements of a size.
+fn are_counted(size: u32, limits: &Limits) -> bool
+    ensures { result ≡ are_counted size limits.now }
+{
+    limits.to.size == size && (is_fixed_end(limits.lower, 0) && is_own(limits.upper.base))
+}
+
+/// Whether an array that is not at address 0 has whole elements of a size, and ends below 2^31.
+fn is_whole(size: u32, at: u32, bytes: u32) -> bool
+    ensures { result ≡ is_whole size at bytes }
+{
+    if at == 0 || size == 0 {
+        return false;
+    }
+    match at.checked_add(bytes) {
+        Some(end) => bytes % size == 0 && end < 0x8000_0000,
+        None => false,
+    }
+}
+
+/// Whether the range of a pointer is a count of elements of a size behind the pointer itself.
+pub fn is_counted(size: u32, p: &ExprTree) -> bool
+    ensures { result ≡ is_counted size (source_of p.now) }
+{
+    match p {
+        ExprTree::Limited(_, limits) => are_counted(size, limits.get()),
+        ExprTree::Array(at, bytes) => is_whole(size, *at, *bytes),
+        _ => false,
+    }
+}
+
+/// How many elements the range of such a pointer has.
+pub fn count_of(alloc: Global, size: u32, p: &ExprTree) -> Result<CoreExpr, AllocError>
+    ensures { IfOk result (λ c. expr_of c ≡ count_of size (source_of p.now)) }
+{
+    match p {
+        ExprTree::Limited(_, limits) => {
+            let upper = limits.get().upper;
+            amount_at(alloc, upper.variable, upper.add)
+        }
+        ExprTree::Array(_, bytes) => Ok(CoreExpr::Const(if size == 0 { 0 } else { *bytes / size })),
+        _ => Ok(CoreExpr::Const(0)),
+    }
+}
+
+/// Whether a pointer is a named array.
+pub fn is_array(p: &ExprTree) -> bool
+    ensures { result ≡ is_array (source_of p.now) }
+{
+    match p {
+        ExprTree::Array(_, _) => true,
+        _ => false,
     }
 }

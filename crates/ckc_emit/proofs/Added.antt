@@ -10,7 +10,7 @@ use Rattle.ckc_base.specs.declared.arithmetic.Width.{Width}
 use Rattle.ckc_base.specs.declared.runtime_checks.Check.{Check}
 use Rattle.ckc_base.specs.Checks.{number_of}
 use Rattle.ckc_rv_operations.specs.declared.operations.BranchOp.{BranchOp}
-use Rattle.ckc_rv_operations.specs.declared.operations.BranchOp.TheVariants.{Bne, Bge, Bltu}
+use Rattle.ckc_rv_operations.specs.declared.operations.BranchOp.TheVariants.{Bge, Bltu}
 use Rattle.ckc_rv_operations.specs.declared.operations.LoadOp.{LoadOp}
 use Rattle.ckc_rv_operations.specs.declared.operations.LoadOp.TheVariants.{Lw}
 use Rattle.ckc_rv_operations.specs.declared.operations.StoreOp.{StoreOp}
@@ -28,10 +28,11 @@ use Rattle.ckc_emit.specs.declared.operations.Form.TheVariants.{Cleared, Left, Z
 use Rattle.ckc_emit.specs.code.Operands.{IsOperand}
 use Rattle.ckc_asm_lines.specs.declared.lines.Line.{Line}
 use Rattle.ckc_asm_lines.specs.declared.lines.Line.TheVariants.{Plain}
+use Rattle.ckc_tac.specs.declared.code.Comparison.{Comparison}
 use Rattle.ckc_frame.specs.declared.code.Place.{Place}
 use Rattle.ckc_frame.specs.declared.code.Place.TheVariants as place
 use Rattle.ckc_frame.specs.WellFormed.{IsPlace}
-use Rattle.ckc_emit.specs.code.Lines.{upper_of, lower_of, is_round, both_lines, large_lines, constant_lines, constant_count, move_lines, offset_lines, load_lines, store_lines, ask_lines, stop_lines, check_lines, register_of, source_of, read_lines, write_lines, settle_lines, fetch_lines, register_with, operand_lines, take_lines, const_lines, copy_lines, value_lines, operation_of, apply_lines, negated, near_form, zeros_of, power_form, number_form, form_of, is_exchanged, ending_lines, form_lines, bin_lines, high_op, high_lines, load_op, store_op, data_load_lines, data_store_lines, test_lines, get_lines, put_lines, tests_lines, room_lines, rounded_lines, claim_lines, alloc_lines}
+use Rattle.ckc_emit.specs.code.Lines.{upper_of, lower_of, is_round, both_lines, large_lines, constant_lines, constant_count, move_lines, offset_lines, load_lines, store_lines, ask_lines, holding, stop_lines, check_lines, register_of, source_of, read_lines, write_lines, settle_lines, fetch_lines, register_with, operand_lines, take_lines, const_lines, copy_lines, value_lines, operation_of, apply_lines, negated, near_form, zeros_of, power_form, number_form, form_of, is_exchanged, ending_lines, form_lines, bin_lines, high_op, high_lines, load_op, store_op, data_load_lines, data_store_lines, test_lines, get_lines, put_lines, tests_lines, room_lines, rounded_lines, claim_lines, alloc_lines}
 use Rattle.ckc_emit.proofs.Splits.{upper_small}
 use Rattle.ckc_emit.proofs.Pieces.{Adds, nothing, then_adds, more_adds, plain_adds, either_adds}
 
@@ -163,9 +164,9 @@ module _ (labels k : ℕ) where
       (then_adds labels (constant_adds 11 at.line _ (omega arith))
       (then_adds labels (constant_adds 12 at.col _ (omega arith)) (ask_adds 3 ys)))
 
-  pub check_adds : (a b : ℕ) (check : Check) (at : Pos) (ys : List Line) → a < 27 → b < 27 → Adding 10 (check_lines a b check at ys) ys
-  check_adds a b check at ys h i =
-      then_adds labels (branch_adds Bne a b (constant_count at.line + constant_count at.col + 4) _ h i (omega (arith, round_count at.line, round_count at.col))) (stop_adds check at ys)
+  pub check_adds : (o : BranchOp) (a b : ℕ) (check : Check) (at : Pos) (ys : List Line) → a < 27 → b < 27 → Adding 10 (check_lines o a b check at ys) ys
+  check_adds o a b check at ys h i =
+      then_adds labels (branch_adds o a b (constant_count at.line + constant_count at.col + 4) _ h i (omega (arith, round_count at.line, round_count at.col))) (stop_adds check at ys)
 
   -- ---- places
 
@@ -365,10 +366,13 @@ module _ (labels k : ℕ) where
       (then_adds labels (three_adds b 6 _ (omega arith))
       (store_adds (store_op width) (register_with a 5) (register_with b 6) (pos 0) ys (with_low a 5 p (omega arith)) (with_low b 6 q (omega arith)) (near_fits 0 (omega arith))))
 
-  pub test_adds : (check : Check) (at : Pos) (a : PlacedOperand) (ys : List Line) → IsOperand a → Adding 14 (test_lines check at a ys) ys
-  test_adds check at a ys p =
-      more_adds labels 14 (omega arith)
-      (then_adds labels (three_adds a 5 _ (omega arith)) (check_adds (register_with a 5) 0 check at ys (with_low a 5 p (omega arith)) (omega arith)))
+  pub test_adds : (check : Check) (at : Pos) (c : Comparison) (a b : PlacedOperand) (ys : List Line) → IsOperand a → IsOperand b
+      → Adding (reading a + reading b + 10) (test_lines check at c a b ys) ys
+  test_adds check at c a b ys p q =
+      more_adds labels (reading a + reading b + 10) (omega arith)
+      (then_adds labels (operand_adds a 5 _ (omega arith))
+      (then_adds labels (operand_adds b 6 _ (omega arith))
+      (check_adds (holding c) (register_with a 5) (register_with b 6) check at ys (with_low a 5 p (omega arith)) (with_low b 6 q (omega arith)))))
 
   pub get_adds : (t : Place) (ys : List Line) → IsPlace t → Adding 6 (get_lines t ys) ys
   get_adds t ys p = then_adds labels (ask_adds 2 _) (settle_adds t 10 ys p (omega arith))

@@ -4,6 +4,7 @@ use Rattle.std.specs.Prelude.{All, IfSome}
 use Rattle.std.proofs.lemmas.List.Elements.{All-head, All-tail}
 use Rattle.ckc_base.specs.declared.places.Pos.{Pos}
 use Rattle.ckc_base.specs.declared.runtime_checks.Check.TheVariants.{Depth}
+use Rattle.ckc_rv_operations.specs.declared.operations.BranchOp.TheVariants.{Bne}
 use Rattle.ckc_rv_operations.specs.declared.operations.RegOp.TheVariants.{Add}
 use Rattle.ckc_asm_lines.specs.declared.lines.Line.{Line}
 use Rattle.ckc_frame.specs.declared.code.Place.{Place}
@@ -47,7 +48,7 @@ module _ (labels k : ℕ) where
   depth_adds : (at : Pos) (ys : List Line) → Adding 13 (depth_lines at ys) ys
   depth_adds at ys =
       then_adds labels (lui_adds labels k 5 0x3000 _ (omega arith) (omega arith))
-      (then_adds labels (check_adds labels k 2 5 Depth at _ (omega arith) (omega arith))
+      (then_adds labels (check_adds labels k Bne 2 5 Depth at _ (omega arith) (omega arith))
       (then_adds labels (lui_adds labels k 8 0xFFFFC _ (omega arith) (omega arith)) (reg_adds labels k Add 8 8 2 ys (omega arith) (omega arith) (omega arith))))
 
   argument_adds : (from to : Place) (ys : List Line) → IsPlace from → IsPlace to → Adding 6 (argument_lines from to ys) ys

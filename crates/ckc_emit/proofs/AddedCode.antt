@@ -117,7 +117,9 @@ module _ (functions : List PlacedFunc) (placed : All IsPlacedWhole functions) (o
     op_adds n (High s t x y) ys o = high_adds labels k s (place_at f.homes t) (operand_at f.homes x) (operand_at f.homes y) ys (good t o.0) (fine x o.1) (fine y o.2)
     op_adds n (Load width t a) ys o = data_load_adds labels k width (place_at f.homes t) (operand_at f.homes a) ys (good t o.0) (fine a o.1)
     op_adds n (Store width a b) ys o = data_store_adds labels k width (operand_at f.homes a) (operand_at f.homes b) ys (fine a o.0) (fine b o.1)
-    op_adds n (Check check at a) ys o = test_adds labels k check at (operand_at f.homes a) ys (fine a o.1)
+    op_adds n (Check check at c a b) ys o =
+        more_adds labels (operand_size a + operand_size b + 10) (omega (arith, reading_is a, reading_is b))
+        (test_adds labels k check at c (operand_at f.homes a) (operand_at f.homes b) ys (fine a o.1) (fine b o.2))
     op_adds n (Call target callee arguments at) ys o =
         let c = callable (codes_of functions) functions callee (length arguments) placed over o.1 in
         let params : homes_of (slice_get functions callee) ≡ c.f.homes = ap homes_of c.is in

@@ -8,6 +8,7 @@ use Rattle.ckc_base.specs.declared.places.Pos.{Pos}
 use Rattle.ckc_base.specs.declared.runtime_checks.Check.TheVariants.{Depth}
 use Rattle.ckc_base.specs.Traces.{Stopped}
 use Rattle.ckc_base.specs.Activations.{Values}
+use Rattle.ckc_rv_operations.specs.declared.operations.BranchOp.TheVariants.{Bne}
 use Rattle.ckc_rv_operations.specs.declared.operations.RegOp.TheVariants.{Add}
 use Rattle.ckc_rv_operations.specs.declared.operations.ImmOp.TheVariants.{Addi}
 use Rattle.ckc_rv.specs.declared.instructions.Instr.TheVariants.{Lui, Imm, Reg}
@@ -27,7 +28,7 @@ use Rattle.ckc_emit.proofs.Paths.{Code, Path, Halting, followed, loosened, then_
 use Rattle.ckc_emit.proofs.FrameWords.{move_sets, lui_sets}
 use Rattle.ckc_emit.proofs.Homes.{HasValue, HasPlaces, IsFramed, register_is, AreFrameStores}
 use Rattle.ckc_emit.proofs.Acting.{plain_sets}
-use Rattle.ckc_emit.proofs.Checking.{check_passes, check_stops}
+use Rattle.ckc_emit.proofs.Checking.{bne_taken, bne_passed, check_passes, check_stops}
 use Rattle.ckc_emit.proofs.PlaceAt.{home_is, place_is}
 use Rattle.ckc_emit.proofs.Saving.{register_word, Saves, saves, framed_same}
 use Rattle.ckc_emit.proofs.Passing.{HasBelow, IsBelow, HasArguments, PassesAll, passes_all, stores_join}
@@ -131,12 +132,12 @@ module _ (c : Code) where
   sinks at ys l base below frame under high low =
       let y5 = Plain (Reg Add 8 8 2) ∷ ys in
       let y4 = Plain (Lui 8 0xFFFFC) ∷ y5 in
-      let y3 = check_lines 2 5 Depth at y4 in
+      let y3 = check_lines Bne 2 5 Depth at y4 in
       let y2 = Plain (Lui 5 0x3000) ∷ y3 in
       let s2 = lui_sets c 5 0x3000 y3 l (omega arith) (omega arith) in
       let two : s2.next.x 2 ≡ base = s2.other 2 (omega arith) (omega arith) ∙ frame in
       let apart : s2.next.x 2 ≢ s2.next.x 5 = λ same. (let e : base ≡ 0x3000 * 2 ^ 12 = sym two ∙ same ∙ s2.value in omega arith) in
-      let p3 = check_passes c 2 5 Depth at y4 s2.next (omega arith) (omega arith) apart in
+      let p3 = check_passes c Bne 2 5 Depth at y4 s2.next (omega arith) (omega arith) (bne_taken c (s2.next.x 2) (s2.next.x 5) apart) in
       let s4 = lui_sets c 8 0xFFFFC y5 s2.next (omega arith) (omega arith) in
       let s5 = plain_sets c Add below 8 8 2 (0xFFFFC * 2 ^ 12) base ys s4.next (omega arith) (omega arith) (omega arith) (omega arith) s4.value (s4.other 2 (omega arith) (omega arith) ∙ two) (sunk base below under high) in
       record {
@@ -255,7 +256,7 @@ module _ (c : Code) where
       → TooDeep (saves_lines test 12 0 (depth_lines at rest)) l at
   too_deep test at rest l framed last fl fc =
       let y4 = Plain (Lui 8 0xFFFFC) ∷ Plain (Reg Add 8 8 2) ∷ rest in
-      let y3 = check_lines 2 5 Depth at y4 in
+      let y3 = check_lines Bne 2 5 Depth at y4 in
       let y2 = Plain (Lui 5 0x3000) ∷ y3 in
       let s1 = saves c test 12 0 y2 l (omega arith) framed in
       let s2 = lui_sets c 5 0x3000 y3 s1.next (omega arith) (omega arith) in
@@ -267,5 +268,5 @@ module _ (c : Code) where
         stored = s1.events;
         path = s1.path;
         stores = s1.stores;
-        halting = then_halting c 1 1 10 y2 y3 s1.next s2.next (Stopped Depth at) s2.path (check_stops c 2 5 Depth at y4 s2.next (omega arith) (omega arith) (two ∙ sym s2.value) z fl fc);
+        halting = then_halting c 1 1 10 y2 y3 s1.next s2.next (Stopped Depth at) s2.path (check_stops c Bne 2 5 Depth at y4 s2.next (omega arith) (omega arith) (bne_passed c (s2.next.x 2) (s2.next.x 5) (two ∙ sym s2.value)) z fl fc);
       }

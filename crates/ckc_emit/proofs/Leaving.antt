@@ -34,6 +34,7 @@ use Rattle.ckc_emit.specs.code.Lines.{register_of, register_with}
 use Rattle.ckc_emit.specs.code.ProgramLines.{label_of, ops_lines, end_lines, operand_at, holding, failing, jump_lines, choice_lines, branch_lines, is_passing, is_passing_block, falls_through}
 use Rattle.ckc_emit.proofs.Local.{Local, state_of}
 use Rattle.ckc_emit.proofs.Steps.{branch_taken, branch_passed}
+use Rattle.ckc_emit.proofs.Checking.{holding_is}
 use Rattle.ckc_emit.proofs.Paths.{Code, LinesAt, FarAt}
 use Rattle.ckc_emit.proofs.Homes.{HasValue, framed_kept, keeps_same, register_is}
 use Rattle.ckc_emit.proofs.Asking.{IsSoft, soft_then, places_soft}
@@ -50,10 +51,6 @@ use Rattle.ckc_emit.proofs.Tests.{eq_of, not_true, and_first, and_second}
 pub all_at : {X : Type 0} (P : X → Type 0) (xs : List X) (k : ℕ) (x : X) → All P xs → slice_get xs k ≡ Some x → P x
 all_at P xs k x h e = subst P (get_or_from_slice_get xs k x x e) (All-get_or P xs k x (slice_get_within xs k x e) h)
 
-flag_is : (b : Bool) → b ≡ not (flag b == 0)
-flag_is true = refl
-flag_is false = refl
-
 flag_not : (b : Bool) → not b ≡ (flag b == 0)
 flag_not true = refl
 flag_not false = refl
@@ -62,13 +59,7 @@ flag_unequal : (b : Bool) → b ≡ (flag (not b) == 0)
 flag_unequal true = refl
 flag_unequal false = refl
 
--- the branches of a comparison, by its value
-holding_is : (o : Comparison) (x y : ℕ) → is_taken (holding o) x y ≡ not (applied (operation_of o) x y == 0)
-holding_is LtS x y = flag_is (int_lt (signed x) (signed y))
-holding_is LtU x y = flag_is (nat_lt x y)
-holding_is Eq x y = flag_is (x == y)
-holding_is Ne x y = flag_is (not (x == y))
-
+-- the branch that is taken if a comparison does not hold, by its value
 failing_is : (o : Comparison) (x y : ℕ) → is_taken (failing o) x y ≡ (applied (operation_of o) x y == 0)
 failing_is LtS x y = flag_not (int_lt (signed x) (signed y))
 failing_is LtU x y = flag_not (nat_lt x y)

@@ -1,5 +1,5 @@
 -- The lines of every operation but a call do what the operation comes to.
-use Rattle.std.proofs.Common.{◌≡◌, ℕ, ◌-◌, ◌%◌, ◌^◌, ◌≤◌, ◌<◌, ◌==◌, if◌then◌else◌, Bool, true, false, List, [], ◌∷◌, length, Option, Some, None, refl, sym, ap, subst, ◌∙◌, arith}
+use Rattle.std.proofs.Common.{◌≡◌, ℕ, ◌-◌, ◌%◌, ◌^◌, ◌≤◌, ◌<◌, ◌==◌, not, if◌then◌else◌, Bool, true, false, List, [], ◌∷◌, length, Option, Some, None, refl, sym, ap, subst, ◌∙◌, arith}
 use Rattle.ckc_base.specs.declared.places.Pos.{Pos}
 use Rattle.ckc_base.specs.declared.runtime_checks.Check.{Check as CheckKind}
 use Rattle.ckc_base.specs.declared.arithmetic.Width.{Width}
@@ -14,29 +14,31 @@ use Rattle.ckc_tac.specs.declared.code.TacFunc.{TacFunc}
 use Rattle.ckc_tac.specs.declared.code.TacOp.{TacOp}
 use Rattle.ckc_tac.specs.declared.code.TacOp.TheVariants.{Const, Copy, Bin, High, Load, Store, Check, Call, Get, Put, Alloc}
 use Rattle.ckc_tac.specs.declared.code.Operand.{Operand}
-use Rattle.ckc_tac.specs.Operations.{value_in, outcome_of}
+use Rattle.ckc_tac.specs.declared.code.Comparison.{Comparison}
+use Rattle.ckc_tac.specs.Operations.{value_in, outcome_of, operation_of, compared}
+use Rattle.ckc_base.specs.Words.{applied}
+use Rattle.ckc_rv.specs.Effects.{is_taken}
 use Rattle.ckc_tac.specs.WellFormed.{IsOperandOver, IsOpOver}
 use Rattle.ckc_frame.specs.declared.code.Place.{Place}
 use Rattle.ckc_frame.specs.declared.code.PlacedFunc.{PlacedFunc}
 use Rattle.ckc_frame.specs.Places.{number_of, home, registers_in}
 use Rattle.ckc_frame.specs.WellFormed.{IsPlace, IsPlacedWhole}
-use Rattle.ckc_emit.specs.code.Lines.{register_with, check_lines, test_lines}
+use Rattle.ckc_emit.specs.code.Lines.{register_with, holding, check_lines, test_lines}
 use Rattle.ckc_emit.specs.code.CallLines.{place_at}
 use Rattle.ckc_emit.specs.code.ProgramLines.{operand_at, op_lines}
 use Rattle.ckc_emit.proofs.PlaceAt.{home_is, place_is}
 use Rattle.ckc_emit.proofs.Local.{Local}
 use Rattle.ckc_emit.proofs.Paths.{Code, Halting, followed, loosened, then_halting}
 use Rattle.ckc_emit.proofs.Homes.{HasPlaces, IsFramed}
-use Rattle.ckc_emit.proofs.Operands.{operand_value, operand_has, operand_word, operand_is, operand_found, left_register}
-use Rattle.ckc_emit.proofs.Binary.{one_read}
+use Rattle.ckc_emit.proofs.Operands.{operand_value, operand_has, operand_word, operand_is, operand_found, left_register, right_register}
+use Rattle.ckc_emit.proofs.Binary.{Sourced, two_reads}
 use Rattle.ckc_emit.specs.declared.places.PlacedOperand.{PlacedOperand}
 use Rattle.ckc_emit.specs.code.Operands.{IsOperand}
-use Rattle.ckc_emit.proofs.Checking.{check_passes, check_stops}
+use Rattle.ckc_emit.proofs.Checking.{holding_is, check_passes, check_stops}
 use Rattle.ckc_emit.proofs.Relation.{HasWorld, Does, world_kept, does_loosened}
 use Rattle.ckc_emit.proofs.Acts.{const_does, copy_does, bin_does, high_does, load_does, store_does}
 use Rattle.ckc_emit.proofs.Asking.{end_does, get_does, put_does}
 use Rattle.ckc_emit.proofs.Claiming.{refused_does, claimed_does}
-use Rattle.ckc_emit.proofs.Tests.{eq_of, apart_of}
 
 -- ---- places of registers
 
@@ -110,35 +112,62 @@ module _ (c : Code) (functions : List PlacedFunc) (codes : List TacFunc) (f : Pl
       (load_does c l places world framed has whole width (at t) (operand a) p v rest (good_at t ht) (good_operand a ha) (value_of a p ha ea) e))
 
   -- a check passes, or the machine stops
-  checks_case : (k : CheckKind) (where_ : Pos) (a : Operand) (x : ℕ) (rest : List Line) (b : Bool) → IsOperandOver f.code.regs a → value_in (registers_in f.homes places) a ≡ Some x → where_.line < 2 ^ 32 → where_.col < 2 ^ 32 → (x == 0) ≡ b
-      → DoesOutcome (op_lines functions f n (Check k where_ a) rest) rest (if b then Stops k where_ else Done [] world)
-  checks_case k where_ a x rest true ha ea fl fc e =
-      let p = operand a in
-      let hp = good_operand a ha in
-      let ex = value_of a x ha ea in
-      let s = one_read c p x (check_lines (register_with p 5) 0 k where_ rest) l framed hp (operand_has l places has p x hp ex) (operand_word l places has p x hp ex) in
-      let z = s.keeps.zero ∙ framed.zero in
-      loose_halt 13 (test_lines k where_ p rest) (Stopped k where_) (omega arith)
-      (then_halting c 0 3 10 (test_lines k where_ p rest) (check_lines (register_with p 5) 0 k where_ rest) l s.next (Stopped k where_) s.path
-      (check_stops c (register_with p 5) 0 k where_ rest s.next (left_register p hp).0 (omega arith) (s.left ∙ eq_of x 0 e ∙ sym z) z fl fc))
-  checks_case k where_ a x rest false ha ea fl fc e =
-      let p = operand a in
-      let hp = good_operand a ha in
-      let ex = value_of a x ha ea in
-      let s = one_read c p x (check_lines (register_with p 5) 0 k where_ rest) l framed hp (operand_has l places has p x hp ex) (operand_word l places has p x hp ex) in
-      let z = s.keeps.zero ∙ framed.zero in
-      record {
-        next = s.next;
-        lower = [];
-        path = loosened c 1 4 1 32 (test_lines k where_ p rest) rest [] l s.next (omega arith) (omega arith)
-            (followed c 0 3 1 1 (test_lines k where_ p rest) (check_lines (register_with p 5) 0 k where_ rest) rest [] [] l s.next s.next s.path
-            (check_passes c (register_with p 5) 0 k where_ rest s.next (left_register p hp).0 (omega arith) (λ same. apart_of x 0 e (sym s.left ∙ same ∙ z))));
-        seen = refl;
-        allowed = tt;
-        keeps = s.keeps;
-        has = record { has = λ q w h g. s.has q w h (has.has q w h g); word = has.word };
-        world_is = world_kept c l s.next world s.bytes s.input whole;
-      }
+  module _ (k : CheckKind) (where_ : Pos) (o : Comparison) (a b : Operand) (rest : List Line)
+      (ha : IsOperandOver f.code.regs a) (hb : IsOperandOver f.code.regs b) (fl : where_.line < 2 ^ 32) (fc : where_.col < 2 ^ 32) where
+    abbrev p : PlacedOperand
+    p = operand a
+
+    abbrev q : PlacedOperand
+    q = operand b
+
+    abbrev lines : List Line
+    lines = test_lines k where_ o p q rest
+
+    abbrev mid : List Line
+    mid = check_lines (holding o) (register_with p 5) (register_with q 6) k where_ rest
+
+    good_left : IsOperand p
+    good_left = good_operand a ha
+
+    good_right : IsOperand q
+    good_right = good_operand b hb
+
+    checks_case : (x y : ℕ) (s : Sourced c 6 lines mid l (register_with p 5) x (register_with q 6) y) (fails : Bool) → (applied (operation_of o) x y == 0) ≡ fails
+        → DoesOutcome lines rest (if fails then Stops k where_ else Done [] world)
+    checks_case x y s true e =
+        let branch : is_taken (holding o) (s.next.x (register_with p 5)) (s.next.x (register_with q 6)) ≡ false =
+        (λ i. is_taken (holding o) (s.left i) (s.right i)) ∙ holding_is o x y ∙ ap not e in
+        loose_halt 16 lines (Stopped k where_) (omega arith)
+        (then_halting c 0 6 10 lines mid l s.next (Stopped k where_) s.path
+        (check_stops c (holding o) (register_with p 5) (register_with q 6) k where_ rest s.next (left_register p good_left).0 (right_register q good_right) branch
+        (s.keeps.zero ∙ framed.zero) fl fc))
+    checks_case x y s false e =
+        let branch : is_taken (holding o) (s.next.x (register_with p 5)) (s.next.x (register_with q 6)) ≡ true =
+        (λ i. is_taken (holding o) (s.left i) (s.right i)) ∙ holding_is o x y ∙ ap not e in
+        record {
+          next = s.next;
+          lower = [];
+          path = loosened c 1 7 1 32 lines rest [] l s.next (omega arith) (omega arith)
+              (followed c 0 6 1 1 lines mid rest [] [] l s.next s.next s.path
+              (check_passes c (holding o) (register_with p 5) (register_with q 6) k where_ rest s.next (left_register p good_left).0 (right_register q good_right) branch));
+          seen = refl;
+          allowed = tt;
+          keeps = s.keeps;
+          has = record { has = λ r w h g. s.has r w h (has.has r w h g); word = has.word };
+          world_is = world_kept c l s.next world s.bytes s.input whole;
+        }
+
+    checks_read : (x y : Option ℕ) → value_in (registers_in f.homes places) a ≡ x → value_in (registers_in f.homes places) b ≡ y
+        → DoesOutcome lines rest (with_value (compared o x y) (checks world k where_))
+    checks_read (Some x) (Some y) ea eb =
+        let ex = value_of a x ha ea in
+        let ey = value_of b y hb eb in
+        checks_case x y
+        (two_reads c p q x y mid l framed good_left good_right (operand_has l places has p x good_left ex) (operand_has l places has q y good_right ey)
+        (operand_word l places has p x good_left ex) (operand_word l places has q y good_right ey))
+        (applied (operation_of o) x y == 0) refl
+    checks_read (Some x) None ea eb = tt
+    checks_read None y ea eb = tt
 
   -- room is taken on the heap, or there is none
   claims_case : (t : ℕ) (a : Operand) (size count p : ℕ) (rest : List Line) (now : Option base.Memory) → t < f.code.regs → IsOperandOver f.code.regs a → size < 2 ^ 32 → value_in (registers_in f.homes places) a ≡ Some count
@@ -182,8 +211,8 @@ module _ (c : Code) (functions : List PlacedFunc) (codes : List TacFunc) (f : Pl
       value_case (op_lines functions f n (Store width a b) rest) rest (value_in (registers_in f.homes places) a) _ (λ p ep.
       value_case (op_lines functions f n (Store width a b) rest) rest (value_in (registers_in f.homes places) b) _ (λ y ey.
       stores_case width a b p y rest (base.memory_with width world.memory p y) h.0 h.1 ep ey refl))
-  does_op (Check k where_ a) rest h =
-      value_case (op_lines functions f n (Check k where_ a) rest) rest (value_in (registers_in f.homes places) a) (checks world k where_) (λ x e. checks_case k where_ a x rest (x == 0) h.1 e h.0.0 h.0.1 refl)
+  does_op (Check k where_ o a b) rest h =
+      checks_read k where_ o a b rest h.1 h.2 h.0.0 h.0.1 (value_in (registers_in f.homes places) a) (value_in (registers_in f.homes places) b) refl refl
   does_op (Call target callee arguments where_) rest h = tt
   does_op (Get t) rest h = gets_case t rest world.input h refl
   does_op (Put a) rest h =

@@ -26,7 +26,7 @@ module _ (functions : List PlacedFunc) (c : Code) (main : ℕ) (whole : IsWhole 
     operates_by (High is_signed t a b) ops all = op_simulates functions c s l pc r (High is_signed t a b) ops all refl
     operates_by (Load width t a) ops all = op_simulates functions c s l pc r (Load width t a) ops all refl
     operates_by (Store width a b) ops all = op_simulates functions c s l pc r (Store width a b) ops all refl
-    operates_by (Check check at a) ops all = op_simulates functions c s l pc r (Check check at a) ops all refl
+    operates_by (Check check at o a b) ops all = op_simulates functions c s l pc r (Check check at o a b) ops all refl
     operates_by (Get t) ops all = op_simulates functions c s l pc r (Get t) ops all refl
     operates_by (Put a) ops all = op_simulates functions c s l pc r (Put a) ops all refl
     operates_by (Alloc t a size) ops all = op_simulates functions c s l pc r (Alloc t a size) ops all refl

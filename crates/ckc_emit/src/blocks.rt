@@ -7,7 +7,7 @@ ghost use Rattle.ckc_frame.specs.Places.{marks_of};
 ghost use Rattle.ckc_emit.specs.code.Emitting.{Emits};
 ghost use Rattle.ckc_emit.specs.code.Operands.{IsOperand};
 ghost use Rattle.ckc_emit.specs.code.CallLines.{place_at, call_lines, result_lines};
-ghost use Rattle.ckc_emit.specs.code.ProgramLines.{label_of, homes_of, operand_at, op_lines, ops_lines, jump_lines, holding as holding_of, failing as failing_of, choice_lines, branch_lines, is_passing_block, falls_through, end_lines, block_lines, blocks_lines, function_lines, return_lines, pass_lines, over_lines, AreLabels, codes_of};
+ghost use Rattle.ckc_emit.specs.code.ProgramLines.{label_of, homes_of, operand_at, op_lines, ops_lines, jump_lines, failing as failing_of, choice_lines, branch_lines, is_passing_block, falls_through, end_lines, block_lines, blocks_lines, function_lines, return_lines, pass_lines, over_lines, AreLabels, codes_of};
 
 use crate::allocation::put_alloc;
 use crate::calls::{put_call, put_result};
@@ -16,6 +16,7 @@ use crate::operations::{
     put_test,
 };
 use crate::places::{PlacedOperand, place_in, put_operand, put_take, register_of_operand};
+use crate::stops::holding;
 use ckc_asm_lines::Line;
 use ckc_base::Pos;
 use ckc_emit_templates::{SP, put, put_load, put_store};
@@ -71,7 +72,9 @@ fn put_op(
         TacOp::High(s, t, a, b) => put_high(out, *s, home(f, *t), operand(f, *a), operand(f, *b)),
         TacOp::Load(width, t, a) => put_data_load(out, *width, home(f, *t), operand(f, *a)),
         TacOp::Store(width, a, b) => put_data_store(out, *width, operand(f, *a), operand(f, *b)),
-        TacOp::Check(check, at, a) => put_test(out, *check, *at, operand(f, *a)),
+        TacOp::Check(check, at, c, a, b) => {
+            put_test(out, *check, *at, *c, operand(f, *a), operand(f, *b))
+        }
         TacOp::Get(t) => put_get(out, home(f, *t)),
         TacOp::Put(a) => put_put(out, operand(f, *a)),
         TacOp::Alloc(t, a, size) => put_alloc(out, home(f, *t), operand(f, *a), *size),
@@ -224,18 +227,6 @@ fn put_jump(out: &mut Vec<Line>, first: u32, next: u32, b: u32) -> Result<(), Al
         out.push(Line::Far(0, first + b))?;
     }
     Ok(())
-}
-
-/// The branch that is taken if a comparison holds.
-fn holding(c: Comparison) -> BranchOp
-    ensures { result ≡ holding_of c }
-{
-    match c {
-        Comparison::LtS => BranchOp::Blt,
-        Comparison::LtU => BranchOp::Bltu,
-        Comparison::Eq => BranchOp::Beq,
-        Comparison::Ne => BranchOp::Bne,
-    }
 }
 
 /// The branch that is taken if a comparison does not hold.

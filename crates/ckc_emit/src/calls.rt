@@ -11,7 +11,7 @@ use ckc_asm_lines::Line;
 use ckc_base::{Check, Pos};
 use ckc_emit_templates::{SP, put, put_load, put_move, put_restores, put_saves, put_store};
 use ckc_frame::Place;
-use ckc_rv::{Instr, RegOp};
+use ckc_rv::{BranchOp, Instr, RegOp};
 use std::alloc::AllocError;
 
 const FRAME: u8 = 8;
@@ -60,7 +60,7 @@ fn put_depth(out: &mut Vec<Line>, at: Pos) -> Result<(), AllocError>
     ensures { OnOk result (Emits out.old.items out.new.items (depth_lines at)) }
 {
     put(out, Instr::Lui(5, 0x3000))?;
-    put_check(out, SP, 5, Check::Depth, at)?;
+    put_check(out, BranchOp::Bne, SP, 5, Check::Depth, at)?;
     put(out, Instr::Lui(FRAME, 0xFFFFC))?;
     put(out, Instr::Reg(RegOp::Add, FRAME, FRAME, SP))
 }

@@ -9,12 +9,13 @@ use crate::places::{
     PlacedOperand, put_fetch, put_operand, put_settle, put_take, put_write, register_of_operand,
     source,
 };
-use crate::stops::put_check;
+use crate::stops::{holding, put_check};
 use ckc_asm_lines::Line;
 use ckc_base::{BinOp, Check, Pos, Width};
 use ckc_emit_templates::{immediate, put, put_ask, put_constant, upper};
 use ckc_frame::Place;
 use ckc_rv::{ImmOp, Instr, LoadOp, RegOp, StoreOp};
+use ckc_tac::Comparison;
 use std::alloc::AllocError;
 
 /// A place gets a word.
@@ -399,18 +400,23 @@ pub fn put_data_store(
     put(out, Instr::Store(store_op(width), ra, rb, 0))
 }
 
-/// The program stops at a check if an operand is zero.
+/// The program stops at a check unless a comparison of two operands holds.
 pub fn put_test(
     out: &mut Vec<Line>,
     check: Check,
     at: Pos,
+    c: Comparison,
     a: PlacedOperand,
+    b: PlacedOperand,
 ) -> Result<(), AllocError>
-    requires { IsOperand a }
-    ensures { OnOk result (Emits out.old.items out.new.items (test_lines check at a)) }
+    requires a { IsOperand a }
+    requires b { IsOperand b }
+    ensures { OnOk result (Emits out.old.items out.new.items (test_lines check at c a b)) }
 {
     put_operand(out, a, 5)?;
-    put_check(out, register_of_operand(a, 5), 0, check, at)
+    put_operand(out, b, 6)?;
+    let (ra, rb) = (register_of_operand(a, 5), register_of_operand(b, 6));
+    put_check(out, holding(c), ra, rb, check, at)
 }
 
 /// A place gets the next byte of the input, or -1 at its end.

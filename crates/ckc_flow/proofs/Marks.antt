@@ -129,6 +129,13 @@ called : (target : Option ℕ) (row : List Bool) (r : ℕ) → Has (cleared targ
 called (Some t) row r e = written t r row e
 called None row r e = (none_apart r, e)
 
+both_from : (a b : Operand) (row : List Bool) (r : ℕ) → Has (marked b (marked a row)) r
+    → ((is_register r a || is_register r b) ≡ true) ⊎ ((nothing ≡ Some r → ⊥) × Has row r)
+both_from a b row r e = ⊎_elim
+    (λ h. inl (or_right (is_register r a) (is_register r b) h))
+    (λ h. ⊎_elim (λ k. inl (or_left (is_register r a) (is_register r b) k)) (λ k. inr (none_apart r, k)) (marked_from a row r h))
+    (marked_from b (marked a row) r e)
+
 -- a mark in front of an operation is of a register that it reads, or stood after it and is not written
 pub passed_from : (op : TacOp) (row : List Bool) (r : ℕ) → Has (passed op row) r → FromBehind op row r
 passed_from (Const t n) row r e = inr (written t r row e)
@@ -136,11 +143,8 @@ passed_from (Copy t a) row r e = ⊎_elim (λ h. inl h) (λ h. inr (written t r 
 passed_from (Bin op t a b) row r e = two_written t r a b row e
 passed_from (High is_signed t a b) row r e = two_written t r a b row e
 passed_from (Load width t a) row r e = one_written t r a row e
-passed_from (Store width a b) row r e = ⊎_elim
-    (λ h. inl (or_right (is_register r a) (is_register r b) h))
-    (λ h. ⊎_elim (λ k. inl (or_left (is_register r a) (is_register r b) k)) (λ k. inr (none_apart r, k)) (marked_from a row r h))
-    (marked_from b (marked a row) r e)
-passed_from (Check check at a) row r e = ⊎_elim (λ h. inl h) (λ h. inr (none_apart r, h)) (marked_from a row r e)
+passed_from (Store width a b) row r e = both_from a b row r e
+passed_from (Check check at comparison a b) row r e = both_from a b row r e
 passed_from (Call target callee arguments at) row r e = ⊎_elim (λ h. inl h) (λ h. inr (called target row r h)) (all_from arguments (cleared target row) r e)
 passed_from (Get t) row r e = inr (written t r row e)
 passed_from (Put a) row r e = ⊎_elim (λ h. inl h) (λ h. inr (none_apart r, h)) (marked_from a row r e)
@@ -157,7 +161,7 @@ length-passed (Bin op t a b) row = length-marked b (marked a (set row t false)) 
 length-passed (High is_signed t a b) row = length-marked b (marked a (set row t false)) ∙ length-marked a (set row t false) ∙ length-set row t false
 length-passed (Load width t a) row = length-marked a (set row t false) ∙ length-set row t false
 length-passed (Store width a b) row = length-marked b (marked a row) ∙ length-marked a row
-length-passed (Check check at a) row = length-marked a row
+length-passed (Check check at comparison a b) row = length-marked b (marked a row) ∙ length-marked a row
 length-passed (Call target callee arguments at) row = length-all_marked arguments (cleared target row) ∙ length-cleared target row
 length-passed (Get t) row = length-set row t false
 length-passed (Put a) row = length-marked a row
@@ -175,7 +179,7 @@ passed_gains (Bin op t a b) row r e h = two_gain a b (set row t false) r e (omeg
 passed_gains (High is_signed t a b) row r e h = two_gain a b (set row t false) r e (omega (arith, length-set row t false))
 passed_gains (Load width t a) row r e h = marked_gains a (set row t false) r e (omega (arith, length-set row t false))
 passed_gains (Store width a b) row r e h = two_gain a b row r e h
-passed_gains (Check check at a) row r e h = marked_gains a row r e h
+passed_gains (Check check at comparison a b) row r e h = two_gain a b row r e h
 passed_gains (Call target callee arguments at) row r e h = all_gains arguments (cleared target row) r e (omega (arith, length-cleared target row))
 passed_gains (Get t) row r e h = absurd cc
 passed_gains (Put a) row r e h = marked_gains a row r e h
@@ -192,7 +196,7 @@ passed_keeps (Bin op t a b) row r apart h = marked_keeps b (marked a (set row t 
 passed_keeps (High is_signed t a b) row r apart h = marked_keeps b (marked a (set row t false)) r (marked_keeps a (set row t false) r (cleared_stays (Some t) row r apart h))
 passed_keeps (Load width t a) row r apart h = marked_keeps a (set row t false) r (cleared_stays (Some t) row r apart h)
 passed_keeps (Store width a b) row r apart h = marked_keeps b (marked a row) r (marked_keeps a row r h)
-passed_keeps (Check check at a) row r apart h = marked_keeps a row r h
+passed_keeps (Check check at comparison a b) row r apart h = marked_keeps b (marked a row) r (marked_keeps a row r h)
 passed_keeps (Call target callee arguments at) row r apart h = all_keeps arguments (cleared target row) r (cleared_stays target row r apart h)
 passed_keeps (Get t) row r apart h = cleared_stays (Some t) row r apart h
 passed_keeps (Put a) row r apart h = marked_keeps a row r h

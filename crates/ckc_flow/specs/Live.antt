@@ -23,7 +23,7 @@ reads r (Bin op t a b) = is_register r a || is_register r b
 reads r (High is_signed t a b) = is_register r a || is_register r b
 reads r (Load width t a) = is_register r a
 reads r (Store width a b) = is_register r a || is_register r b
-reads r (Check check at a) = is_register r a
+reads r (Check check at comparison a b) = is_register r a || is_register r b
 reads r (Call target callee arguments at) = list_any (λ a. a == r) arguments
 reads r (Get t) = false
 reads r (Put a) = is_register r a
@@ -37,7 +37,7 @@ target_of (Bin op t a b) = Some t
 target_of (High is_signed t a b) = Some t
 target_of (Load width t a) = Some t
 target_of (Store width a b) = None
-target_of (Check check at a) = None
+target_of (Check check at comparison a b) = None
 target_of (Call target callee arguments at) = target
 target_of (Get t) = Some t
 target_of (Put a) = None

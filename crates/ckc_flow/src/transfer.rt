@@ -46,7 +46,10 @@ pub fn pass(op: &TacOp, row: &mut [bool])
             mark(*a, row);
             mark(*b, row);
         }
-        TacOp::Check(_, _, a) => mark(*a, row),
+        TacOp::Check(_, _, _, a, b) => {
+            mark(*a, row);
+            mark(*b, row);
+        }
         TacOp::Call(t, _, args, _) => {
             clear(*t, row);
             mark_all(args.as_slice(), row);

@@ -4,13 +4,14 @@ use Rattle.std.specs.Prelude.{Bool, true, false, not, if◌then◌else◌, Optio
 use Rattle.ckc_base.specs.Follows.{IsPrefix}
 use Rattle.ckc_base.proofs.Following.{prefix_trans}
 use Rattle.ckc_core.specs.Code.{Expr, Const, Local, Load, Bin, High, Code, End, Set, Store, Check, Call, Get, Put, Alloc, If, Loop, Break, Continue, Return}
+use Rattle.ckc_tac.specs.declared.code.Comparison.{Comparison}
 use Rattle.ckc_tac.specs.declared.code.Operand.{Operand}
 use Rattle.ckc_tac.specs.declared.code.TacOp.{TacOp}
 use Rattle.ckc_tac.specs.declared.code.TacOp.TheVariants as op
 use Rattle.ckc_tac.specs.declared.code.TacEnd.{TacEnd}
 use Rattle.ckc_lower.specs.declared.builder.Builder.{Builder}
 use Rattle.ckc_lower.specs.declared.builder.Targets.{Targets}
-use Rattle.ckc_lower.specs.code.Built.{free_from, target_of, operand_of, registers_of, with_op, with_temporary, with_value, with_values, passes, goal, block_count, body_count, with_end, with_jump, left, stored, used, one_at, two_at, forked, join_of, entered, targets_of, out_of, step_of, built, bin_of, free_past, with_register, Test, test_of, branch_of}
+use Rattle.ckc_lower.specs.code.Built.{free_from, target_of, operand_of, registers_of, with_op, with_temporary, with_value, with_values, passes, goal, block_count, body_count, with_end, with_jump, left, stored, used, compares, checked_test, one_at, two_at, forked, join_of, entered, targets_of, out_of, step_of, built, bin_of, free_past, with_register, Test, test_of, branch_of}
 use Rattle.ckc_lower.proofs.Values.{value_ops}
 use Rattle.ckc_lower.proofs.Arguments.{register_ops, values_ops}
 
@@ -104,6 +105,9 @@ stored-ops t a e o b =
 pub stored-blocks : (t : ℕ) (a e : Expr) (o : Operand → Operand → TacOp) (b : Builder) → (stored t a e o b).blocks ≡ b.blocks
 stored-blocks t a e o b = value-blocks e None (free_from a t) (with_value a None t b) ∙ value-blocks a None t b
 
+pub compares-blocks : (t : ℕ) (s : Test) (o : Comparison → Operand → Operand → TacOp) (b : Builder) → (compares t s o b).blocks ≡ b.blocks
+compares-blocks t s o b = stored-blocks t s.left s.right (o s.comparison) b
+
 pub used-ops : (t : ℕ) (e : Expr) (o : Operand → TacOp) (b : Builder) → (used t e o b).ops ≡ b.ops ++ (value_ops e None t ++ o (operand_of e None t) ∷ [])
 used-ops t e o b =
     in_turn b.ops (value_ops e None t) (o (operand_of e None t) ∷ []) (used t e o b).ops (ap (λ x. x ++ o (operand_of e None t) ∷ []) (value-ops e None t b))
@@ -153,8 +157,8 @@ built-blocks t fresh (Store width a e rest) exit loop b =
     let c = stored t a e (op.Store width) b in
     prefix_trans b.blocks c.blocks (built t false rest exit loop c).blocks (same_blocks b c (stored-blocks t a e (op.Store width) b)) (built-blocks t false rest exit loop c)
 built-blocks t fresh (Check check place e rest) exit loop b =
-    let c = used t e (op.Check check place) b in
-    prefix_trans b.blocks c.blocks (built t false rest exit loop c).blocks (same_blocks b c (used-blocks t e (op.Check check place) b)) (built-blocks t false rest exit loop c)
+    let c = compares t (checked_test e) (op.Check check place) b in
+    prefix_trans b.blocks c.blocks (built t false rest exit loop c).blocks (same_blocks b c (compares-blocks t (checked_test e) (op.Check check place) b)) (built-blocks t false rest exit loop c)
 built-blocks t fresh (Call target i es place rest) exit loop b =
     let c = with_op (with_values es t b) (op.Call target i (registers_of es t) place) in
     prefix_trans b.blocks c.blocks (built t false rest exit loop c).blocks (same_blocks b c (values-blocks es t b)) (built-blocks t false rest exit loop c)
@@ -259,7 +263,7 @@ built-length t fresh (Set x e rest) exit loop b =
 built-length t fresh (Store width a e rest) exit loop b =
     built-length t false rest exit loop _ ∙ ap (λ x. length x + block_count false (is_some exit) rest) (stored-blocks t a e (op.Store width) b)
 built-length t fresh (Check check place e rest) exit loop b =
-    built-length t false rest exit loop _ ∙ ap (λ x. length x + block_count false (is_some exit) rest) (used-blocks t e (op.Check check place) b)
+    built-length t false rest exit loop _ ∙ ap (λ x. length x + block_count false (is_some exit) rest) (compares-blocks t (checked_test e) (op.Check check place) b)
 built-length t fresh (Call target i es place rest) exit loop b =
     built-length t false rest exit loop _ ∙ ap (λ x. length x + block_count false (is_some exit) rest) (values-blocks es t b)
 built-length t fresh (Get x rest) exit loop b = built-length t false rest exit loop _

@@ -16,7 +16,7 @@ use Rattle.ckc_tac.specs.declared.code.Comparison.TheVariants.{LtS, LtU, Eq, Ne}
 use Rattle.ckc_tac.specs.declared.code.Operand.TheVariants.{Number}
 use Rattle.ckc_tac.specs.Operations.{operation_of}
 use Rattle.ckc_tac.specs.Sizes.{operand_size}
-use Rattle.ckc_lower.specs.code.Built.{Test, test, is_zero, test_of_bin, test_of}
+use Rattle.ckc_lower.specs.code.Built.{Test, test, is_zero, test_of_bin, test_of, checked_test}
 use Rattle.ckc_lower.proofs.Values.{both_some, some_same, unlike}
 
 -- what holds of the test of an operation in each case
@@ -97,6 +97,15 @@ of_left o p q s w = record {
   over = λ locals h. w.over locals h.0;
 }
 
+compared_within : (o : BinOp) (p q : Expr) (c : Comparison) (turned : Bool) → IsWithin (Bin o p q) (test c p q turned)
+compared_within o p q c turned = record {
+  nodes_few = omega arith;
+  size_few = omega (arith, side_few p, side_few q);
+  left_depth = omega arith;
+  right_depth = omega arith;
+  over = λ locals h. h;
+}
+
 pub within : (e : Expr) (turned : Bool) → IsWithin e (test_of e turned)
 within (Const n) turned = against_zero (Const n) turned
 within (Local x) turned = against_zero (Local x) turned
@@ -104,16 +113,20 @@ within (Load width a) turned = against_zero (Load width a) turned
 within (High s p q) turned = against_zero (High s p q) turned
 within (Bin o p q) turned =
     by_cases (IsWithin (Bin o p q)) o p q (is_zero q) (test_of p) turned
-    (λ c e. record {
-      nodes_few = omega arith;
-      size_few = omega (arith, side_few p, side_few q);
-      left_depth = omega arith;
-      right_depth = omega arith;
-      over = λ locals h. h;
-    })
+    (λ c e. compared_within o p q c turned)
     (λ e z. of_left o p q (test_of p (not turned)) (within p (not turned)))
     (λ e z. of_left o p q (test_of p turned) (within p turned))
     (against_zero (Bin o p q) turned)
+
+-- the same of what a check compares
+pub checked_within : (e : Expr) → IsWithin e (checked_test e)
+checked_within (Const n) = against_zero (Const n) false
+checked_within (Local x) = against_zero (Local x) false
+checked_within (Load width a) = against_zero (Load width a) false
+checked_within (High s p q) = against_zero (High s p q) false
+checked_within (Bin o p q) =
+    by_cases (IsWithin (Bin o p q)) o p q false (test Ne p (Const 0)) false (λ c e. compared_within o p q c false)
+    (λ e z. unlike z) (λ e z. unlike z) (against_zero (Bin o p q) false)
 
 -- ---- the value of a test
 
@@ -196,3 +209,48 @@ module _ (values : Values) (memory : Memory) where
         fails = inner.fails ∙ ap (flipped turned) (sym (ap (λ n. n == 0) is ∙ not_flag (both.0 == 0)));
       })
       (unequal_zero (Bin o p q) v turned h)
+
+  -- ---- the value of a check
+
+  -- Both sides of what a check compares have values, and the comparison holds of them if the expression is not zero.
+  pub record Agrees (e : Expr) (v : ℕ) : Type 0 where
+    pub x : ℕ
+    pub y : ℕ
+    pub left : value_of values memory (checked_test e).left ≡ Some x
+    pub right : value_of values memory (checked_test e).right ≡ Some y
+    pub fails : (applied (operation_of (checked_test e).comparison) x y == 0) ≡ (v == 0)
+
+  checked_so : (e : Expr) (v : ℕ) (s : Test) → checked_test e ≡ s → s.turned ≡ false → Decides values memory s v false → Agrees e v
+  checked_so e v s is straight d = record {
+    x = d.x;
+    y = d.y;
+    left = ap (λ (r : Test). value_of values memory r.left) is ∙ d.left;
+    right = ap (λ (r : Test). value_of values memory r.right) is ∙ d.right;
+    fails = ap (λ (r : Test). applied (operation_of r.comparison) d.x d.y == 0) is
+        ∙ ap (λ b. flipped b (applied (operation_of s.comparison) d.x d.y == 0)) (sym straight) ∙ d.fails;
+  }
+
+  pub checked_agrees : (e : Expr) (v : ℕ) → value_of values memory e ≡ Some v → Agrees e v
+  checked_agrees (Const n) v h = checked_so (Const n) v (test Ne (Const n) (Const 0) false) refl refl (unequal_zero (Const n) v false h)
+  checked_agrees (Local x) v h = checked_so (Local x) v (test Ne (Local x) (Const 0) false) refl refl (unequal_zero (Local x) v false h)
+  checked_agrees (Load width a) v h = checked_so (Load width a) v (test Ne (Load width a) (Const 0) false) refl refl (unequal_zero (Load width a) v false h)
+  checked_agrees (High s p q) v h = checked_so (High s p q) v (test Ne (High s p q) (Const 0) false) refl refl (unequal_zero (High s p q) v false h)
+  checked_agrees (Bin o p q) v h =
+      let both = both_some (applied o) (value_of values memory p) (value_of values memory q) v h in
+      let s = checked_test (Bin o p q) in
+      let d : Decides values memory s v false × (s.turned ≡ false) =
+      by_cases (λ s. Decides values memory s v false × (s.turned ≡ false)) o p q false (test Ne p (Const 0)) false
+      (λ c e. (
+        record {
+          x = both.0;
+          y = both.1;
+          left = both.2;
+          right = both.3;
+          fails = ap (λ n. n == 0) (ap (λ a. applied a both.0 both.1) (sym e) ∙ both.4);
+        },
+        refl,
+      ))
+      (λ e z. unlike z)
+      (λ e z. unlike z)
+      (unequal_zero (Bin o p q) v false h, refl) in
+      checked_so (Bin o p q) v s refl d.1 d.0

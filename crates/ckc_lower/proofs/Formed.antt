@@ -17,10 +17,10 @@ use Rattle.ckc_tac.specs.declared.code.TacEnd.TheVariants as ends
 use Rattle.ckc_tac.specs.WellFormed as T
 use Rattle.ckc_lower.specs.declared.builder.Builder.{Builder}
 use Rattle.ckc_lower.specs.declared.builder.Targets.{Targets}
-use Rattle.ckc_lower.specs.code.Built.{free_from, target_of, operand_of, registers_of, with_op, with_temporary, with_value, with_values, block_count, body_count, with_end, with_jump, left, passes, goal, stored, used, one_at, two_at, behind_at, forked, join_of, entered, step_at, out_at, targets_of, out_of, step_of, built, bin_of, is_even, is_number, register_of, free_past, with_register, test_of, picked, branch_of}
+use Rattle.ckc_lower.specs.code.Built.{free_from, target_of, operand_of, registers_of, with_op, with_temporary, with_value, with_values, block_count, body_count, with_end, with_jump, left, passes, goal, stored, used, one_at, two_at, behind_at, forked, join_of, entered, step_at, out_at, targets_of, out_of, step_of, built, bin_of, is_even, is_number, register_of, free_past, with_register, test_of, checked_test, picked, branch_of}
 use Rattle.ckc_lower.proofs.Arguments.{length-registers_of}
 use Rattle.ckc_lower.specs.code.Lowered.{empty, whole, lowered_function, lowered}
-use Rattle.ckc_lower.proofs.Conditions.{within}
+use Rattle.ckc_lower.proofs.Conditions.{within, checked_within}
 use Rattle.ckc_lower.proofs.Appending.{sides-blocks, ended-length, jump-length, built-length, is_some, body_some, IsExitGood, IsLoopGood, out_good, step_good, goal_good}
 use Rattle.ckc_lower.proofs.Standing.{function_some}
 use Rattle.ckc_lower.proofs.Registers.{temporary-more, value-more, values-more, built-more}
@@ -171,10 +171,18 @@ module _ (functions : List Function) (t blocks regs : ℕ) (room : t ≤ regs) w
       (good_value e None u first w.1 tt few_second (good_value a None t b w.0 tt few_first g))
       (operand_good a None t b w.0 tt few_first, operand_good e None u first w.1 tt few_second))
   good_built (Check check place e rest) looped fresh exit loop b w few short x l some g =
-      let o : Operand → TacOp = op.Check check place in
-      let c = used t e o b in
+      let s = checked_test e in
+      let over = (checked_within e).over t w.1 in
+      let u = free_from s.left t in
+      let first = with_value s.left None t b in
+      let second = with_value s.right None u first in
+      let o = op.Check check place s.comparison (operand_of s.left None t) (operand_of s.right None u) in
+      let c = with_op second o in
+      let few_second : second.regs ≤ regs = omega (arith, built-more t false rest exit loop c) in
+      let few_first : first.regs ≤ regs = omega (arith, value-more s.right None u first) in
       good_built rest looped false exit loop c w.2 few short x l some
-      (good_used e o b w.1 (omega (arith, built-more t false rest exit loop c)) g (λ r h. (w.0, h)))
+      (good_op second o (good_value s.right None u first over.1 tt few_second (good_value s.left None t b over.0 tt few_first g))
+      (w.0, operand_good s.left None t b over.0 tt few_first, operand_good s.right None u first over.1 tt few_second))
   good_built (Call target i es place rest) looped fresh exit loop b w few short x l some g =
       let o = op.Call target i (registers_of es t) place in
       let v = with_values es t b in

@@ -12,7 +12,7 @@ use Rattle.ckc_tac.specs.declared.code.TacEnd.TheVariants as ends
 use Rattle.ckc_tac.specs.declared.code.TacBlock.{TacBlock}
 use Rattle.ckc_lower.specs.declared.builder.Builder.{Builder}
 use Rattle.ckc_lower.specs.declared.builder.Targets.{Targets}
-use Rattle.ckc_lower.specs.code.Built.{free_from, operand_of, registers_of, with_op, with_value, with_values, with_jump, left, passes, goal, one_at, two_at, forked, join_of, entered, targets_of, out_of, step_of, built, test_of, branch_of, Test}
+use Rattle.ckc_lower.specs.code.Built.{free_from, operand_of, registers_of, with_op, with_value, with_values, with_jump, left, passes, goal, one_at, two_at, forked, join_of, entered, targets_of, out_of, step_of, built, test_of, checked_test, branch_of, Test}
 use Rattle.ckc_lower.specs.code.Lowered.{empty, whole, lowered_function, lowered}
 use Rattle.ckc_lower.specs.Idle.{jumps_alone, only_jumps, idle_blocks_in, idle_blocks}
 use Rattle.ckc_lower.proofs.Appending.{value-blocks, values-blocks, stored-blocks, sides-blocks}
@@ -98,9 +98,10 @@ module _ (t : ℕ) where
       let o = op.Store width (operand_of a None t) (operand_of e None (free_from a t)) in
       omega (arith, built_most rest false exit loop (with_op c o), pushed c.ops o, ap idle (stored-blocks t a e (op.Store width) b))
   built_most (Check check at e rest) fresh exit loop b =
-      let c = with_value e None t b in
-      let o = op.Check check at (operand_of e None t) in
-      omega (arith, built_most rest false exit loop (with_op c o), pushed c.ops o, ap idle (value-blocks e None t b))
+      let s = checked_test e in
+      let c = with_value s.right None (free_from s.left t) (with_value s.left None t b) in
+      let o = op.Check check at s.comparison (operand_of s.left None t) (operand_of s.right None (free_from s.left t)) in
+      omega (arith, built_most rest false exit loop (with_op c o), pushed c.ops o, ap idle (sides-blocks t s b))
   built_most (Call target callee es at rest) fresh exit loop b =
       let c = with_values es t b in
       let o = op.Call target callee (registers_of es t) at in

@@ -11,8 +11,8 @@ use Rattle.ckc_tac.specs.declared.code.TacOp.TheVariants as op
 use Rattle.ckc_tac.specs.WellFormed.{HasFewRegisters}
 use Rattle.ckc_lower.specs.declared.builder.Builder.{Builder}
 use Rattle.ckc_lower.specs.declared.builder.Targets.{Targets}
-use Rattle.ckc_lower.specs.code.Built.{free_from, registers_of, with_op, with_temporary, with_value, with_values, with_jump, left, out_of, step_of, passes, goal, stored, used, one_at, two_at, forked, join_of, entered, targets_of, built, free_past, with_register, Test, test_of, tested}
-use Rattle.ckc_lower.proofs.Conditions.{within}
+use Rattle.ckc_lower.specs.code.Built.{free_from, registers_of, with_op, with_temporary, with_value, with_values, with_jump, left, out_of, step_of, passes, goal, stored, used, compares, checked_test, one_at, two_at, forked, join_of, entered, targets_of, built, free_past, with_register, Test, test_of, tested}
+use Rattle.ckc_lower.proofs.Conditions.{within, checked_within}
 use Rattle.ckc_lower.specs.code.Lowered.{empty, lowered_function, lowered}
 
 -- ---- no register is given back
@@ -67,7 +67,9 @@ built-more t fresh (Set x e rest) exit loop b = omega (arith, value-more e (Some
 built-more t fresh (Store width a e rest) exit loop b =
     omega (arith, stored-more t a e (op.Store width) b, built-more t false rest exit loop (stored t a e (op.Store width) b))
 built-more t fresh (Check check place e rest) exit loop b =
-    omega (arith, value-more e None t b, built-more t false rest exit loop (used t e (op.Check check place) b))
+    let s = checked_test e in
+    let o = op.Check check place s.comparison in
+    omega (arith, stored-more t s.left s.right o b, built-more t false rest exit loop (stored t s.left s.right o b))
 built-more t fresh (Call target i es place rest) exit loop b =
     omega (arith, values-more es t b, built-more t false rest exit loop (with_op (with_values es t b) (op.Call target i (registers_of es t) place)))
 built-more t fresh (Get x rest) exit loop b = built-more t false rest exit loop (with_op b (op.Get x))
@@ -143,6 +145,14 @@ tested-few e t one two b h few =
     value-few 4064 s.right None (free_from s.left t) (with_value s.left None t b) (omega (arith, w.right_depth, free_at_most s.left t))
     (value-few 4064 s.left None t b (omega (arith, w.left_depth)) few)
 
+checked-few : (e : Expr) (t : ℕ) (b : Builder) → t + depth e + 1 ≤ 4064 → b.regs ≤ 4064
+    → (with_value (checked_test e).right None (free_from (checked_test e).left t) (with_value (checked_test e).left None t b)).regs ≤ 4064
+checked-few e t b h few =
+    let s = checked_test e in
+    let w = checked_within e in
+    value-few 4064 s.right None (free_from s.left t) (with_value s.left None t b) (omega (arith, w.right_depth, free_at_most s.left t))
+    (value-few 4064 s.left None t b (omega (arith, w.left_depth)) few)
+
 values-few : (es : List Expr) (t : ℕ) (b : Builder) → t + length es ≤ 2255 → All IsShallow es → b.regs ≤ 4064 → (with_values es t b).regs ≤ 4064
 values-few [] t b h all few = few
 values-few (e ∷ es) t b h all few =
@@ -167,7 +177,7 @@ built-few t l fresh (Store width a e rest) exit loop b k few =
     built-few t l false rest exit loop (stored t a e (op.Store width) b) k.2
     (value-few 4064 e None (free_from a t) (with_value a None t b) (omega (arith, k.1, free_at_most a t)) (value-few 4064 a None t b (omega (arith, k.0)) few))
 built-few t l fresh (Check check place e rest) exit loop b k few =
-    built-few t l false rest exit loop (used t e (op.Check check place) b) k.1 (value-few 4064 e None t b (omega (arith, k.0)) few)
+    built-few t l false rest exit loop (compares t (checked_test e) (op.Check check place) b) k.1 (checked-few e t b (omega (arith, k.0)) few)
 built-few t l fresh (Call target i es place rest) exit loop b k few =
     built-few t l false rest exit loop (with_op (with_values es t b) (op.Call target i (registers_of es t) place)) k.2
     (values-few es t b (omega (arith, k.0)) k.1 few)

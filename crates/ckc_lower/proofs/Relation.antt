@@ -1,6 +1,8 @@
 -- How states of core code and of its three-address code are related.
 use Rattle.std.proofs.Common.{◌≡◌, ◌⊎◌, inl, inr, ℕ, ◌+◌, List, [], ◌∷◌, ◌++◌}
 use Rattle.std.specs.Prelude.{false, Option, Some, None, slice_get, All}
+use Rattle.ckc_base.specs.declared.places.Pos.{Pos}
+use Rattle.ckc_base.specs.declared.runtime_checks.Check.{Check as CheckName}
 use Rattle.ckc_core.specs.Code.{Code, End, Set, Store, Check, Call, Get, Put, Alloc, If, Loop, Break, Continue, Return, Function}
 use Rattle.ckc_core.specs.Meaning.{Rest, Stop, Next, Body, Step}
 use Rattle.ckc_core.specs.Meaning as C
@@ -14,7 +16,7 @@ use Rattle.ckc_tac.specs.declared.code.TacEnd.{TacEnd}
 use Rattle.ckc_tac.specs.declared.code.TacEnd.TheVariants as ends
 use Rattle.ckc_tac.specs.Meaning as T
 use Rattle.ckc_lower.specs.declared.builder.Targets.{Targets}
-use Rattle.ckc_lower.specs.code.Built.{free_from, operand_of, registers_of, out_of, step_of, test_of, branch_of}
+use Rattle.ckc_lower.specs.code.Built.{free_from, operand_of, registers_of, out_of, step_of, Test, test_of, checked_test, branch_of}
 use Rattle.ckc_lower.proofs.Values.{value_ops, Agree}
 use Rattle.ckc_lower.proofs.Arguments.{values_ops}
 use Rattle.ckc_lower.proofs.Appending.{test_ops}
@@ -47,6 +49,10 @@ abbrev pub Leaves : List TacOp → TacEnd → Option ℕ → Type 0
 Leaves ops end (Some to) = (ops ≡ []) × (end ≡ ends.Jump to)
 Leaves ops end None = (ops ≡ []) × (end ≡ ends.Return (Number 0))
 
+-- the check of a test
+abbrev pub check_op : CheckName → Pos → ℕ → Test → TacOp
+check_op check place t s = op.Check check place s.comparison (operand_of s.left None t) (operand_of s.right None (free_from s.left t))
+
 abbrev pub loop_of : (out step : ℕ) → Option Targets
 loop_of out step = Some (record { out = out; step = step })
 
@@ -61,8 +67,10 @@ Runs blocks t (Store width a e rest) ops end exit loop =
     × (ops ≡ value_ops a None t ++ (value_ops e None (free_from a t) ++ (op.Store width (operand_of a None t) (operand_of e None (free_from a t)) ∷ more)))
     × IsExprOver t a × IsExprOver t e × Runs blocks t rest more end exit loop
 Runs blocks t (Check check place e rest) ops end exit loop =
-    (more : List TacOp) × (ops ≡ value_ops e None t ++ (op.Check check place (operand_of e None t) ∷ more)) × IsExprOver t e
-    × Runs blocks t rest more end exit loop
+    (more : List TacOp)
+    × (ops ≡ value_ops (checked_test e).left None t ++ (value_ops (checked_test e).right None (free_from (checked_test e).left t)
+    ++ (check_op check place t (checked_test e) ∷ more)))
+    × IsExprOver t e × Runs blocks t rest more end exit loop
 Runs blocks t (Call target callee es place rest) ops end exit loop =
     (more : List TacOp) × (ops ≡ values_ops es t ++ (op.Call target callee (registers_of es t) place ∷ more)) × All (IsExprOver t) es
     × Runs blocks t rest more end exit loop

@@ -2,6 +2,8 @@
 use Rattle.std.proofs.Common.{◌≡◌, ℕ, ◌+◌, ◌≤◌, List, [], ◌∷◌, ◌++◌, length, refl, ◌∙◌, ap, arith}
 use Rattle.std.specs.Prelude.{Bool, true, false, not, ◌&&◌, if◌then◌else◌, Option, Some, None, sum_by, map}
 use Rattle.std.proofs.lemmas.List.Sums.{sum_by-append}
+use Rattle.ckc_base.specs.declared.places.Pos.{Pos}
+use Rattle.ckc_base.specs.declared.runtime_checks.Check.{Check as CheckName}
 use Rattle.ckc_base.specs.declared.arithmetic.Width.{Width}
 use Rattle.ckc_base.specs.declared.arithmetic.BinOp.{BinOp}
 use Rattle.ckc_base.specs.Sizes.{operation_size, branch_size, const_size, call_size, jump_size, return_size}
@@ -17,9 +19,9 @@ use Rattle.ckc_tac.specs.declared.code.TacEnd.TheVariants as ends
 use Rattle.ckc_tac.specs.Sizes as T
 use Rattle.ckc_lower.specs.declared.builder.Builder.{Builder}
 use Rattle.ckc_lower.specs.declared.builder.Targets.{Targets}
-use Rattle.ckc_lower.specs.code.Built.{free_from, target_of, operand_of, registers_of, with_op, with_temporary, with_value, with_values, with_end, with_jump, left, passes, goal, stored, used, one_at, two_at, forked, join_of, entered, targets_of, out_of, step_of, built, bin_of, is_even, is_number, free_past, with_register, test_of, branch_of, tested}
+use Rattle.ckc_lower.specs.code.Built.{free_from, target_of, operand_of, registers_of, with_op, with_temporary, with_value, with_values, with_end, with_jump, left, passes, goal, stored, used, compares, checked_test, one_at, two_at, forked, join_of, entered, targets_of, out_of, step_of, built, bin_of, is_even, is_number, free_past, with_register, test_of, branch_of, tested}
 use Rattle.ckc_lower.proofs.Arguments.{length-registers_of}
-use Rattle.ckc_lower.proofs.Conditions.{side_size, within}
+use Rattle.ckc_lower.proofs.Conditions.{side_size, within, checked_within}
 use Rattle.ckc_lower.specs.code.Lowered.{empty, whole, lowered_function, lowered}
 
 -- the size of what a builder has
@@ -140,6 +142,17 @@ size-tested e t one two b =
     let fourth = (within e false).size_few in
     omega (arith, first, second, third, fourth)
 
+size-checked : (e : Expr) (t : ℕ) (check : CheckName) (place : Pos) (b : Builder) → size (compares t (checked_test e) (op.Check check place) b) ≤ size b + expr_size e + 13
+size-checked e t check place b =
+    let s = checked_test e in
+    let u = free_from s.left t in
+    let c = with_value s.left None t b in
+    let first = size-side s.left t b in
+    let second = size-side s.right u c in
+    let third = size-op (with_value s.right None u c) (op.Check check place s.comparison (operand_of s.left None t) (operand_of s.right None u)) in
+    let fourth = (checked_within e).size_few in
+    omega (arith, first, second, third, fourth)
+
 size-values : (es : List Expr) (t : ℕ) (b : Builder) → size (with_values es t b) ≤ size b + exprs_size es
 size-values [] t b = omega arith
 size-values (e ∷ es) t b =
@@ -187,8 +200,8 @@ size-built t fresh (Store width a e rest) exit loop b =
     let second = size-built t false rest exit loop (stored t a e (op.Store width) b) in
     omega (arith, first, second)
 size-built t fresh (Check check place e rest) exit loop b =
-    let first = size-used t e (op.Check check place) b in
-    let second = size-built t false rest exit loop (used t e (op.Check check place) b) in
+    let first = size-checked e t check place b in
+    let second = size-built t false rest exit loop (compares t (checked_test e) (op.Check check place) b) in
     omega (arith, first, second)
 size-built t fresh (Call target i es place rest) exit loop b =
     let o = op.Call target i (registers_of es t) place in

@@ -14,11 +14,11 @@ use Rattle.ckc_tac.specs.declared.code.TacEnd.{TacEnd}
 use Rattle.ckc_tac.specs.declared.code.TacEnd.TheVariants as ends
 use Rattle.ckc_lower.specs.declared.builder.Builder.{Builder}
 use Rattle.ckc_lower.specs.declared.builder.Targets.{Targets}
-use Rattle.ckc_lower.specs.code.Built.{free_from, operand_of, registers_of, with_op, with_value, with_values, passes, goal, block_count, body_count, with_end, stored, used, one_at, two_at, behind_at, forked, join_of, entered, step_at, out_at, targets_of, out_of, step_of, built, test_of, branch_of}
+use Rattle.ckc_lower.specs.code.Built.{free_from, operand_of, registers_of, with_op, with_value, with_values, passes, goal, block_count, body_count, with_end, stored, used, one_at, two_at, behind_at, forked, join_of, entered, step_at, out_at, targets_of, out_of, step_of, built, test_of, checked_test, branch_of}
 use Rattle.ckc_lower.specs.code.Lowered.{empty, whole}
 use Rattle.ckc_lower.proofs.Values.{value_ops}
 use Rattle.ckc_lower.proofs.Arguments.{values_ops}
-use Rattle.ckc_lower.proofs.Relation.{Runs, RunsAt, LeadsTo}
+use Rattle.ckc_lower.proofs.Relation.{Runs, RunsAt, LeadsTo, check_op}
 use Rattle.ckc_lower.proofs.Appending.{test_ops, sides, sides-ops, sides-blocks, value-ops, value-blocks, values-ops, values-blocks, stored-ops, stored-blocks, used-ops, used-blocks, built-blocks, built-ops, ended-length, is_some, IsEmptyWhere, empty_where, jump-ops, built-length, some_blocks, body_some, IsExitGood, IsLoopGood, out_good, step_good, goal_good}
 
 get_behind : {X : Type 0} (xs ys : List X) (y : X) → slice_get ((xs ++ y ∷ []) ++ ys) (length xs) ≡ Some y
@@ -153,11 +153,20 @@ module _ (functions : List Function) (blocks : List TacBlock) (t : ℕ) where
         r,
       )) (opens rest looped false exit loop c w.2 p tt tt x l some)
   opens (Check check place e rest) looped fresh exit loop b w p h k x l some =
-      let c = used t e (op.Check check place) b in
-      let last = op.Check check place (operand_of e None t) in
-      widened blocks t (Check check place e rest) rest exit loop b c (value_ops e None t ++ last ∷ [])
-      (used-blocks t e (op.Check check place) b) (used-ops t e (op.Check check place) b)
-      (λ more end r. (more, append_assoc (value_ops e None t) (last ∷ []) more, w.1, r)) (opens rest looped false exit loop c w.2 p tt tt x l some)
+      let s = checked_test e in
+      let o = op.Check check place s.comparison in
+      let c = stored t s.left s.right o b in
+      let u = free_from s.left t in
+      let last = check_op check place t s in
+      widened blocks t (Check check place e rest) rest exit loop b c (value_ops s.left None t ++ (value_ops s.right None u ++ last ∷ []))
+      (stored-blocks t s.left s.right o b) (stored-ops t s.left s.right o b)
+      (λ more end r. (
+        more,
+        append_assoc (value_ops s.left None t) (value_ops s.right None u ++ last ∷ []) more
+            ∙ ap (λ x. value_ops s.left None t ++ x) (append_assoc (value_ops s.right None u) (last ∷ []) more),
+        w.1,
+        r,
+      )) (opens rest looped false exit loop c w.2 p tt tt x l some)
   opens (Call target i es place rest) looped fresh exit loop b w p h k x l some =
       let last = op.Call target i (registers_of es t) place in
       let v = with_values es t b in

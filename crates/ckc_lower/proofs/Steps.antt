@@ -3,6 +3,7 @@ use Rattle.std.proofs.Common.{◌≡◌, inl, inr, ℕ, ◌+◌, ◌*◌, ◌≤
 use Rattle.std.specs.Prelude.{Bool, true, false, if◌then◌else◌, Option, Some, None, slice_get}
 use Rattle.ckc_base.specs.declared.places.Pos.{Pos}
 use Rattle.ckc_base.specs.declared.arithmetic.Width.{Width}
+use Rattle.ckc_base.specs.declared.runtime_checks.Check.{Check as CheckName}
 use Rattle.ckc_base.specs.declared.runtime_checks.Check.TheVariants.{Depth}
 use Rattle.ckc_base.specs.Traces.{Stopped, Ended}
 use Rattle.ckc_base.specs.LongEvents.{LongEvent, Entered, Returned}
@@ -28,13 +29,13 @@ use Rattle.ckc_tac.specs.Operations.{operation_of, value_in, compared}
 use Rattle.ckc_tac.specs.Meaning.{tac_step, tac_system, extra_of}
 use Rattle.ckc_tac.specs.Meaning as T
 use Rattle.ckc_lower.specs.declared.builder.Targets.{Targets}
-use Rattle.ckc_lower.specs.code.Built.{free_from, operand_of, registers_of, out_of, step_of, picked, test_of, branch_of}
+use Rattle.ckc_lower.specs.code.Built.{free_from, operand_of, registers_of, out_of, step_of, picked, test_of, checked_test, branch_of}
 use Rattle.ckc_lower.proofs.Values.{value_ops, free_more, operand_stays, written_like, result_like, Agree, at, computes}
 use Rattle.ckc_lower.proofs.Appending.{test_ops}
-use Rattle.ckc_lower.proofs.Conditions.{within, decides, flipped}
+use Rattle.ckc_lower.proofs.Conditions.{within, decides, flipped, checked_within, checked_agrees}
 use Rattle.ckc_lower.proofs.Arguments.{length-registers_of, values_ops, computes_all}
 use Rattle.ckc_lower.proofs.Falling.{MatchedBelow}
-use Rattle.ckc_lower.proofs.Relation.{IsThere, BeginsAt, Leaves, loop_of, Runs, RunsAt, LeadsTo, PassesTo, Stands, StandsAt, Continues, lead, pend, turns_of, SameFrame, SameCallers, SameState, left_of, SameFunctions}
+use Rattle.ckc_lower.proofs.Relation.{IsThere, BeginsAt, Leaves, check_op, loop_of, Runs, RunsAt, LeadsTo, PassesTo, Stands, StandsAt, Continues, lead, pend, turns_of, SameFrame, SameCallers, SameState, left_of, SameFunctions}
 
 same_count : (cs : List C.Caller) (ds : List T.Caller) → SameCallers cs ds → length cs ≡ length ds
 same_count [] [] h = refl
@@ -282,6 +283,37 @@ module _ (functions : List Function) (lowered : List TacFunc) (s : C.State) (blo
       by_outcome end (point end ops registers) (first.count + second.count) (4 * (nodes a + nodes e + 1)) code o r.0 second.after exit loop (stores s.world width p x)
       (subst (λ o. Stretch (tac_system lowered) (first.count + second.count) [] (point end o registers) v) (sym r.1) path)
       step refl (omega (arith, first.few, second.few)) r.4 c agree_second
+
+  by_check : (check : CheckName) (place : Pos) (e : Expr) (code : Code) (end : TacEnd) (ops : List TacOp) (registers : Values) (exit : Option ℕ) (loop : Option Targets) (v : Option ℕ)
+      → Runs blocks t (Check check place e code) ops end exit loop → Continues blocks t s.frame.rest exit loop → Agree t registers values
+      → value_of values s.world.memory e ≡ v
+      → Matches (point end ops registers) (4 * (nodes e + 1)) (C.goes_by s code (by_value v (checks s.world check place)))
+  unfolding tac_step
+  by_check check place e code end ops registers exit loop None r c agree h = inl refl
+  by_check check place e code end ops registers exit loop (Some w) r c agree h =
+      let q = checked_test e in
+      let u = free_from q.left t in
+      let few = checked_within e in
+      let over = few.over t r.2 in
+      let d = checked_agrees values s.world.memory e w h in
+      let i = operand_of q.left None t in
+      let j = operand_of q.right None u in
+      let o = check_op check place t q in
+      let first = computes lowered blocks end callers s.world t values q.left None t d.x (value_ops q.right None u ++ (o ∷ r.0)) registers (le_self t) over.0 agree d.left in
+      let agree_first : Agree t first.after values = λ y less. first.same y less ∙ agree y less in
+      let second = computes lowered blocks end callers s.world t values q.right None u d.y (o ∷ r.0) first.after (free_more q.left t) over.1 agree_first d.right in
+      let agree_second : Agree t second.after values = λ y less. second.same y (omega (arith, free_more q.left t)) ∙ agree_first y less in
+      let there : value_in second.after i ≡ Some d.x = operand_stays q.left t t first.after second.after (le_self t) over.0 second.same ∙ first.value in
+      let v = point end (o ∷ r.0) second.after in
+      let step : tac_step lowered v ≡ T.goes_by v r.0 (checks s.world check place w) =
+      ap (λ z. T.goes_by v r.0 (by_value (compared q.comparison z (value_in second.after j)) (checks s.world check place))) there
+      ∙ ap (λ z. T.goes_by v r.0 (by_value (compared q.comparison (Some d.x) z) (checks s.world check place))) second.value
+      ∙ ap (λ z. T.goes_by v r.0 (if z then Stops check place else Done [] s.world)) d.fails in
+      let path = then_stretch (tac_system lowered) first.count second.count [] [] (point end (value_ops q.left None t ++ (value_ops q.right None u ++ (o ∷ r.0))) registers)
+      (point end (value_ops q.right None u ++ (o ∷ r.0)) first.after) v first.path second.path in
+      by_outcome end (point end ops registers) (first.count + second.count) (4 * (nodes e + 1)) code o r.0 second.after exit loop (checks s.world check place w)
+      (subst (λ o. Stretch (tac_system lowered) (first.count + second.count) [] (point end o registers) v) (sym r.1) path)
+      step refl (omega (arith, first.few, second.few, few.nodes_few)) r.3 c agree_second
 
   by_get : (x : ℕ) (code : Code) (end : TacEnd) (ops : List TacOp) (registers : Values) (exit : Option ℕ) (loop : Option Targets)
       → Runs blocks t (Get x code) ops end exit loop → Continues blocks t s.frame.rest exit loop → Agree t registers values
@@ -563,9 +595,7 @@ module _ (functions : List Function) (lowered : List TacFunc) (s : C.State) (blo
     own_steps (Store width a e code) end ops registers exit loop r few c agree =
         by_store width a e code end ops registers exit loop (value_of values s.world.memory a) (value_of values s.world.memory e) r c agree refl refl
     own_steps (Check check place e code) end ops registers exit loop r few c agree =
-        by_use e (checks s.world check place) (op.Check check place) code end r.0 ops registers exit loop (value_of values s.world.memory e)
-        (λ q. refl) (λ q w after h. ap (λ z. T.goes_by (point end (op.Check check place q ∷ r.0) after) r.0 (by_value z (checks s.world check place))) h)
-        r.1 r.2 r.3 c agree refl
+        by_check check place e code end ops registers exit loop (value_of values s.world.memory e) r c agree refl
     own_steps (Call target i es place code) end ops registers exit loop r few c agree =
         by_call target i es place code end ops registers exit loop (values_of values s.world.memory es) r c agree refl
     own_steps (Get x code) end ops registers exit loop r few c agree = by_get x code end ops registers exit loop r c agree

@@ -2,7 +2,7 @@ ghost use Rattle.std.specs.Prelude.{◌≡◌, ◌+◌, ◌<◌, ◌≤◌, ◌^
 ghost use Rattle.ckc_core.specs.Code.{expr_of, code_of, Const};
 ghost use Rattle.ckc_core.specs.Limits.{depth, IsShallow, KeepsLimits};
 ghost use Rattle.ckc_tac.specs.declared.code.Comparison.TheVariants as comparison;
-ghost use Rattle.ckc_lower.specs.code.Built.{is_zero as is_zero_of, test, test_of, picked as picked_of, tested, registers_of, with_op, with_value, with_values, with_end, with_jump, left, out_of, step_of, stored, used, passes, goal as goal_of, forked, join_of, entered, step_at, targets_of, block_count, built};
+ghost use Rattle.ckc_lower.specs.code.Built.{is_zero as is_zero_of, test, test_of, picked as picked_of, tested, registers_of, with_op, with_value, with_values, with_end, with_jump, left, out_of, step_of, stored, used, compares, checked_test, passes, goal as goal_of, forked, join_of, entered, step_at, targets_of, block_count, built};
 
 use crate::builder::{Builder, Targets, free_after, operand, register_after};
 use ckc_base::{BinOp, Check, Pos, Seq, Width, sum};
@@ -157,14 +157,60 @@ impl Builder {
         self.op(TacOp::Store(width, operand(a, locals), operand(e, t)))
     }
 
-    fn check(&mut self, check: Check, at: Pos, e: &CoreExpr, locals: u32) -> Result<(), AllocError>
-        requires room { locals ≤ 2000 }
-        requires value { IsShallow (expr_of e.now) }
-        ensures { OnOk result
-            (self.new ≡ used locals (expr_of e.now) (TacOp.Check check at) self.old) }
+    /// Checks that a comparison of two expressions holds.
+    fn check_two(
+        &mut self,
+        check: Check,
+        at: Pos,
+        comparison: Comparison,
+        a: &CoreExpr,
+        b: &CoreExpr,
+        t: u32,
+    ) -> Result<(), AllocError>
+        requires left { t + depth (expr_of a.now) < 2 ^ 32 }
+        requires right { t + 1 + depth (expr_of b.now) < 2 ^ 32 }
+        ensures { OnOk result (self.new ≡
+            compares t (test comparison (expr_of a.now) (expr_of b.now) false)
+            (TacOp.Check check at) self.old) }
     {
-        self.value(e, None, locals)?;
-        self.op(TacOp::Check(check, at, operand(e, locals)))
+        let u = free_after(a, t);
+        self.value(a, None, t)?;
+        self.value(b, None, u)?;
+        let (p, q) = (operand(a, t), operand(b, u));
+        self.op(TacOp::Check(check, at, comparison, p, q))
+    }
+
+    /// Checks that an expression is not zero.
+    fn check_value(&mut self, check: Check, at: Pos, e: &CoreExpr, t: u32) -> Result<(), AllocError>
+        requires { t + depth (expr_of e.now) < 2 ^ 32 }
+        ensures { OnOk result (self.new ≡
+            compares t (test comparison.Ne (expr_of e.now) (Const 0) false)
+            (TacOp.Check check at) self.old) }
+    {
+        self.value(e, None, t)?;
+        let zero = Operand::Number(0);
+        self.op(TacOp::Check(check, at, Comparison::Ne, operand(e, t), zero))
+    }
+
+    /// Checks that an expression holds. If it is a comparison, its sides are compared.
+    fn check(&mut self, check: Check, at: Pos, e: &CoreExpr, t: u32) -> Result<(), AllocError>
+        requires { t + depth (expr_of e.now) < 2 ^ 32 }
+        ensures { OnOk result (self.new ≡
+            compares t (checked_test (expr_of e.now)) (TacOp.Check check at) self.old) }
+    {
+        match e {
+            CoreExpr::Bin(op, a, b) => {
+                let (a, b) = (a.get(), b.get());
+                match op {
+                    BinOp::LtS => self.check_two(check, at, Comparison::LtS, a, b, t),
+                    BinOp::LtU => self.check_two(check, at, Comparison::LtU, a, b, t),
+                    BinOp::Eq => self.check_two(check, at, Comparison::Eq, a, b, t),
+                    BinOp::Ne => self.check_two(check, at, Comparison::Ne, a, b, t),
+                    _ => self.check_value(check, at, e, t),
+                }
+            }
+            _ => self.check_value(check, at, e, t),
+        }
     }
 
     fn call(

@@ -1,5 +1,5 @@
 -- A map of files in memory as a finite map from names to bytes.
-use Rattle.std.proofs.Common.{◌≡◌, ℕ, Bool, true, false, cond, List, [], ◌∷◌, map, Option, Some, String, Vec, Ordering, refl, sym, ap, ◌∙◌}
+use Rattle.std.proofs.Common.{◌≡◌, ◌≢◌, ℕ, Bool, true, false, cond, List, [], ◌∷◌, map, Option, Some, None, take, String, Vec, Ordering, refl, sym, ap, ◌∙◌, inl, inr}
 use Rattle.std.specs.declared.alloc.Global.{Global}
 use Rattle.std.specs.Option.{option_map}
 use Rattle.std.specs.String.{string_bytes}
@@ -13,7 +13,9 @@ use Rattle.std.specs.FinMap as fin
 use Rattle.std.specs.FinMap.{find, get-from_entries, get-insert, same_map, slice_cmp-IsAntisymmetric, nat_cmp-IsAntisymmetric}
 use Rattle.std.proofs.lemmas.Cmp.{nat_list_cmp_total}
 use Rattle.std.proofs.lemmas.Map.Text.{is_eq-slice_cmp}
-use Rattle.ckc_outside.specs.MemStore.{named}
+use Rattle.std.proofs.lemmas.Slice.Eq.{bytes_eq-Decides}
+use Rattle.ckc_outside.specs.MemStore.{named, Torn}
+use Rattle.ckc_outside.specs.Outside.{Files}
 
 abbrev File : Type 0
 File = String Global × Vec ℕ Global
@@ -52,3 +54,27 @@ inserted m n name bytes v e h =
     ∙ ap (λ x. cond (eq_by_cmp order q name) (Some x) (option_map items_of (get_by_text m q))) e
     ∙ ap (cond (eq_by_cmp order q name) (Some bytes)) (sym (get_named m q))
     ∙ sym (get-insert nat_list_cmp_total (fin.from_entries (map named m.entries)) name bytes q))
+
+apart : (name q : List ℕ) → q ≢ name → (b : Bool) → bytes_eq name q ≡ b → b ≡ false
+apart name q differs true e = absurd (differs (sym ((bytes_eq-Decides name q).0 e)))
+apart name q differs false e = refl
+
+-- an insertion at one name leaves the other names
+pub others_stay : (files : Files) (name bytes q : List ℕ) → q ≢ name → fin.get (fin.insert files name bytes) q ≡ fin.get files q
+others_stay files name bytes q differs =
+    get-insert nat_list_cmp_total files name bytes q
+    ∙ ap (λ b. cond b (Some bytes) (fin.get files q)) (sym (same_test name q) ∙ apart name q differs _ refl)
+
+-- what a listed keep leaves differs at its name alone
+pub torn_others : (cut : Option ℕ) (files : Files) (name bytes : List ℕ) (after : Files) → Torn cut files name bytes after
+    → (q : List ℕ) → q ≢ name → fin.get after q ≡ fin.get files q
+torn_others None files name bytes after left q differs = ap (λ m. fin.get m q) left
+torn_others (Some cut) files name bytes after (inl left) q differs = ap (λ m. fin.get m q) left ∙ others_stay files name (take cut bytes) q differs
+torn_others (Some cut) files name bytes after (inr left) q differs = ap (λ m. fin.get m q) left
+
+-- the same files have the same under each name
+pub same_under : (files here : Files) → Some files ≡ Some here → (q : List ℕ) → fin.get files q ≡ fin.get here q
+same_under files here e q = ap (λ o. under o) e where
+  under : Option Files → Option (List ℕ)
+  under None = None
+  under (Some m) = fin.get m q

@@ -7,7 +7,7 @@ use Rattle.ckc_grammar.specs.Text.{DerivesText, DerivesTree, Viable, FaultAt, Is
 use Rattle.ckc_parser_grammar.specs.code.Values.{tree}
 use Rattle.ckc_parser_grammar.proofs.Same.{same_tree}
 use Rattle.ckc_parser_grammar.proofs.Theory.{same_read}
-use Rattle.ckc_parser.proofs.Top.{whole_taken}
+use Rattle.ckc_parser_trace.proofs.Top.{whole_taken}
 
 pub one_tree : (xs : List Spelled) (a b : Tree) → DerivesTree xs a → DerivesTree xs b → a ≡ b
 one_tree xs a b d e = let h = (same_read (whole_taken xs (tree a) ((same_tree xs a).0 d)) (tree b ∷ []) [] (whole_taken xs (tree b) ((same_tree xs b).0 e))).0 in cc

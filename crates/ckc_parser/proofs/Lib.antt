@@ -2,5 +2,4 @@ pub mod Answering
 pub mod Making
 pub mod Once
 pub mod Putting
-pub mod Top
 pub mod Turns

@@ -8,7 +8,8 @@ use Rattle.ckc_parser_grammar.specs.code.Fits.{number, fits}
 use Rattle.ckc_parser_grammar.specs.code.Kinds.{kind_of_token}
 use Rattle.ckc_parser_grammar.proofs.Sets.{begins, follows, empty}
 use Rattle.ckc_parser_grammar.proofs.EveryKind.{all_kinds, kind_at}
-use Rattle.ckc_parser_grammar.proofs.EveryRule.{all_rules, rule_number, rule_at}
+use Rattle.ckc_parser_grammar.proofs.EveryRule.{rule_number, rule_at}
+use Rattle.ckc_parser_grammar.specs.code.Trace.{all_rules}
 use Rattle.ckc_parser_grammar.proofs.EveryPart.{all_parts, part_number, part_at}
 use Rattle.std.proofs.lemmas.Bool.Decides.{nat_tests}
 use Rattle.ckc_parser_grammar.proofs.Spellings.{spelled, sample_kind}

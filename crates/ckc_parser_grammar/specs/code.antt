@@ -8,5 +8,6 @@ pub mod Marked
 pub mod Reading
 pub mod Signs
 pub mod Text
+pub mod Trace
 pub mod Trees
 pub mod Values

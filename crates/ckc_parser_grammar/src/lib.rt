@@ -8,6 +8,7 @@ mod make;
 mod operators;
 mod parts;
 mod reader;
+mod trace;
 
 pub use ckc_grammar::Step;
 pub use join::whole;
@@ -21,3 +22,4 @@ pub use operators::{
 };
 pub use parts::{Arms, Bounds, CType, Declaration, Expression, Operation, Rest, Statement, Stop};
 pub use reader::{Class, Reader, SYNTAX_ERROR, is_name, token_kind};
+pub use trace::TOKEN;

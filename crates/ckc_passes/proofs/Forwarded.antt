@@ -73,9 +73,9 @@ module _ (x : Values) where
       by_value (GivesTarget x (Store width a b)) tt (value_in x a) _ (λ p e.
       by_value (GivesTarget x (Store width a b)) tt (value_in x b) _ (λ v g.
       gives_store (Store width a b) world _ (memory_with width world.memory p v) refl))
-  gives_target world (Check check at a) =
-      by_value (GivesTarget x (Check check at a)) tt (value_in x a) _ (λ v e.
-      by_if (GivesTarget x (Check check at a)) (v == 0) (Stops check at) (Done [] world) tt refl)
+  gives_target world (Check check at comparison a b) =
+      by_value (GivesTarget x (Check check at comparison a b)) tt (compared comparison (value_in x a) (value_in x b)) _ (λ v e.
+      by_if (GivesTarget x (Check check at comparison a b)) (v == 0) (Stops check at) (Done [] world) tt refl)
   gives_target world (Call target callee arguments at) = tt
   gives_target world (Get t) = gives_get world.memory t world.input
   gives_target world (Put a) = by_value (GivesTarget x (Put a)) tt (value_in x a) _ (λ v e. refl)

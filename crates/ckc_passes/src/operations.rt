@@ -17,7 +17,7 @@ pub fn copy_of(alloc: Global, op: &TacOp) -> Result<TacOp, AllocError>
         TacOp::High(signed, t, a, b) => Ok(TacOp::High(*signed, *t, *a, *b)),
         TacOp::Load(width, t, a) => Ok(TacOp::Load(*width, *t, *a)),
         TacOp::Store(width, a, b) => Ok(TacOp::Store(*width, *a, *b)),
-        TacOp::Check(check, at, a) => Ok(TacOp::Check(*check, *at, *a)),
+        TacOp::Check(check, at, c, a, b) => Ok(TacOp::Check(*check, *at, *c, *a, *b)),
         TacOp::Call(t, callee, args, at) => {
             let args = Seq::from_slice(alloc, args.as_slice())?;
             Ok(TacOp::Call(*t, *callee, args, *at))
@@ -39,7 +39,7 @@ pub fn target(op: &TacOp) -> Option<u32>
         TacOp::High(_, t, _, _) => Some(*t),
         TacOp::Load(_, t, _) => Some(*t),
         TacOp::Store(_, _, _) => None,
-        TacOp::Check(_, _, _) => None,
+        TacOp::Check(_, _, _, _, _) => None,
         TacOp::Call(t, _, _, _) => *t,
         TacOp::Get(t) => Some(*t),
         TacOp::Put(_) => None,

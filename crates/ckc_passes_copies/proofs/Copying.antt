@@ -156,6 +156,12 @@ module _ (before : List TacOp) (x : Values) (traces : Traces before x) where
       ap (λ o. with_value (value_in x (operand_origin w a)) (λ v. with_value o (f v))) (operand_same b)
       ∙ ap (λ o. with_value o (λ v. with_value (value_in x b) (f v))) (operand_same a)
 
+  compared_same : (comparison : Comparison) (a b : Operand)
+      → compared comparison (value_in x (operand_origin w a)) (value_in x (operand_origin w b)) ≡ compared comparison (value_in x a) (value_in x b)
+  compared_same comparison a b =
+      ap (λ o. compared comparison o (value_in x (operand_origin w b))) (operand_same a)
+      ∙ ap (compared comparison (value_in x a)) (operand_same b)
+
   copied_same : (op : TacOp) → DoesSame x op (copied_op w op)
   copied_same (Const t n) = λ world. inr refl
   copied_same (Copy t a) = λ world. inr (ap (λ o. with_value o (λ v. Gives [] t v world)) (origin_same a))
@@ -164,7 +170,7 @@ module _ (before : List TacOp) (x : Values) (traces : Traces before x) where
   copied_same (Load width t a) = λ world.
       inr (ap (λ o. with_value o (λ p. with_value (value_at width world.memory p) (λ v. Gives [] t v world))) (operand_same a))
   copied_same (Store width a b) = λ world. inr (two_same (λ p. stores world width p) a b)
-  copied_same (Check check at a) = λ world. inr (ap (λ o. with_value o (checks world check at)) (operand_same a))
+  copied_same (Check check at comparison a b) = λ world. inr (ap (λ o. with_value o (checks world check at)) (compared_same comparison a b))
   copied_same (Call target callee arguments at) = record {
     others = map (origin w) arguments;
     is = refl;
@@ -174,12 +180,6 @@ module _ (before : List TacOp) (x : Values) (traces : Traces before x) where
   copied_same (Get t) = λ world. inr refl
   copied_same (Put a) = λ world. inr (ap (λ o. with_value o (puts world)) (operand_same a))
   copied_same (Alloc t a size) = λ world. inr (ap (λ o. with_value o (λ n. allocates world t n size)) (operand_same a))
-
-  compared_same : (comparison : Comparison) (a b : Operand)
-      → compared comparison (value_in x (operand_origin w a)) (value_in x (operand_origin w b)) ≡ compared comparison (value_in x a) (value_in x b)
-  compared_same comparison a b =
-      ap (λ o. compared comparison o (value_in x (operand_origin w b))) (operand_same a)
-      ∙ ap (compared comparison (value_in x a)) (operand_same b)
 
   end_same : (end : TacEnd) → EndsBeside x x end (copied_end w end)
   end_same (Jump to) = refl
@@ -216,6 +216,7 @@ operand_fits w (Number n) = omega arith
 
 copied_fits : (w : Writes) (op : TacOp) → op_size (copied_op w op) ≤ op_size op
 copied_fits w (Call target callee arguments at) = let e = length-map arguments (origin w) in omega (arith, e)
+copied_fits w (Check check at comparison a b) = let h = operand_fits w a in let k = operand_fits w b in omega (arith, h, k)
 copied_fits w op = omega arith
 
 end_fits : (w : Writes) (end : TacEnd) → end_size (copied_end w end) ≤ end_size end
@@ -267,7 +268,7 @@ module _ (functions : List TacFunc) (regs : ℕ) where
     op_over (High is_signed t a b) h = (h.0, operand_over a h.1, operand_over b h.2)
     op_over (Load width t a) h = (h.0, operand_over a h.1)
     op_over (Store width a b) h = (operand_over a h.0, operand_over b h.1)
-    op_over (Check check at a) h = (h.0, operand_over a h.1)
+    op_over (Check check at comparison a b) h = (h.0, operand_over a h.1, operand_over b h.2)
     op_over (Call target callee arguments at) h = (
       h.0,
       subst (λ (n : ℕ). HasParams n (slice_get functions callee)) (sym (length-map arguments (origin v))) h.1,

@@ -76,7 +76,10 @@ fn made_op(alloc: Global, op: &TacOp, table: &[Last]) -> Result<TacOp, AllocErro
         TacOp::Store(width, a, b) => {
             Ok(TacOp::Store(*width, operand(*a, table), operand(*b, table)))
         }
-        TacOp::Check(check, at, a) => Ok(TacOp::Check(*check, *at, operand(*a, table))),
+        TacOp::Check(check, at, c, a, b) => {
+            let (a, b) = (operand(*a, table), operand(*b, table));
+            Ok(TacOp::Check(*check, *at, *c, a, b))
+        }
         TacOp::Call(t, callee, args, at) => {
             let args = origins(alloc, args.as_slice(), table)?;
             Ok(TacOp::Call(*t, *callee, Seq::from_vec(args), *at))

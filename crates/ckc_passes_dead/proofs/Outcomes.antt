@@ -5,7 +5,7 @@ use Rattle.std.specs.List.{list_any}
 use Rattle.std.specs.Option.{option_map}
 use Rattle.std.proofs.lemmas.Bool.{or_left, or_right}
 use Rattle.std.proofs.lemmas.Bool.Decides.{nat_tests}
-use Rattle.ckc_base.specs.Actions.{World, Outcome, Gives, with_value}
+use Rattle.ckc_base.specs.Actions.{World, Outcome, Gives, with_value, checks}
 use Rattle.ckc_base.specs.Activations.{Values}
 use Rattle.ckc_tac.specs.declared.code.Comparison.{Comparison}
 use Rattle.ckc_tac.specs.declared.code.Operand.{Operand}
@@ -63,7 +63,7 @@ module _ (x y : Values) where
   outcome_same world (High is_signed t a b) h = two_same a b h _
   outcome_same world (Load width t a) h = one_same a _ h
   outcome_same world (Store width a b) h = two_same a b h _
-  outcome_same world (Check check at a) h = one_same a _ h
+  outcome_same world (Check check at comparison a b) h = ap (λ o. with_value o (checks world check at)) (compared_same a b h comparison)
   outcome_same world (Call target callee arguments at) h = refl
   outcome_same world (Get t) h = refl
   outcome_same world (Put a) h = one_same a _ h

@@ -126,7 +126,7 @@ fn plain_target(op: &TacOp) -> Option<u32>
         TacOp::High(_, t, _, _) => Some(*t),
         TacOp::Load(_, _, _) => None,
         TacOp::Store(_, _, _) => None,
-        TacOp::Check(_, _, _) => None,
+        TacOp::Check(_, _, _, _, _) => None,
         TacOp::Call(_, _, _, _) => None,
         TacOp::Get(_) => None,
         TacOp::Put(_) => None,

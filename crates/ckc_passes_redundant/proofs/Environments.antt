@@ -6,14 +6,15 @@ use Rattle.ckc_base.specs.declared.runtime_checks.Check.{Check as CheckKind}
 use Rattle.ckc_base.specs.Words.{applied}
 use Rattle.ckc_base.specs.Products.{high_product}
 use Rattle.ckc_base.specs.Activations.{Values, with_written}
+use Rattle.ckc_tac.specs.declared.code.Comparison.{Comparison}
 use Rattle.ckc_tac.specs.declared.code.Operand.{Operand}
 use Rattle.ckc_tac.specs.declared.code.Operand.TheVariants.{Register, Number}
 use Rattle.ckc_tac.specs.declared.code.TacOp.{TacOp}
 use Rattle.ckc_tac.specs.declared.code.TacOp.TheVariants.{Const, Copy, Bin, High, Load, Store, Check, Call, Get, Put, Alloc}
-use Rattle.ckc_tac.specs.Operations.{value_in}
+use Rattle.ckc_tac.specs.Operations.{value_in, operation_of, compared}
 use Rattle.ckc_flow.specs.Live.{target_of}
 use Rattle.ckc_passes.specs.Values.{Term, Entry, Known, Combined, Upper, New, number_in, computed, known_or, term_of, combined, upper, given, is_target, value_after, operand_after}
-use Rattle.ckc_passes_redundant.specs.Redundant.{Looks, HasLooked}
+use Rattle.ckc_passes_redundant.specs.Redundant.{Looks, HasLooked, compared_after}
 
 -- the values of registers at the beginning of a block, and what its operations have given, by their places
 pub record Environment : Type 0 where
@@ -92,7 +93,7 @@ old_given n values h (High is_signed t a b) =
     older n (upper is_signed (term_of values a) (term_of values b)) s
 old_given n values h (Load width t a) = omega arith
 old_given n values h (Store width a b) = omega arith
-old_given n values h (Check check at a) = omega arith
+old_given n values h (Check check at comparison a b) = omega arith
 old_given n values h (Call target callee arguments at) = omega arith
 old_given n values h (Get t) = omega arith
 old_given n values h (Put a) = omega arith
@@ -105,7 +106,12 @@ old_after (op ∷ done) r =
     (old_given (length done) (value_after done) (old_after done) op) (older (length done) (value_after done r) (old_after done r))
 
 old_looks : (done : List TacOp) (op : TacOp) (kind : CheckKind) (value : Term) → Looks done op kind value → IsOld (length done) value
-old_looks done (Check check at a) kind value h = subst (IsOld (length done)) h.1 (old_operand (length done) (value_after done) (old_after done) a)
+old_looks done (Check check at comparison a b) kind value h =
+    let s : IsOld (length done) (compared_after done comparison a b) =
+    old_known (length done) (computed (applied (operation_of comparison)) (number_in (operand_after done a)) (number_in (operand_after done b)))
+    (Combined (operation_of comparison) (operand_after done a) (operand_after done b))
+    (old_operand (length done) (value_after done) (old_after done) a, old_operand (length done) (value_after done) (old_after done) b) in
+    subst (IsOld (length done)) h.1 s
 old_looks done (Const t n) kind value h = absurd h
 old_looks done (Copy t a) kind value h = absurd h
 old_looks done (Bin op t a b) kind value h = absurd h
@@ -222,3 +228,16 @@ module _ (done : List TacOp) (op : TacOp) (x : Values) where
 pub operand_worth : (done : List TacOp) (x : Values) (h : Holds done x) (a : Operand) → value_in x a ≡ worth h.environment (operand_after done a)
 operand_worth done x h (Register r) = h.registers r
 operand_worth done x h (Number n) = refl
+
+compared_is : (comparison : Comparison) (o p : Option ℕ) → compared comparison o p ≡ computed (applied (operation_of comparison)) o p
+compared_is comparison (Some v) (Some w) = refl
+compared_is comparison (Some v) None = refl
+compared_is comparison None p = refl
+
+-- what a comparison of operands comes to is what its term is worth
+pub compared_worth : (done : List TacOp) (x : Values) (h : Holds done x) (comparison : Comparison) (a b : Operand)
+    → compared comparison (value_in x a) (value_in x b) ≡ worth h.environment (compared_after done comparison a b)
+compared_worth done x h comparison a b =
+    compared_is comparison (value_in x a) (value_in x b)
+    ∙ (λ i. computed (applied (operation_of comparison)) (operand_worth done x h a i) (operand_worth done x h b i))
+    ∙ sym (combined_worth h.environment (operation_of comparison) (operand_after done a) (operand_after done b))

@@ -7,11 +7,12 @@ use Rattle.ckc_base.specs.Products.{high_product}
 use Rattle.ckc_base.specs.Actions.{World, Outcome, Gives, Done, Stops, Lost, with_value, checks}
 use Rattle.ckc_base.specs.Activations.{Values, with_written, with_result}
 use Rattle.ckc_tac.specs.declared.code.TacBlock.{TacBlock}
+use Rattle.ckc_tac.specs.declared.code.Comparison.{Comparison}
 use Rattle.ckc_tac.specs.declared.code.Operand.{Operand}
 use Rattle.ckc_tac.specs.declared.code.TacOp.{TacOp}
 use Rattle.ckc_tac.specs.declared.code.TacOp.TheVariants.{Const, Copy, Bin, High, Load, Store, Check, Call, Get, Put, Alloc}
 use Rattle.ckc_tac.specs.declared.code.TacEnd.{TacEnd}
-use Rattle.ckc_tac.specs.Operations.{outcome_of, value_in, values_in}
+use Rattle.ckc_tac.specs.Operations.{outcome_of, value_in, values_in, compared}
 use Rattle.ckc_tac.specs.WellFormed.{IsOpOver, IsEndOver}
 use Rattle.ckc_tac.specs.Sizes.{op_size, end_size}
 use Rattle.ckc_flow.specs.Live.{target_of}
@@ -19,8 +20,8 @@ use Rattle.ckc_passes.specs.Values.{Term, computed, operand_after}
 use Rattle.ckc_passes.specs.code.Faithful.{Acts, StandsFor, Vanishes, IsIdle, EndsBeside, IsFaithful, IsThrifty}
 use Rattle.ckc_passes.specs.code.Forward.{IsGiven, GivesTarget, SameAnd}
 use Rattle.ckc_passes.proofs.Forwarded.{gives_target, some_same, if_all, ends_itself}
-use Rattle.ckc_passes_redundant.specs.Redundant.{Looks, HasLooked, Repeats, redundant_pass}
-use Rattle.ckc_passes_redundant.proofs.Environments.{IsSet, Holds, holds_at_first, holds_written, holds_new, holds_idle, operand_worth, combined_worth, upper_worth}
+use Rattle.ckc_passes_redundant.specs.Redundant.{Looks, HasLooked, Repeats, compared_after, redundant_pass}
+use Rattle.ckc_passes_redundant.proofs.Environments.{IsSet, Holds, holds_at_first, holds_written, holds_new, holds_idle, operand_worth, compared_worth, combined_worth, upper_worth}
 
 -- what an operation gives its target is what its term is worth
 holds_given : (done : List TacOp) (op : TacOp) (x : Values) (t v : ℕ) → target_of op ≡ Some t → IsGiven x op v → Holds done x → Holds (op ∷ done) (with_written x t v)
@@ -36,20 +37,21 @@ holds_given done (High is_signed s a b) x t v target is h =
     ∙ (λ i. computed (high_product is_signed) (sym (operand_worth done x h a) i) (sym (operand_worth done x h b) i)) ∙ is)
 holds_given done (Load width s a) x t v target is h = holds_new done (Load width s a) x (λ kind value l. l) h t v target refl
 holds_given done (Store width a b) x t v target is h = absurd cc
-holds_given done (Check check at a) x t v target is h = absurd cc
+holds_given done (Check check at comparison a b) x t v target is h = absurd cc
 holds_given done (Call target callee arguments at) x t v to is h = holds_new done (Call target callee arguments at) x (λ kind value l. l) h t v to refl
 holds_given done (Get s) x t v target is h = holds_new done (Get s) x (λ kind value l. l) h t v target refl
 holds_given done (Put a) x t v target is h = absurd cc
 holds_given done (Alloc s a size) x t v target is h = holds_new done (Alloc s a size) x (λ kind value l. l) h t v target refl
 
 -- a check is passed
-holds_passed : (done : List TacOp) (check : CheckKind) (at : Pos) (a : Operand) (x : Values) (n : ℕ) → value_in x a ≡ Some n → (n == 0) ≡ false
-    → Holds done x → Holds (Check check at a ∷ done) x
-holds_passed done check at a x n is set h = record {
+holds_passed : (done : List TacOp) (check : CheckKind) (at : Pos) (comparison : Comparison) (a b : Operand) (x : Values) (n : ℕ)
+    → compared comparison (value_in x a) (value_in x b) ≡ Some n → (n == 0) ≡ false
+    → Holds done x → Holds (Check check at comparison a b ∷ done) x
+holds_passed done check at comparison a b x n is set h = record {
   environment = h.environment;
   registers = h.registers;
   looked = λ kind value l. elim l [
-    | inl here ↦ subst (IsSet h.environment) here.1 (n, sym (operand_worth done x h a) ∙ is, set)
+    | inl here ↦ subst (IsSet h.environment) here.1 (n, sym (compared_worth done x h comparison a b) ∙ is, set)
     | inr before ↦ h.looked kind value before
   ];
 }
@@ -70,15 +72,19 @@ module _ (blocks : List TacBlock) (done ops : List TacOp) (end : TacEnd) (x : Va
       → Acts (After op) x x (outcome_of x world op) (outcome_of x world op)
   quiet_acts op quiet world = acts op quiet (outcome_of x world op) (gives_target x world op)
 
-  check_tested : (check : CheckKind) (at : Pos) (a : Operand) (world : World) (n : ℕ) (b : Bool) → value_in x a ≡ Some n → (n == 0) ≡ b
-      → Acts (After (Check check at a)) x x (if b then Stops check at else Done [] world) (if b then Stops check at else Done [] world)
-  check_tested check at a world n true is e = refl
-  check_tested check at a world n false is e = (refl, (refl, holds_passed done check at a x n is e h))
+  module _ (check : CheckKind) (at : Pos) (comparison : Comparison) (a b : Operand) where
+    abbrev AfterCheck : Values → Values → Type 0
+    AfterCheck = After (Check check at comparison a b)
 
-  check_acts : (check : CheckKind) (at : Pos) (a : Operand) (world : World) (o : Option ℕ) → value_in x a ≡ o
-      → Acts (After (Check check at a)) x x (with_value o (checks world check at)) (with_value o (checks world check at))
-  check_acts check at a world (Some n) is = check_tested check at a world n (n == 0) is refl
-  check_acts check at a world None is = tt
+    check_tested : (world : World) (n : ℕ) (is_zero : Bool) → compared comparison (value_in x a) (value_in x b) ≡ Some n → (n == 0) ≡ is_zero
+        → Acts AfterCheck x x (if is_zero then Stops check at else Done [] world) (if is_zero then Stops check at else Done [] world)
+    check_tested world n true is e = refl
+    check_tested world n false is e = (refl, (refl, holds_passed done check at comparison a b x n is e h))
+
+    check_acts : (world : World) (o : Option ℕ) → compared comparison (value_in x a) (value_in x b) ≡ o
+        → Acts AfterCheck x x (with_value o (checks world check at)) (with_value o (checks world check at))
+    check_acts world (Some n) is = check_tested world n (n == 0) is refl
+    check_acts world None is = tt
 
   returned : (target : Option ℕ) (callee : ℕ) (arguments : List ℕ) (at : Pos) (value : ℕ)
       → After (Call target callee arguments at) (with_result x target value) (with_result x target value)
@@ -92,7 +98,7 @@ module _ (blocks : List TacBlock) (done ops : List TacOp) (end : TacEnd) (x : Va
   stands (High is_signed t a b) = quiet_acts (High is_signed t a b) (λ kind value l. l)
   stands (Load width t a) = quiet_acts (Load width t a) (λ kind value l. l)
   stands (Store width a b) = quiet_acts (Store width a b) (λ kind value l. l)
-  stands (Check check at a) = λ world. check_acts check at a world (value_in x a) refl
+  stands (Check check at comparison a b) = λ world. check_acts check at comparison a b world (compared comparison (value_in x a) (value_in x b)) refl
   stands (Call target callee arguments at) = record {
     others = arguments;
     is = refl;
@@ -107,17 +113,18 @@ module _ (blocks : List TacBlock) (done ops : List TacOp) (end : TacEnd) (x : Va
 
   -- ---- a dropped one
 
-  vanishes : (check : CheckKind) (at : Pos) (a : Operand) (y : Values) → y ≡ x → HasLooked done check (operand_after done a) → (world : World)
-      → Vanishes (After (Check check at a)) x y world (with_value (value_in x a) (checks world check at))
-  vanishes check at a y same has world =
-      let s = h.looked check (operand_after done a) has in
-      let is : value_in x a ≡ Some s.0 = operand_worth done x h a ∙ s.1 in
-      subst (λ (o : Option ℕ). Vanishes (After (Check check at a)) x y world (with_value o (checks world check at))) (sym is)
-      (subst (λ (b : Bool). Vanishes (After (Check check at a)) x y world (if b then Stops check at else Done [] world)) (sym s.2)
-      (refl, refl, (same, holds_passed done check at a x s.0 is s.2 h)))
+  vanishes : (check : CheckKind) (at : Pos) (comparison : Comparison) (a b : Operand) (y : Values) → y ≡ x → HasLooked done check (compared_after done comparison a b)
+      → (world : World)
+      → Vanishes (AfterCheck check at comparison a b) x y world (with_value (compared comparison (value_in x a) (value_in x b)) (checks world check at))
+  vanishes check at comparison a b y same has world =
+      let s = h.looked check (compared_after done comparison a b) has in
+      let is : compared comparison (value_in x a) (value_in x b) ≡ Some s.0 = compared_worth done x h comparison a b ∙ s.1 in
+      subst (λ (o : Option ℕ). Vanishes (AfterCheck check at comparison a b) x y world (with_value o (checks world check at))) (sym is)
+      (subst (λ (z : Bool). Vanishes (AfterCheck check at comparison a b) x y world (if z then Stops check at else Done [] world)) (sym s.2)
+      (refl, refl, (same, holds_passed done check at comparison a b x s.0 is s.2 h)))
 
   idle : (op : TacOp) (y : Values) → y ≡ x → Repeats done op → IsIdle (After op) x y op
-  idle (Check check at a) y same r = vanishes check at a y same r
+  idle (Check check at comparison a b) y same r = vanishes check at comparison a b y same r
   idle (Const t n) y same r = absurd r
   idle (Copy t a) y same r = absurd r
   idle (Bin op t a b) y same r = absurd r

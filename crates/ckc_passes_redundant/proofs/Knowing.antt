@@ -5,21 +5,24 @@ use Rattle.std.specs.List.{slice_get}
 use Rattle.std.specs.Bool.{MatchBool}
 use Rattle.ckc_base.specs.declared.places.Pos.{Pos}
 use Rattle.ckc_base.specs.declared.runtime_checks.Check.{Check as CheckKind}
+use Rattle.ckc_tac.specs.declared.code.Comparison.{Comparison}
 use Rattle.ckc_tac.specs.declared.code.Operand.{Operand}
 use Rattle.ckc_tac.specs.declared.code.Operand.TheVariants.{Register, Number}
 use Rattle.ckc_tac.specs.declared.code.TacOp.{TacOp}
 use Rattle.ckc_tac.specs.declared.code.TacOp.TheVariants.{Check}
+use Rattle.ckc_tac.specs.Operations.{operation_of}
 use Rattle.ckc_flow.specs.Live.{target_of}
 use Rattle.ckc_passes.specs.Values.{Term, Entry, given, is_target, value_after, operand_after}
 use Rattle.ckc_passes_redundant.specs.declared.operations.Operation.{Operation}
+use Rattle.ckc_passes_redundant.specs.declared.operations.Operation.TheVariants.{Whole}
 use Rattle.ckc_passes_redundant.specs.declared.table.Value.{Value}
 use Rattle.ckc_passes_redundant.specs.declared.table.Value.TheVariants.{AtEntry}
 use Rattle.ckc_passes_redundant.specs.declared.table.Work.{Work}
 use Rattle.ckc_passes_redundant.specs.declared.table.Look.{Look}
 use Rattle.ckc_passes_redundant.specs.declared.table.Table.{Table}
-use Rattle.ckc_passes_redundant.specs.Redundant.{Looks, HasLooked}
+use Rattle.ckc_passes_redundant.specs.Redundant.{Looks, HasLooked, compared_after}
 use Rattle.ckc_passes_redundant.specs.code.Operations.{value_by}
-use Rattle.ckc_passes_redundant.specs.code.Tables.{Means, at_entry, word, AreDistinct, look_of, HasBeen, IsNoted, Knows, held_in, operand_in, KnowsAfter, Writes, Combines, Notes, Takes}
+use Rattle.ckc_passes_redundant.specs.code.Tables.{Means, at_entry, word, AreDistinct, look_of, HasBeen, IsNoted, Knows, held_in, operand_in, KnowsAfter, Writes, Combines, Notes, Asks, Takes}
 use Rattle.ckc_passes_redundant.proofs.Numbering.{same_check}
 use Rattle.ckc_passes_redundant.proofs.Meanings.{same_term, same_value}
 
@@ -94,6 +97,20 @@ known_as done held held' works works' looks same e k = record {
   noted = λ kind value h. subst (λ (w : List Work). IsNoted w looks kind value) (sym e) (k.noted kind value h);
 }
 
+-- what is known stays so with more ways to compute values
+pub known_more : (done : List TacOp) (held held' : ℕ → Value) (works more : List Work) (looks looks' : List Look) → ((r : ℕ) → held' r ≡ held r)
+    → ((v : Value) (x : Term) → Means works v x → Means more v x) → AreDistinct more → looks' ≡ looks → Knows done held works looks → Knows done held' more looks'
+known_more done held held' works more looks looks' same kept distinct e k = record {
+  means = λ r. subst (λ v. Means more v (value_after done r)) (sym (same r)) (kept (held r) (value_after done r) (k.means r));
+  distinct = distinct;
+  looked = λ look c.
+      let (kind, value, is, of, has) = k.looked look (subst (λ (l : List Look). Contains l look) e c) in
+      (kind, value, is, kept look.value value of, has);
+  noted = λ kind value h.
+      let (v, of, c) = k.noted kind value h in
+      (v, kept v value of, subst (λ (l : List Look). Contains l (look_of kind v)) (sym e) c);
+}
+
 module _ (done : List TacOp) (old new : Table) (k : KnowsAfter done old) where
   -- the value of an operand
   pub operand_means : (a : Operand) → Means old.works.keys (operand_in old a) (operand_after done a)
@@ -118,49 +135,60 @@ module _ (done : List TacOp) (old new : Table) (k : KnowsAfter done old) where
 
   -- ---- a check
 
-  module _ (check : CheckKind) (at : Pos) (a : Operand) (was_noted : Bool) (n : Notes (look_of check (operand_in old a)) old new was_noted) where
+  module _ (check : CheckKind) (at : Pos) (comparison : Comparison) (a b : Operand) (v : Value) (means : Means old.works.keys v (compared_after done comparison a b))
+      (was_noted : Bool) (n : Notes (look_of check v) old new was_noted) where
     abbrev value : Term
-    value = operand_after done a
+    value = compared_after done comparison a b
 
-    looked_more : (look : Look) → Contains new.looks.keys look → HasBeen (Check check at a ∷ done) old.works.keys look
+    looked_more : (look : Look) → Contains new.looks.keys look → HasBeen (Check check at comparison a b ∷ done) old.works.keys look
     looked_more look c = elim (n.only look c) [
-      | inl before ↦ (let (kind, v, is, means, has) = k.looked look before in (kind, v, is, means, inr has))
+      | inl before ↦ (let (kind, x, is, of, has) = k.looked look before in (kind, x, is, of, inr has))
       | inr same ↦ (
         check,
         value,
         ap (λ (l : Look). l.check) same,
-        subst (λ u. Means old.works.keys u value) (sym (ap (λ (l : Look). l.value) same)) (operand_means a),
+        subst (λ u. Means old.works.keys u value) (sym (ap (λ (l : Look). l.value) same)) means,
         inl (refl, refl),
       )
     ]
 
-    noted_more : (kind : CheckKind) (v : Term) → HasLooked (Check check at a ∷ done) kind v → IsNoted old.works.keys new.looks.keys kind v
-    noted_more kind v (inl l) = (
-      operand_in old a,
-      subst (λ x. Means old.works.keys (operand_in old a) x) l.1 (operand_means a),
-      subst (λ c. Contains new.looks.keys (look_of c (operand_in old a))) l.0 n.noted,
+    noted_more : (kind : CheckKind) (x : Term) → HasLooked (Check check at comparison a b ∷ done) kind x → IsNoted old.works.keys new.looks.keys kind x
+    noted_more kind x (inl l) = (
+      v,
+      subst (λ y. Means old.works.keys v y) l.1 means,
+      subst (λ c. Contains new.looks.keys (look_of c v)) l.0 n.noted,
     )
-    noted_more kind v (inr h) = let (u, means, c) = k.noted kind v h in (u, means, n.kept (look_of kind u) c)
+    noted_more kind x (inr h) = let (u, of, c) = k.noted kind x h in (u, of, n.kept (look_of kind u) c)
 
-    pub known_looked : KnowsAfter (Check check at a ∷ done) new
-    known_looked = known_as (Check check at a ∷ done) (held_in old) (held_in new) old.works.keys new.works.keys new.looks.keys n.held n.works
+    known_looked : KnowsAfter (Check check at comparison a b ∷ done) new
+    known_looked = known_as (Check check at comparison a b ∷ done) (held_in old) (held_in new) old.works.keys new.works.keys new.looks.keys n.held n.works
         (record { means = k.means; distinct = k.distinct; looked = looked_more; noted = noted_more })
 
-    repeated : Contains old.looks.keys (look_of check (operand_in old a)) → HasLooked done check value
+    repeated : Contains old.looks.keys (look_of check v) → HasLooked done check value
     repeated c =
-        let (kind, v, is, means, has) = k.looked (look_of check (operand_in old a)) c in
+        let (kind, x, is, of, has) = k.looked (look_of check v) c in
         subst (λ (q : CheckKind). HasLooked done q value) (sym (same_check check kind is))
-        (subst (λ x. HasLooked done kind x) (same_term means (operand_means a)) has)
+        (subst (λ y. HasLooked done kind y) (same_term of means) has)
 
-    first : (Contains old.looks.keys (look_of check (operand_in old a)) → ⊥) → HasLooked done check value → ⊥
+    first : (Contains old.looks.keys (look_of check v) → ⊥) → HasLooked done check value → ⊥
     first none h =
-        let (v, means, c) = k.noted check value h in
-        none (subst (λ u. Contains old.looks.keys (look_of check u)) (same_value k.distinct means (operand_means a)) c)
+        let (u, of, c) = k.noted check value h in
+        none (subst (λ w. Contains old.looks.keys (look_of check w)) (same_value k.distinct of means) c)
 
-    by_answer : (b : Bool) → MatchBool b (Contains old.looks.keys (look_of check (operand_in old a))) (Contains old.looks.keys (look_of check (operand_in old a)) → ⊥)
-        → MatchBool b (HasLooked done check value) (HasLooked done check value → ⊥)
+    by_answer : (c : Bool) → MatchBool c (Contains old.looks.keys (look_of check v)) (Contains old.looks.keys (look_of check v) → ⊥)
+        → MatchBool c (HasLooked done check value) (HasLooked done check value → ⊥)
     by_answer true c = repeated c
     by_answer false c = first c
 
-    pub check_taken : Takes done (Check check at a) new was_noted
+    pub check_taken : Takes done (Check check at comparison a b) new was_noted
     check_taken = (known_looked, by_answer was_noted n.found)
+
+-- a check, after its comparison is computed
+pub check_asked : (done : List TacOp) (old new : Table) → KnowsAfter done old → (check : CheckKind) (at : Pos) (comparison : Comparison) (a b : Operand) (was_noted : Bool)
+    → Asks check (Whole (operation_of comparison)) a b old new was_noted → Takes done (Check check at comparison a b) new was_noted
+check_asked done old new k check at comparison a b was_noted q =
+    let c = q.computes in
+    check_taken done q.between new
+    (known_more done (held_in old) (held_in q.between) old.works.keys q.between.works.keys old.looks.keys q.between.looks.keys c.held c.kept (c.distinct k.distinct) c.looks k)
+    check at comparison a b q.value
+    (c.means (operand_after done a) (operand_after done b) (operand_means done old old k a) (operand_means done old old k b)) was_noted q.notes

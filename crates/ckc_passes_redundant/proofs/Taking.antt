@@ -3,20 +3,23 @@ use Rattle.std.proofs.Common.{◌≡◌, ℕ, Bool, false, List, length, Option,
 use Rattle.std.specs.Prelude.{Result, IfOk, OnOk}
 use Rattle.ckc_base.specs.declared.places.Pos.{Pos}
 use Rattle.ckc_base.specs.declared.runtime_checks.Check.{Check as CheckKind}
+use Rattle.ckc_tac.specs.declared.code.Comparison.{Comparison}
 use Rattle.ckc_tac.specs.declared.code.Operand.{Operand}
 use Rattle.ckc_tac.specs.declared.code.TacOp.{TacOp}
 use Rattle.ckc_tac.specs.declared.code.TacOp.TheVariants.{Check, Call}
+use Rattle.ckc_tac.specs.Operations.{operation_of}
 use Rattle.ckc_flow.specs.Live.{target_of}
 use Rattle.ckc_passes.specs.Values.{Term, New, given, value_after, operand_after}
 use Rattle.ckc_passes_redundant.specs.declared.operations.Operation.{Operation}
+use Rattle.ckc_passes_redundant.specs.declared.operations.Operation.TheVariants.{Whole}
 use Rattle.ckc_passes_redundant.specs.declared.table.Value.{Value}
 use Rattle.ckc_passes_redundant.specs.declared.table.Value.TheVariants.{GivenAt}
 use Rattle.ckc_passes_redundant.specs.declared.table.Work.{Work}
 use Rattle.ckc_passes_redundant.specs.declared.table.Table.{Table}
 use Rattle.ckc_passes_redundant.specs.Redundant.{Looks, Repeats}
 use Rattle.ckc_passes_redundant.specs.code.Operations.{value_by}
-use Rattle.ckc_passes_redundant.specs.code.Tables.{Means, look_of, held_in, operand_in, KnowsAfter, Writes, Combines, Notes, IsTaken, WritesIf, given_at}
-use Rattle.ckc_passes_redundant.proofs.Knowing.{written, combined_written, known_idle, check_taken}
+use Rattle.ckc_passes_redundant.specs.code.Tables.{Means, held_in, KnowsAfter, Writes, Combines, Asks, IsTaken, WritesIf, given_at}
+use Rattle.ckc_passes_redundant.proofs.Knowing.{written, combined_written, known_idle, check_asked}
 use Rattle.ckc_passes_redundant.proofs.Computing.{if_both, if_more, quietly}
 
 -- an operation that is no check
@@ -43,10 +46,12 @@ pub taken_idle : (op : TacOp) → IsQuiet op → target_of op ≡ None → (plac
 taken_idle op quiet target place old done long k =
     quietly done op old false refl (quiet.repeats done) (known_idle done op (quiet.looks done) target (held_in old) old.works.keys old.looks.keys k)
 
-pub taken_check : {E : Type 0} (check : CheckKind) (at : Pos) (a : Operand) (place : ℕ) (old new : Table) (r : Result Bool E)
-    → IfOk r (Notes (look_of check (operand_in old a)) old new) → IfOk r (IsTaken (Check check at a) place old new)
-taken_check check at a place old new r notes =
-    if_more r (Notes (look_of check (operand_in old a)) old new) (IsTaken (Check check at a) place old new) notes (λ b n done long k. check_taken done old new k check at a b n)
+pub taken_check : {E : Type 0} (check : CheckKind) (at : Pos) (comparison : Comparison) (a b : Operand) (place : ℕ) (old new : Table) (r : Result Bool E)
+    → (operation : Operation) → operation ≡ Whole (operation_of comparison)
+    → IfOk r (Asks check operation a b old new) → IfOk r (IsTaken (Check check at comparison a b) place old new)
+taken_check check at comparison a b place old new r operation is asks =
+    if_more r (Asks check operation a b old new) (IsTaken (Check check at comparison a b) place old new) asks (λ answer q done long k.
+    check_asked done old new k check at comparison a b answer (subst (λ (o : Operation). Asks check o a b old new answer) is q))
 
 -- what the operation here gives is new
 pub given_here : (works : List Work) (n place : ℕ) → n ≡ place → Means works (GivenAt place) (New n)

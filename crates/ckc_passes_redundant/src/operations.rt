@@ -3,15 +3,30 @@ ghost use Rattle.std.specs.Prelude.{◌≡◌, ◌*ℤ◌};
 ghost use Rattle.std.specs.Int.{int_shr};
 ghost use Rattle.ckc_base.specs.Words.{word_of};
 ghost use Rattle.ckc_base.specs.Products.{high_product};
+ghost use Rattle.ckc_tac.specs.Operations.{operation_of};
+ghost use Rattle.ckc_passes_redundant.specs.declared.operations.Operation.TheVariants.{Whole};
 ghost use Rattle.ckc_passes_redundant.specs.code.Operations.{binary_number, operation_number, result_by};
 
 use ckc_base::{BinOp, apply};
+use ckc_tac::Comparison;
 
 /// An operation on two words, or the upper half of their product, signed if the flag says so.
 #[derive(Clone, Copy)]
 pub enum Operation {
     Whole(BinOp),
     Half(bool),
+}
+
+/// The operation of a comparison.
+pub fn comparing(comparison: Comparison) -> Operation
+    ensures { result ≡ Whole (operation_of comparison) }
+{
+    match comparison {
+        Comparison::LtS => Operation::Whole(BinOp::LtS),
+        Comparison::LtU => Operation::Whole(BinOp::LtU),
+        Comparison::Eq => Operation::Whole(BinOp::Eq),
+        Comparison::Ne => Operation::Whole(BinOp::Ne),
+    }
 }
 
 /// The number of an operation: no two have the same.

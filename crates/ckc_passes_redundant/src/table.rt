@@ -2,9 +2,9 @@
 ghost use Rattle.std.specs.Prelude.{◌≡◌, [], IfOk, OnOk, false};
 ghost use Rattle.ckc_passes.specs.Values.{computed as computed_of};
 ghost use Rattle.ckc_passes_redundant.specs.code.Operations.{result_by};
-ghost use Rattle.ckc_passes_redundant.specs.code.Tables.{Combines, Computes, IsTaken, KnowsAfter, Notes, Numbers, Writes, WritesIf, held_in, look_of, operand_in, word_in};
+ghost use Rattle.ckc_passes_redundant.specs.code.Tables.{Asks, Combines, Computes, IsTaken, KnowsAfter, Notes, Numbers, Writes, WritesIf, held_in, look_of, operand_in, word_in};
 
-use crate::operations::{Operation, compute, number};
+use crate::operations::{Operation, comparing, compute, number};
 use ckc_base::{Check, check_number};
 use ckc_tac::{Operand, TacOp};
 use indexmap::{IndexMap, IndexSet};
@@ -82,7 +82,7 @@ impl Table {
             ),
             TacOp::Load(_, t, _) => self.give(*t, Value::GivenAt(place)),
             TacOp::Store(_, _, _) => Ok(false),
-            TacOp::Check(check, _, a) => self.note(*check, *a),
+            TacOp::Check(check, _, c, a, b) => self.ask(*check, comparing(*c), *a, *b),
             TacOp::Call(t, _, _, _) => self.give_if(*t, Value::GivenAt(place)),
             TacOp::Get(t) => self.give(*t, Value::GivenAt(place)),
             TacOp::Put(_) => Ok(false),
@@ -161,11 +161,25 @@ impl Table {
         Ok(Value::Computed(place.0))
     }
 
-    /// Notes that a check looks at an operand, and says whether a check of its number has looked at the same value.
-    fn note(&mut self, check: Check, a: Operand) -> Result<bool, AllocError>
-        ensures { IfOk result (Notes (look_of check (operand_in self.old a)) self.old self.new) }
+    /// Notes that a check looks at what an operation makes of two operands, and says whether a check of its number has
+    /// looked at the same value.
+    fn ask(
+        &mut self,
+        check: Check,
+        operation: Operation,
+        a: Operand,
+        b: Operand,
+    ) -> Result<bool, AllocError>
+        ensures { IfOk result (Asks check operation a b self.old self.new) }
     {
-        let value = self.operand(a);
+        let value = self.value_of(operation, a, b)?;
+        self.note(check, value)
+    }
+
+    /// Notes that a check looks at a value, and says whether a check of its number has looked at it.
+    fn note(&mut self, check: Check, value: Value) -> Result<bool, AllocError>
+        ensures { IfOk result (Notes (look_of check value) self.old self.new) }
+    {
         let check = check_number(check);
         let is_new = self.looks.insert(Look { check, value })?;
         Ok(!is_new)

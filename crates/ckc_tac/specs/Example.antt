@@ -7,7 +7,7 @@ use Rattle.ckc_base.specs.Traces.{Got, Put as Puts, Standing, Showing}
 use Rattle.ckc_base.specs.LongEvents.{LongEvent, Plain, Stored, Entered, Returned}
 use Rattle.ckc_tac.specs.declared.code.Tac.{Tac}
 use Rattle.ckc_tac.specs.declared.code.TacFunc.{TacFunc}
-use Rattle.ckc_tac.specs.declared.code.Comparison.TheVariants.{Eq}
+use Rattle.ckc_tac.specs.declared.code.Comparison.TheVariants.{Eq, Ne}
 use Rattle.ckc_tac.specs.declared.code.Operand.TheVariants.{Register, Number}
 use Rattle.ckc_tac.specs.declared.code.TacOp.TheVariants.{Const, Store, Check, Call, Get, Put}
 use Rattle.ckc_tac.specs.declared.code.TacEnd.TheVariants.{Jump, Branch, Return}
@@ -23,7 +23,7 @@ example_main = record {
   regs = 2;
   blocks = record { ops = Get 0 ∷ []; end = Branch Eq (Register 0) (Number 65) 1 2 }
       ∷ record { ops = Call None 1 (0 ∷ []) place ∷ Put (Register 0) ∷ []; end = Return (Register 0) }
-      ∷ record { ops = Check Dynamic place (Register 1) ∷ []; end = Jump 1 } ∷ [];
+      ∷ record { ops = Check Dynamic place Ne (Register 1) (Number 0) ∷ []; end = Jump 1 } ∷ [];
 }
 
 abbrev pub example_callee : TacFunc

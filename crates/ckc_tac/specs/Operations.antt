@@ -45,7 +45,8 @@ outcome_of registers world (Load width t a) =
     with_value (value_in registers a) (λ p. with_value (value_at width world.memory p) (λ x. Gives [] t x world))
 outcome_of registers world (Store width a b) =
     with_value (value_in registers a) (λ p. with_value (value_in registers b) (stores world width p))
-outcome_of registers world (Check check at a) = with_value (value_in registers a) (checks world check at)
+outcome_of registers world (Check check at comparison a b) =
+    with_value (compared comparison (value_in registers a) (value_in registers b)) (checks world check at)
 outcome_of registers world (Call target callee arguments at) = Lost
 outcome_of registers world (Get t) = gets world t
 outcome_of registers world (Put a) = with_value (value_in registers a) (puts world)

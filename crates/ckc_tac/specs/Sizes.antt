@@ -1,6 +1,6 @@
 -- The size of three-address code: how many instructions it may be compiled to.
 use Rattle.std.specs.Prelude.{ℕ, ◌+◌, ◌==◌, if◌then◌else◌, List, length, sum_by}
-use Rattle.ckc_base.specs.Sizes.{const_size, copy_size, operation_size, load_size, store_size, check_size, get_size, put_size, alloc_size, call_size, jump_size, return_size, entry_size}
+use Rattle.ckc_base.specs.Sizes.{const_size, copy_size, operation_size, load_size, store_size, get_size, put_size, alloc_size, call_size, jump_size, return_size, entry_size}
 use Rattle.ckc_tac.specs.declared.code.Tac.{Tac}
 use Rattle.ckc_tac.specs.declared.code.TacFunc.{TacFunc}
 use Rattle.ckc_tac.specs.declared.code.TacBlock.{TacBlock}
@@ -11,6 +11,11 @@ use Rattle.ckc_tac.specs.declared.code.TacOp.TheVariants.{Const, Copy, Bin, High
 use Rattle.ckc_tac.specs.declared.code.TacEnd.{TacEnd}
 use Rattle.ckc_tac.specs.declared.code.TacEnd.TheVariants.{Jump, Branch, Return}
 
+-- the instructions that read an operand; the number 0 needs none
+abbrev pub operand_size : Operand → ℕ
+operand_size (Register r) = 3
+operand_size (Number n) = if n == 0 then 0 else 2
+
 abbrev pub op_size : TacOp → ℕ
 op_size (Const t n) = const_size
 op_size (Copy t a) = copy_size
@@ -18,16 +23,11 @@ op_size (Bin op t a b) = operation_size
 op_size (High is_signed t a b) = operation_size
 op_size (Load width t a) = load_size
 op_size (Store width a b) = store_size
-op_size (Check check at a) = check_size
+op_size (Check check at comparison a b) = operand_size a + operand_size b + 10
 op_size (Call target callee arguments at) = call_size (length arguments)
 op_size (Get t) = get_size
 op_size (Put a) = put_size
 op_size (Alloc t a size) = alloc_size
-
--- the instructions that read an operand; the number 0 needs none
-abbrev pub operand_size : Operand → ℕ
-operand_size (Register r) = 3
-operand_size (Number n) = if n == 0 then 0 else 2
 
 abbrev pub end_size : TacEnd → ℕ
 end_size (Jump to) = jump_size

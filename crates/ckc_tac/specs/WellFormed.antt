@@ -33,7 +33,7 @@ IsOpOver functions regs (Bin op t a b) = (t < regs) × IsOperandOver regs a × I
 IsOpOver functions regs (High is_signed t a b) = (t < regs) × IsOperandOver regs a × IsOperandOver regs b
 IsOpOver functions regs (Load width t a) = (t < regs) × IsOperandOver regs a
 IsOpOver functions regs (Store width a b) = IsOperandOver regs a × IsOperandOver regs b
-IsOpOver functions regs (Check check at a) = IsPlace at × IsOperandOver regs a
+IsOpOver functions regs (Check check at comparison a b) = IsPlace at × IsOperandOver regs a × IsOperandOver regs b
 IsOpOver functions regs (Call target callee arguments at) =
     IfSome target (λ t. t < regs) × HasParams (length arguments) (slice_get functions callee)
     × All (λ r. r < regs) arguments × IsPlace at

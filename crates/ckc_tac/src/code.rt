@@ -35,7 +35,7 @@ pub enum Operand {
 ///
 /// - `High` is the upper word of a product, signed if the flag says so.
 /// - `Store` has the address, then the value.
-/// - `Check` stops if its operand is zero.
+/// - `Check` stops unless a comparison of its two operands holds.
 /// - `Call` has the number of the function, the registers of the arguments, and the place at which a call too deep
 ///   stops.
 /// - `Alloc` has the count of elements and the size of one.
@@ -47,7 +47,7 @@ pub enum TacOp {
     High(bool, u32, Operand, Operand),
     Load(Width, u32, Operand),
     Store(Width, Operand, Operand),
-    Check(Check, Pos, Operand),
+    Check(Check, Pos, Comparison, Operand, Operand),
     Call(Option<u32>, u32, Seq<u32>, Pos),
     Get(u32),
     Put(Operand),

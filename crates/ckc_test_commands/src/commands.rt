@@ -61,7 +61,7 @@ pub fn run_case(lines: &str, page: &mut Page) {
 
 fn run_once<'a>(lines: &'a str, err_fails: &'a [u64], page: &mut Page) {
     let store_fails = store_fails_of(lines, page);
-    let mut store = MemStore::new(page.alloc(), store_fails.as_slice());
+    let mut store = store_of(lines, store_fails.as_slice(), page);
     let mut desk = Desk::new(err_fails, page);
     for line in lines.lines() {
         desk.take(&mut store, line, page);
@@ -77,6 +77,16 @@ fn run_once<'a>(lines: &'a str, err_fails: &'a [u64], page: &mut Page) {
     if page.wrong().is_some() {
         desk.tell("the end", page);
     }
+}
+
+/// The store of a case, whose listed calls fail. `tears CUT`: a listed call of `keep` leaves so many bytes.
+fn store_of<'a>(lines: &str, fails: &'a [u64], page: &mut Page) -> MemStore<'a> {
+    for line in lines.lines() {
+        if let Some(cut) = line.strip_prefix("tears ") {
+            return MemStore::torn(page.alloc(), fails, number_of(cut, page));
+        }
+    }
+    MemStore::new(page.alloc(), fails)
 }
 
 /// The calls of the store that fail.
@@ -120,6 +130,7 @@ impl<'a> Desk<'a> {
             "watch" => self.watch(store, rest, page),
             "stores" => self.judge_stores(rest, page),
             "lines" => self.judge_lines(page),
+            "tears" => {}
             "exit" | "status" | "out" | "err" => self.judge(key, rest, page),
             "|" => self.add_line(store, rest, page),
             _ => {

@@ -4,7 +4,7 @@ use crate::notation::{bytes_of, number_of, numbers_of, split_word};
 use ckc_asm::read_asm;
 use ckc_image::{View, write};
 use ckc_machine::Machine;
-use ckc_outside::{MemSink, MemSource};
+use ckc_outside::{MemSink, MemSource, Sink, Source};
 use ckc_test_trials::Page;
 
 /// How many bytes the output may have room for.
@@ -58,7 +58,7 @@ impl Given {
     fn take(&mut self, line: &str, page: &mut Page) {
         let (key, rest) = split_word(line);
         match key {
-            "run" | "out" => self.complete = true,
+            "run" | "calls" | "out" => self.complete = true,
             _ if self.complete => page.refuse("a line behind the runs"),
             "text" => self.set_image(bytes_of(rest, page).as_slice(), page),
             "input" => self.input = bytes_of(rest, page),
@@ -111,12 +111,23 @@ impl Given {
                 let mut came = Page::new(page.alloc());
                 came.put_debug(&answer);
                 want(came.text() == wanted, page);
+            } else if key == "calls" {
+                want(fails_next(rest, &mut input, &mut out), page);
             }
             if page.wrong().is_some() {
                 return tell(line, out.written(), page);
             }
         }
         want(is_out, page);
+    }
+}
+
+/// Whether one call more of this object fails, as the case lists it if the machine made all calls before it and no more.
+fn fails_next(object: &str, input: &mut MemSource<'_>, out: &mut MemSink<'_>) -> bool {
+    match object {
+        "input" => input.next().is_err(),
+        "out" => out.put(&[]).is_err(),
+        _ => false,
     }
 }
 

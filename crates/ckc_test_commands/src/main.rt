@@ -4,6 +4,7 @@
 
 mod code;
 mod commands;
+mod fronts;
 mod labelled;
 mod lean;
 mod machine;
@@ -17,6 +18,7 @@ mod watching;
 use ckc_test_trials::{File, Page, Report, files_named};
 use code::Runs;
 use commands::{run_case, tell};
+use fronts::run_fronts;
 use labelled::run_labelled;
 use machine::run_machine;
 use pages::run_page;
@@ -75,7 +77,7 @@ impl<'a> Cases<'a> {
             self.lines.put("\n");
         } else {
             self.head = line;
-            if !line.starts_with("case ") && !line.starts_with("machine ") {
+            if !has_lines(line) {
                 lines_of(line, &mut self.lines);
                 self.end(report);
             }
@@ -93,6 +95,8 @@ impl<'a> Cases<'a> {
             page.refuse(why);
         } else if self.head.starts_with("machine ") {
             run_machine(self.lines.text(), &mut page);
+        } else if self.head.starts_with("fronts ") {
+            run_fronts(self.lines.text(), &mut page);
         } else {
             run_case(self.lines.text(), &mut page);
         }
@@ -100,4 +104,9 @@ impl<'a> Cases<'a> {
         self.head = "";
         self.lines = Page::new(report.page.alloc());
     }
+}
+
+/// Whether a case that begins with this line has more.
+fn has_lines(head: &str) -> bool {
+    head.starts_with("case ") || head.starts_with("machine ") || head.starts_with("fronts ")
 }

@@ -10,6 +10,7 @@ fn frame_of(command: &str) -> Option<Frame> {
     match command {
         "exec" => Some(Frame("file text ", "\nccc exec text\n", "")),
         "interp" => Some(Frame("file text ", "\nccc interp text\n", "")),
+        "check" => Some(Frame("file text ", "\nccc check text\n", "")),
         "image" => Some(Frame("file image ", "\nccc run image\n", "")),
         "report" => Some(Frame("report ", "\n", "")),
         "asm" => Some(Frame(

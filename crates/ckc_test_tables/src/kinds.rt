@@ -90,6 +90,7 @@ fn of_three(kind: &str, fields: (&str, &str, &str), page: &mut Page) {
         "repeated" => layouts::repeated_case(first, second, third, page),
         "write" => images::write_case(first, second, third, page),
         "memory-sink" => objects::memory_sink_case(first, second, third, page),
+        "torn-store" => objects::torn_store_case(first, second, third, page),
         _ => page.refuse(UNKNOWN),
     }
 }

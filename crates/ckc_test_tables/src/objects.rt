@@ -98,9 +98,21 @@ fn put_answer(is_put: bool, page: &mut Page) {
 pub fn memory_store_case(calls: &str, steps: &str, page: &mut Page) {
     let calls = calls_in(calls, page);
     let mut store = MemStore::new(page.alloc(), calls.as_slice());
+    do_memory_steps(&mut store, steps, page);
+}
+
+/// `torn-store | CUT | CALL.. | STEP, STEP..`: the same of a store where a listed `keep` leaves so many bytes.
+pub fn torn_store_case(cut: &str, calls: &str, steps: &str, page: &mut Page) {
+    let calls = calls_in(calls, page);
+    let cut = u64::from(page.word_of(cut));
+    let mut store = MemStore::torn(page.alloc(), calls.as_slice(), cut);
+    do_memory_steps(&mut store, steps, page);
+}
+
+fn do_memory_steps(store: &mut MemStore<'_>, steps: &str, page: &mut Page) {
     for step in steps.split(',') {
         let words = page.words_of(step);
-        do_memory_step(&mut store, words.as_slice(), page);
+        do_memory_step(store, words.as_slice(), page);
     }
 }
 

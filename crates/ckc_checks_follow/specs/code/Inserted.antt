@@ -23,7 +23,7 @@ use Rattle.ckc_source.specs.Words.{divides}
 use Rattle.ckc_core.specs.Code.{Expr, Const, Local, Load, Bin, Code, End, Set, Store, Check, Call, Get, Put, Alloc, If, Loop, Break, Continue, Return, Function, Program}
 use Rattle.ckc_checks_operands.specs.Cases.{casts_one, is_bounded, takes_range}
 use Rattle.ckc_checks_operands.specs.code.Operands.{is_direct, operated, low_byte, kept_in, as_truth, is_zero, scaled, shifted, at_offset, element_of, direct, operand, held, keeps_index}
-use Rattle.ckc_checks_operands.specs.code.Pointers.{index_far, index_in, reads_signed, exact_test, end_at, bounds_test, below_end, length_at, cast_test, may_write}
+use Rattle.ckc_checks_operands.specs.code.Pointers.{index_far, index_in, reads_signed, exact_test, end_at, bounds_test, is_counted, count_of, is_array, below_end, length_at, cast_test, may_write}
 
 -- ---- expressions
 
@@ -66,19 +66,58 @@ element_code access i t rest =
     unless_zero i (λ rest. Check check.Arith access.at (exact_test false (reads_signed access.index) access.size (Local t) i)
     (Set t (shifted false access.size (Local t) i) rest)) rest
 
+-- A pointer and an index that are locals are read where they are, if the pointer has a count. Others are in the temporary
+-- t and in i.
+abbrev pub own_pointer : source.Expr → ℕ → ℕ
+own_pointer (source.Limited x limits) t = x
+own_pointer p t = t
+
+abbrev pub own_index : source.Expr → Expr → Expr
+own_index (source.Local x) i = Local x
+own_index index i = i
+
+-- where a count does not say that there is an element: its address is none, or lies outside the bounds
+abbrev pub outside_code : Access → Expr → ℕ → Code
+outside_code access i a =
+    Check check.Arith access.at (exact_test false (reads_signed access.index) access.size (Local a) i)
+    (Check check.Bounds access.at (Const 0) End)
+
+-- A branch on whether an index is below a count, or at it if the flag says so.
+abbrev pub count_code : Bool → (i count : Expr) → (outside rest : Code) → Code
+count_code true i count outside rest = If (Bin binary.LtU count i) outside End rest
+count_code false i count outside rest = If (Bin binary.LtU i count) End outside rest
+
+-- the first element is there unless the count is 0
+abbrev pub first_code : Bool → Pos → Expr → Code → Code
+first_code true at count rest = rest
+first_code false at count rest = Check check.Bounds at count rest
+
+-- An element behind a pointer in the local a, which is not null and has a count of elements, goes to the temporary t. The
+-- pointer is there too.
+abbrev pub counted_code : Bool → Access → (i count : Expr) → (a t : ℕ) → Code → Code
+counted_code last access i count a t rest =
+    if is_zero i then first_code last access.at count rest
+    else count_code last i count (outside_code access i a) (Set t (shifted false access.size (Local a) i) rest)
+
+-- null stops, but a named array is not null
+abbrev pub unless_array : source.Expr → Pos → ℕ → Code → Code
+unless_array p at a rest = if is_array p then rest else Check check.Null at (Local a) rest
+
 -- an access through a checked pointer, which is in the temporary t, to an element of an array
-abbrev pub bounded_code : Bool → Access → source.Expr → Expr → ℕ → Code → Code
-bounded_code last access p i t rest =
-    Check check.Null access.at (Local t) (element_code access i t
+abbrev pub bounded_code : Bool → Access → (p index : source.Expr) → Expr → ℕ → Code → Code
+bounded_code last access p index i t rest =
+    if is_counted access.size p then unless_array p access.at (own_pointer p t)
+    (counted_code last access (own_index index i) (count_of access.size p) (own_pointer p t) t rest)
+    else Check check.Null access.at (Local t) (element_code access i t
     (Check check.Bounds access.at (bounds_test last p t) rest))
 
 -- The checks of an access. After those of an access to an element of an array the temporary t has the element.
-abbrev pub judged : Through → Access → source.Expr → (a i : Expr) → ℕ → Code → Code
-judged Named access p a i t rest = rest
-judged Raw access p a i t rest = rest
-judged One access p a i t rest = Check check.Null access.at a rest
-judged Array access p a i t rest = bounded_code false access p i t rest
-judged Terminated access p a i t rest = bounded_code true access p i t rest
+abbrev pub judged : Through → Access → (p index : source.Expr) → (a i : Expr) → ℕ → Code → Code
+judged Named access p index a i t rest = rest
+judged Raw access p index a i t rest = rest
+judged One access p index a i t rest = Check check.Null access.at a rest
+judged Array access p index a i t rest = bounded_code false access p index i t rest
+judged Terminated access p index a i t rest = bounded_code true access p index i t rest
 
 -- the pointer and the index of an access
 abbrev pub pointer_at : Access → source.Expr → ℕ → Expr
@@ -91,7 +130,7 @@ index_at access i u = held (keeps_index (is_bounded access.through) i) i u
 abbrev pub reached_code : Access → (p i : source.Expr) → (on_p on_i : Code → Code) → ℕ → Code → Code
 reached_code access p i on_p on_i t rest =
     put_if (is_bounded access.through) p on_p (put_if (keeps_index (is_bounded access.through) i) i on_i
-    (judged access.through access p (pointer_at access p t) (index_at access i (index_in access p t)) t rest))
+    (judged access.through access p i (pointer_at access p t) (index_at access i (index_in access p t)) t rest))
 
 -- the element of an access, after that, and its place
 abbrev pub reached_element : Access → (p i : source.Expr) → ℕ → Expr

@@ -1,6 +1,6 @@
 -- The ranges of pointers and the tests of accesses, of pointer arithmetic and of bounds casts, as expressions of core
 -- code. They mirror what the code makes and need not be believed, but for `is_ranged` and `takes_range`.
-use Rattle.std.specs.Prelude.{ℕ, ℤ, ◌+◌, ◌==◌, Bool, true, false, not, if◌then◌else◌, Option, Some, None}
+use Rattle.std.specs.Prelude.{ℕ, ℤ, ◌+◌, ◌/◌, ◌%◌, ◌==◌, pos, nat_lt, Bool, true, false, not, ◌&&◌, if◌then◌else◌, Option, Some, None}
 use Rattle.ckc_base.specs.declared.arithmetic.BinOp.TheVariants as binary
 use Rattle.ckc_base.specs.declared.arithmetic.Width.TheVariants as width
 use Rattle.ckc_base.specs.Words.{word_of, applied}
@@ -11,6 +11,7 @@ use Rattle.ckc_source.specs.declared.expr.Base.{Base}
 use Rattle.ckc_source.specs.declared.expr.Base.TheVariants as bases
 use Rattle.ckc_source.specs.declared.expr.End.{End as LimitsEnd}
 use Rattle.ckc_source.specs.declared.expr.Integer.{Integer}
+use Rattle.ckc_source.specs.declared.expr.Limits.{Limits}
 use Rattle.ckc_source.specs.declared.expr.Integer.TheVariants as integer
 use Rattle.ckc_source.specs.declared.expr.Variable.{Variable}
 use Rattle.ckc_source.specs.Code as source
@@ -19,7 +20,7 @@ use Rattle.ckc_source.specs.Words.{width_of}
 use Rattle.ckc_core.specs.Code.{Expr, Const, Local, Load, Bin, High}
 use Rattle.ckc_checks_operands.specs.code.Operands.{scaled, shifted, at_offset}
 pub use Rattle.ckc_checks_guards.specs.code.Guards.{below_or_at, upper_test, may_write}
-use Rattle.ckc_checks_operands.specs.Cases.{is_ranged, takes_range}
+use Rattle.ckc_checks_operands.specs.Cases.{is_own, is_fixed_end, is_ranged, takes_range}
 
 -- how far after its pointer an index is
 abbrev pub index_far : Bool → ℕ
@@ -120,3 +121,32 @@ abbrev pub below_end : source.Expr → ℕ → Expr
 below_end p t =
     if is_ranged p then Bin binary.Ne (Local t) (range_end true p)
     else Bin binary.Ne (Bin binary.Sub (Local t) (Local (t + 1))) (Local (t + 2))
+
+-- ---- pointers whose range is a count of elements behind the pointer itself
+
+-- limits from the pointer itself to a count of elements of a size
+abbrev pub are_counted : ℕ → Limits → Bool
+are_counted size limits =
+    (limits.to.size == size) && (is_fixed_end limits.lower (pos 0) && is_own limits.upper.base)
+
+-- an array that is not at address 0, has whole elements of a size, and ends below 2^31
+abbrev pub is_whole : (size at bytes : ℕ) → Bool
+is_whole size at bytes =
+    (not (at == 0) && not (size == 0)) && (bytes % size == 0 && nat_lt (at + bytes) 2147483648)
+
+-- a pointer that is a local with such limits, or such a named array
+abbrev pub is_counted : ℕ → source.Expr → Bool
+is_counted size (source.Limited x limits) = are_counted size limits
+is_counted size (source.Array at bytes) = is_whole size at bytes
+is_counted size _ = false
+
+-- how many elements that are
+abbrev pub count_of : ℕ → source.Expr → Expr
+count_of size (source.Limited x limits) = amount_at limits.upper.variable limits.upper.add
+count_of size (source.Array at bytes) = Const (if size == 0 then 0 else bytes / size)
+count_of size _ = Const 0
+
+-- a named array
+abbrev pub is_array : source.Expr → Bool
+is_array (source.Array at bytes) = true
+is_array _ = false

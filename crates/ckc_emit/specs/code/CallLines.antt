@@ -3,6 +3,7 @@
 use Rattle.std.specs.Prelude.{ℕ, ◌+◌, ◌*◌, ◌==◌, ◌||◌, Bool, false, List, [], ◌∷◌, slice_get, Option, Some, None}
 use Rattle.ckc_base.specs.declared.places.Pos.{Pos}
 use Rattle.ckc_base.specs.declared.runtime_checks.Check.TheVariants.{Depth}
+use Rattle.ckc_rv_operations.specs.declared.operations.BranchOp.TheVariants.{Bne}
 use Rattle.ckc_rv_operations.specs.declared.operations.RegOp.TheVariants.{Add}
 use Rattle.ckc_rv.specs.declared.instructions.Instr.TheVariants.{Lui, Reg}
 use Rattle.ckc_asm_lines.specs.declared.lines.Line.{Line}
@@ -31,7 +32,7 @@ is_argument_home k homes (r ∷ rs) = home homes r == k || is_argument_home k ho
 abbrev pub depth_lines : Pos → List Line → List Line
 depth_lines at rest =
     Plain (Lui 5 0x3000) ∷
-    check_lines 2 5 Depth at (Plain (Lui 8 0xFFFFC) ∷ Plain (Reg Add 8 8 2) ∷ rest)
+    check_lines Bne 2 5 Depth at (Plain (Lui 8 0xFFFFC) ∷ Plain (Reg Add 8 8 2) ∷ rest)
 
 -- an argument goes from its place in the frame to the place of a parameter, in the frame at x8
 abbrev pub argument_lines : Place → Place → List Line → List Line

@@ -9,7 +9,8 @@ use Rattle.ckc_base.specs.declared.arithmetic.Width.TheVariants.{Byte, Word}
 use Rattle.ckc_base.specs.declared.places.Pos.{Pos}
 use Rattle.ckc_base.specs.declared.runtime_checks.Check.{Check}
 use Rattle.ckc_base.specs.Checks.{number_of}
-use Rattle.ckc_rv_operations.specs.declared.operations.BranchOp.TheVariants.{Bne, Bge, Bltu}
+use Rattle.ckc_rv_operations.specs.declared.operations.BranchOp.{BranchOp}
+use Rattle.ckc_rv_operations.specs.declared.operations.BranchOp.TheVariants.{Beq, Bne, Blt, Bge, Bltu}
 use Rattle.ckc_rv_operations.specs.declared.operations.LoadOp.{LoadOp}
 use Rattle.ckc_rv_operations.specs.declared.operations.LoadOp.TheVariants.{Lw, Lbu}
 use Rattle.ckc_rv_operations.specs.declared.operations.StoreOp.{StoreOp}
@@ -22,6 +23,8 @@ use Rattle.ckc_rv.specs.declared.instructions.Instr.{Instr}
 use Rattle.ckc_rv.specs.declared.instructions.Instr.TheVariants.{Lui, Branch, Load, Store, Imm, Reg}
 use Rattle.ckc_asm_lines.specs.declared.lines.Line.{Line}
 use Rattle.ckc_asm_lines.specs.declared.lines.Line.TheVariants.{Plain}
+use Rattle.ckc_tac.specs.declared.code.Comparison.{Comparison}
+use Rattle.ckc_tac.specs.declared.code.Comparison.TheVariants as comparison
 use Rattle.ckc_frame.specs.declared.code.Place.{Place}
 use Rattle.ckc_frame.specs.declared.code.Place.TheVariants as place
 unfoldable pub use Rattle.ckc_emit_templates.specs.code.Templates.{upper_of, lower_of}
@@ -42,15 +45,22 @@ stop_lines check at rest =
     constant_lines 10 (number_of check)
     (constant_lines 11 at.line (constant_lines 12 at.col (ask_lines 3 rest)))
 
--- a branch over itself and the stop after it, if two registers differ
-abbrev pub over_stop_of : ℕ → ℕ → Pos → Instr
-over_stop_of rs1 rs2 at =
-    Branch Bne rs1 rs2 (pos ((constant_count at.line + constant_count at.col + 4) * 4))
+-- the branch that is taken if a comparison holds
+abbrev pub holding : Comparison → BranchOp
+holding comparison.LtS = Blt
+holding comparison.LtU = Bltu
+holding comparison.Eq = Beq
+holding comparison.Ne = Bne
 
--- stops unless two registers differ
-abbrev pub check_lines : ℕ → ℕ → Check → Pos → List Line → List Line
-check_lines rs1 rs2 check at rest =
-    Plain (over_stop_of rs1 rs2 at) ∷ stop_lines check at rest
+-- a branch of two registers over itself and the stop after it
+abbrev pub over_stop_of : BranchOp → ℕ → ℕ → Pos → Instr
+over_stop_of op rs1 rs2 at =
+    Branch op rs1 rs2 (pos ((constant_count at.line + constant_count at.col + 4) * 4))
+
+-- stops unless the branch is taken
+abbrev pub check_lines : BranchOp → ℕ → ℕ → Check → Pos → List Line → List Line
+check_lines op rs1 rs2 check at rest =
+    Plain (over_stop_of op rs1 rs2 at) ∷ stop_lines check at rest
 
 -- ---- places
 
@@ -267,8 +277,12 @@ data_store_lines width a b rest =
     (operand_lines b 6
     (Plain (Store (store_op width) (register_with a 5) (register_with b 6) (pos 0)) ∷ rest))
 
-abbrev pub test_lines : Check → Pos → PlacedOperand → List Line → List Line
-test_lines check at a rest = operand_lines a 5 (check_lines (register_with a 5) 0 check at rest)
+abbrev pub test_lines : Check → Pos → Comparison → PlacedOperand → PlacedOperand → List Line
+    → List Line
+test_lines check at c a b rest =
+    operand_lines a 5
+    (operand_lines b 6
+    (check_lines (holding c) (register_with a 5) (register_with b 6) check at rest))
 
 abbrev pub get_lines : Place → List Line → List Line
 get_lines t rest = ask_lines 2 (settle_lines t 10 rest)

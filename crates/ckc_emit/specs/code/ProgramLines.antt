@@ -2,7 +2,7 @@
 -- after it one for each of its blocks.
 use Rattle.std.specs.Prelude.{ℕ, ◌+◌, ◌==◌, not, ◌&&◌, if◌then◌else◌, Bool, true, false, List, [], ◌∷◌, length, slice_get, sum_by, take, Option, Some, None, pos, ◌≡◌, ◌<◌, map, slice_index}
 use Rattle.ckc_rv_operations.specs.declared.operations.BranchOp.{BranchOp}
-use Rattle.ckc_rv_operations.specs.declared.operations.BranchOp.TheVariants.{Beq, Bne, Blt, Bge, Bltu, Bgeu}
+use Rattle.ckc_rv_operations.specs.declared.operations.BranchOp.TheVariants.{Beq, Bne, Bge, Bgeu}
 use Rattle.ckc_rv.specs.declared.instructions.Instr.TheVariants.{Jalr, Branch as BranchInstr}
 use Rattle.ckc_asm_lines.specs.declared.lines.Labelled.{Labelled}
 use Rattle.ckc_asm_lines.specs.declared.lines.Line.{Line}
@@ -23,6 +23,7 @@ use Rattle.ckc_frame.specs.Meaning.{is_call, calls_in}
 use Rattle.ckc_frame.specs.Places.{marks_of}
 use Rattle.ckc_emit.specs.declared.places.PlacedOperand.{PlacedOperand}
 use Rattle.ckc_emit.specs.declared.places.PlacedOperand.TheVariants as placed
+pub use Rattle.ckc_emit.specs.code.Lines.{holding}
 use Rattle.ckc_emit.specs.code.Lines.{register_with, operand_lines, take_lines, load_lines, store_lines, const_lines, copy_lines, bin_lines, high_lines, data_load_lines, data_store_lines, test_lines, get_lines, put_lines, alloc_lines}
 use Rattle.ckc_emit.specs.code.CallLines.{place_at, call_lines, result_lines}
 pub use Rattle.ckc_emit_templates.specs.code.Start.{start_lines}
@@ -58,7 +59,8 @@ op_lines functions f n (Load width t a) rest =
     data_load_lines width (place_at f.homes t) (operand_at f.homes a) rest
 op_lines functions f n (Store width a b) rest =
     data_store_lines width (operand_at f.homes a) (operand_at f.homes b) rest
-op_lines functions f n (Check check at a) rest = test_lines check at (operand_at f.homes a) rest
+op_lines functions f n (Check check at c a b) rest =
+    test_lines check at c (operand_at f.homes a) (operand_at f.homes b) rest
 op_lines functions f n (Call target callee arguments at) rest =
     call_lines f.homes (marks_of (slice_get f.kept n)) (homes_of (slice_get functions callee))
     (label_of functions callee) arguments at
@@ -82,14 +84,7 @@ jump_lines first next b rest = if b == next then rest else Far 0 (first + b) ∷
 abbrev pub over_lines : BranchOp → (ra rb label : ℕ) → List Line → List Line
 over_lines op ra rb label rest = Plain (BranchInstr op ra rb (pos 12)) ∷ Far 0 label ∷ rest
 
--- the branch that is taken if a comparison holds
-abbrev pub holding : Comparison → BranchOp
-holding LtS = Blt
-holding LtU = Bltu
-holding Eq = Beq
-holding Ne = Bne
-
--- the branch that is taken if it does not
+-- the branch that is taken if a comparison does not hold
 abbrev pub failing : Comparison → BranchOp
 failing LtS = Bge
 failing LtU = Bgeu

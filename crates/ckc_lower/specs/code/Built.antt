@@ -137,6 +137,11 @@ abbrev pub test_of : Expr → (turned : Bool) → Test
 test_of (Bin o p q) turned = test_of_bin o p q (is_zero q) (test_of p) turned
 test_of e turned = test Ne e (Const 0) turned
 
+-- What a check compares: the sides of a comparison, or any other value and zero.
+abbrev pub checked_test : Expr → Test
+checked_test (Bin o p q) = test_of_bin o p q false (test Ne p (Const 0)) false
+checked_test e = test Ne e (Const 0) false
+
 -- one of two, the second if it is turned
 abbrev pub picked : Bool → ℕ → ℕ → ℕ
 picked false one two = one
@@ -210,6 +215,10 @@ stored t a e o b =
 abbrev pub used : ℕ → Expr → (Operand → TacOp) → Builder → Builder
 used t e o b = with_op (with_value e None t b) (o (operand_of e None t))
 
+-- both sides of a test are computed, and what compares them comes next
+abbrev pub compares : ℕ → Test → (Comparison → Operand → Operand → TacOp) → Builder → Builder
+compares t s o b = stored t s.left s.right (o s.comparison) b
+
 -- the branch of a test to one of two blocks
 abbrev pub branch_of : Test → (t one two : ℕ) → TacEnd
 branch_of s t one two =
@@ -265,7 +274,8 @@ abbrev pub built : ℕ → (fresh : Bool) → Code → Option ℕ → Option Tar
 built t fresh End exit loop b = left fresh exit b
 built t fresh (Set x e rest) exit loop b = built t false rest exit loop (with_value e (Some x) t b)
 built t fresh (Store width a e rest) exit loop b = built t false rest exit loop (stored t a e (op.Store width) b)
-built t fresh (Check check at e rest) exit loop b = built t false rest exit loop (used t e (op.Check check at) b)
+built t fresh (Check check at e rest) exit loop b =
+    built t false rest exit loop (compares t (checked_test e) (op.Check check at) b)
 built t fresh (Call target callee es at rest) exit loop b =
     built t false rest exit loop (with_op (with_values es t b) (op.Call target callee (registers_of es t) at))
 built t fresh (Get x rest) exit loop b = built t false rest exit loop (with_op b (op.Get x))

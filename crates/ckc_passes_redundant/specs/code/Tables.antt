@@ -118,6 +118,13 @@ pub record Notes (look : Look) (old new : Table) (was_noted : Bool) : Type 0 whe
   pub held : (r : ℕ) → held_in new r ≡ held_in old r
   pub works : new.works.keys ≡ old.works.keys
 
+-- what is made of two operands is found, and the look of a check at it is noted; whether it had been noted
+pub record Asks (check : CheckKind) (operation : Operation) (a b : Operand) (old new : Table) (was_noted : Bool) : Type 0 where
+  pub between : Table
+  pub value : Value
+  pub computes : Computes operation a b old between value
+  pub notes : Notes (look_of check value) between new was_noted
+
 -- one more operation is known of, and whether it repeats an earlier one
 abbrev pub Takes : List TacOp → TacOp → Table → Bool → Type 0
 Takes done op new repeats = KnowsAfter (op ∷ done) new × MatchBool repeats (Repeats done op) (Repeats done op → ⊥)

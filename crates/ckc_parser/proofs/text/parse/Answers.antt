@@ -13,7 +13,7 @@ use Rattle.ckc_parser_grammar.specs.code.Marked.{ahead, Halts}
 use Rattle.ckc_parser_grammar.proofs.Steps.{by_rule, stop_rule}
 use Rattle.ckc_parser_grammar.specs.code.Text.{start}
 use Rattle.ckc_parser.specs.Phase.{parsing}
-use Rattle.ckc_parser.proofs.Top.{good_answer, more_answer, stop_answer}
+use Rattle.ckc_parser_trace.proofs.Top.{good_answer, more_answer, stop_answer}
 use Rattle.ckc_parser.proofs.Once.{parsing_exact}
 use Rattle.ckc_parser.proofs.text.parse.Goals as goal
 
@@ -51,7 +51,7 @@ returns-in-Ok c =
     record {
       exact = exact_of parsing parsing_exact (record { list = xs; end = c.args.end }) (Err (fault.Refused r)) (
         c.refusal.ensures.code,
-        more_answer xs c.args.end (record { items = c.items.new.all }) (ahead c.new-reader.result) (ahead c.items.new.reader) r.pos c.new-reader.ensures (text_taken c.new-all.result c.items.new.all (ahead c.new-reader.result) (ahead c.items.new.reader) t.0 c.new-all.ensures t.1 t.2)
+        more_answer xs c.args.end (tree (record { items = c.items.new.all })) (ahead c.new-reader.result) (ahead c.items.new.reader) r.pos c.new-reader.ensures (text_taken c.new-all.result c.items.new.all (ahead c.new-reader.result) (ahead c.items.new.reader) t.0 c.new-all.ensures t.1 t.2)
             (λ h. clash_at_end c.is_at_end.result (c.is_at_end.ensures.1 h) c.if-is_at_end.false) c.refusal.ensures.pos,
       );
     }

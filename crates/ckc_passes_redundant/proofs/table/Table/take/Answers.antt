@@ -65,8 +65,8 @@ returns-in-Put c =
 pub returns-in-Check : goal.returns-in-Check
 returns-in-Check c =
     let a = c.in-Check in
-    subst (λ (o : TacOp). IfOk c.note.result (IsTaken o c.args.place c.args.self.now c.note.new.self)) (sym a.is)
-    (taken_check a.check a.field-1 a.a c.args.place c.args.self.now c.note.new.self c.note.result c.note.ensures)
+    subst (λ (o : TacOp). IfOk c.ask.result (IsTaken o c.args.place c.args.self.now c.ask.new.self)) (sym a.is)
+    (taken_check a.check a.field-1 a.c a.a a.b c.args.place c.args.self.now c.ask.new.self c.ask.result c.comparing.result c.comparing.ensures c.ask.ensures)
 
 pub returns-in-Call : goal.returns-in-Call
 returns-in-Call c =

@@ -149,9 +149,9 @@ pub good_answer : (xs : List Spelled) (x : Tree) (a b : List Sign) → a ≡ sig
 good_answer xs x a b e d h = trees xs x (all_taken xs (tree x) (subst (λ z. Takes (n start ∷ []) (signs xs) (tree x ∷ []) z) h (subst (λ z. Takes (n start ∷ []) z (tree x ∷ []) b) e d)))
 
 module _ (xs : List Spelled) (end : Pos) where
-  pub more_answer : (x : Tree) (a b : List Sign) (pos : Pos) → a ≡ signs xs → Takes (n start ∷ []) a (tree x ∷ []) b → (b ≡ [] → ⊥) → pos ≡ place_of b end → IsFault xs end pos
-  more_answer x a b pos e d h k =
-      take_fault xs end b (tree x) (subst (λ z. Takes (n start ∷ []) z (tree x ∷ []) b) e d) h pos
+  pub more_answer : (v : Value) (a b : List Sign) (pos : Pos) → a ≡ signs xs → Takes (n start ∷ []) a (v ∷ []) b → (b ≡ [] → ⊥) → pos ≡ place_of b end → IsFault xs end pos
+  more_answer v a b pos e d h k =
+      take_fault xs end b v (subst (λ z. Takes (n start ∷ []) z (v ∷ []) b) e d) h pos
       (λ fs gs w is. subst (λ z. IsPlace gs end z) (sym k) (place_is gs (last_of nobody fs) b end is))
 
   pub stop_answer : (a b : List Sign) (pos : Pos) → a ≡ signs xs → Stops (n start ∷ []) a b → pos ≡ place_of b end → IsFault xs end pos

@@ -1,0 +1,4 @@
+pub mod Bytes
+pub mod Recognised
+pub mod Running
+pub mod Top
