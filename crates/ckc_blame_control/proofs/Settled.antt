@@ -1,7 +1,7 @@
 -- What is no step leads from a point that holds to one that does.
 use Rattle.std.proofs.Common.{◌≡◌, ◌≢◌, ℕ, List, [], ◌∷◌, refl, subst}
 use Rattle.std.specs.Prelude.{true, false}
-use Rattle.ckc_bounds_statements.specs.Paths.{Here}
+use Rattle.ckc_blame_sound.specs.ckc_bounds_statements.specs.Paths.{Here}
 use Rattle.ckc_source.specs.Code.{Code, End, Assign, Bundle, Get, Put, Call, If, Loop, Break, Continue, Return, Check}
 use Rattle.ckc_source.specs.Eval.{Store}
 use Rattle.ckc_source.specs.States.{Work, Rest, Turn, Leaving, Ended, Broken, Continued, begun, stepped, turned, behind, resumed, settled}

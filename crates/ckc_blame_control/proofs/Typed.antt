@@ -17,11 +17,11 @@ use Rattle.ckc_typed.specs.Trees.{NotedExpr, NotedInit, NotedHead, NotedStmt}
 use Rattle.ckc_typed.specs.Types.{is_integer}
 use Rattle.ckc_typed_welltyped.specs.Parts.{StmtByParts}
 use Rattle.ckc_typed_welltyped.proofs.ByParts.{stmt_by_parts}
-use Rattle.ckc_bounds_points.specs.declared.frame.Frame.{Frame}
-use Rattle.ckc_bounds_points.specs.declared.frame.Local.{Local}
-use Rattle.ckc_bounds.specs.Declarations.{first_of, few_of, declared_in, head_bounds}
-use Rattle.ckc_bounds.specs.Frames.{all_of, first_fresh, fresh_needed, function_frame, locals_frame, nameless}
-use Rattle.ckc_bounds_statements.specs.Paths.{Here, Path, ActPath, act_declared, act_path, stmt_path, path_of_act, path}
+use Rattle.ckc_blame_sound.specs.ckc_bounds_points.specs.declared.frame.Frame.{Frame}
+use Rattle.ckc_blame_sound.specs.ckc_bounds_points.specs.declared.frame.Local.{Local}
+use Rattle.ckc_blame_sound.specs.ckc_bounds.specs.Declarations.{first_of, few_of, declared_in, head_bounds}
+use Rattle.ckc_blame_sound.specs.ckc_bounds.specs.Frames.{all_of, first_fresh, fresh_needed, function_frame, locals_frame, nameless}
+use Rattle.ckc_blame_sound.specs.ckc_bounds_statements.specs.Paths.{Here, Path, ActPath, act_declared, act_path, stmt_path, path_of_act, path}
 use Rattle.ckc_source.specs.Code.{Function}
 use Rattle.ckc_blame_sound.specs.Settings.{Setting, IsFunction, frame_of_text, setting_of}
 use Rattle.ckc_blame_sound.specs.Values.{NamesIntegers}

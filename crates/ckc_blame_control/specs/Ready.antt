@@ -1,6 +1,6 @@
 -- What comes next in a call, judged from a point that holds.
 use Rattle.std.specs.Prelude.{ℕ, Bool, true, false, List}
-use Rattle.ckc_bounds_statements.specs.Paths.{Here}
+use Rattle.ckc_blame_sound.specs.ckc_bounds_statements.specs.Paths.{Here}
 use Rattle.ckc_source.specs.Code.{Code, End, Break, Continue}
 use Rattle.ckc_source.specs.Eval.{Store}
 use Rattle.ckc_source.specs.States.{Work}

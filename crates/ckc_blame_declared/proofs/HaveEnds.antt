@@ -10,13 +10,13 @@ use Rattle.ckc_typed.specs.declared.typed.Typed.{Typed}
 use Rattle.ckc_typed.specs.Trees.{NotedDecl, NotedHead, NotedStmt}
 use Rattle.ckc_typed.specs.Types.{is_integer, is_integer_form, is_pointer, is_pointer_form}
 use Rattle.ckc_typed.specs.Constants.{size_of}
-use Rattle.ckc_bounds_points.specs.declared.frame.Bounds.{Bounds}
-use Rattle.ckc_bounds_points.specs.declared.frame.Bounds.TheVariants as bounds
-use Rattle.ckc_bounds_points.specs.declared.frame.Local.{Local}
-use Rattle.ckc_bounds_points.specs.Frames.{local_at}
-use Rattle.ckc_bounds_declared.specs.declared.limits.Holder.TheVariants as holder
-use Rattle.ckc_bounds.specs.Declarations.{types_in, declared_in}
-use Rattle.ckc_bounds.specs.Frames.{all_of, nameless}
+use Rattle.ckc_blame_sound.specs.ckc_bounds_points.specs.declared.frame.Bounds.{Bounds}
+use Rattle.ckc_blame_sound.specs.ckc_bounds_points.specs.declared.frame.Bounds.TheVariants as bounds
+use Rattle.ckc_blame_sound.specs.ckc_bounds_points.specs.declared.frame.Local.{Local}
+use Rattle.ckc_blame_sound.specs.ckc_bounds_points.specs.Frames.{local_at}
+use Rattle.ckc_blame_sound.specs.ckc_bounds_declared.specs.declared.limits.Holder.TheVariants as holder
+use Rattle.ckc_blame_sound.specs.ckc_bounds.specs.Declarations.{types_in, declared_in}
+use Rattle.ckc_blame_sound.specs.ckc_bounds.specs.Frames.{all_of, nameless}
 use Rattle.ckc_source.specs.Code.{Function}
 use Rattle.ckc_build_values.specs.Ends.{integer_in_variable}
 use Rattle.ckc_build_values.specs.Kinds.{integer_of, size_behind}

@@ -13,17 +13,17 @@ use Rattle.ckc_syntax.specs.declared.tree.Length.TheVariants as lengths
 use Rattle.ckc_typed.specs.declared.typed.Typed.{Typed}
 use Rattle.ckc_typed.specs.Trees.{NotedDecl, NotedHead, NotedStmt}
 use Rattle.ckc_typed.specs.Types.{type_written}
-use Rattle.ckc_bounds_points.specs.declared.frame.Bounds.{Bounds}
-use Rattle.ckc_bounds_points.specs.declared.frame.Bounds.TheVariants as bounds
-use Rattle.ckc_bounds_points.specs.declared.frame.Frame.{Frame}
-use Rattle.ckc_bounds_points.specs.declared.frame.Local.{Local}
-use Rattle.ckc_bounds_points.specs.Flow.{names_local, in_form, in_bounds}
-use Rattle.ckc_bounds_points.specs.Frames.{local_at}
-use Rattle.ckc_bounds_declared.specs.declared.limits.Holder.{Holder}
-use Rattle.ckc_bounds_declared.specs.declared.limits.Holder.TheVariants as holder
-use Rattle.ckc_bounds_declared.specs.Written.{own}
-use Rattle.ckc_bounds.specs.Declarations.{result_bounds, types_in, declared_in, head_bounds}
-use Rattle.ckc_bounds_statements.specs.Paths.{path}
+use Rattle.ckc_blame_sound.specs.ckc_bounds_points.specs.declared.frame.Bounds.{Bounds}
+use Rattle.ckc_blame_sound.specs.ckc_bounds_points.specs.declared.frame.Bounds.TheVariants as bounds
+use Rattle.ckc_blame_sound.specs.ckc_bounds_points.specs.declared.frame.Frame.{Frame}
+use Rattle.ckc_blame_sound.specs.ckc_bounds_points.specs.declared.frame.Local.{Local}
+use Rattle.ckc_blame_sound.specs.ckc_bounds_points.specs.Flow.{names_local, in_form, in_bounds}
+use Rattle.ckc_blame_sound.specs.ckc_bounds_points.specs.Frames.{local_at}
+use Rattle.ckc_blame_sound.specs.ckc_bounds_declared.specs.declared.limits.Holder.{Holder}
+use Rattle.ckc_blame_sound.specs.ckc_bounds_declared.specs.declared.limits.Holder.TheVariants as holder
+use Rattle.ckc_blame_sound.specs.ckc_bounds_declared.specs.Written.{own}
+use Rattle.ckc_blame_sound.specs.ckc_bounds.specs.Declarations.{result_bounds, types_in, declared_in, head_bounds}
+use Rattle.ckc_blame_sound.specs.ckc_bounds_statements.specs.Paths.{path}
 use Rattle.ckc_source.specs.Code.{Function}
 use Rattle.ckc_build_values.specs.Kinds.{size_behind}
 use Rattle.ckc_blame_sound.specs.Settings.{Setting, IsFunction, frame_of_text, setting_of}

@@ -32,17 +32,17 @@ use Rattle.ckc_typed.specs.Constants.{size_of, negated, limits_constant, node_co
 use Rattle.ckc_typed.specs.Amounts.{fixed, is_multiple, variable_in, number_of, number_in, negative, moved, or_amount, sum_amount, amount_in_form, amount_by, amount, scaled, amount_of_bytes}
 use Rattle.ckc_typed.specs.Layouts.{bounds_by, bounds_of, bare_structs, bounded_member, members_declared}
 use Rattle.ckc_typed_welltyped.specs.Noteless.{BareLimits, BareNode, BareExpr, limits_bared, node_bared, expr_bared, bare_limits, bare_node, bare_expr, bare_decl, bare_item, without_notes}
-use Rattle.ckc_bounds_points.specs.declared.frame.Bounds.{Bounds}
-use Rattle.ckc_bounds_points.specs.declared.frame.Frame.{Frame}
-use Rattle.ckc_bounds_points.specs.Codes.{bad_limits}
-use Rattle.ckc_bounds_points.specs.Forms.{moved_form, elements}
-use Rattle.ckc_bounds_points.specs.Shown.{is_within}
-use Rattle.ckc_bounds_declared.specs.declared.limits.Holder.TheVariants as holder
-use Rattle.ckc_bounds_declared.specs.Written.{own, is_integer_member, amount_with, amount_form, counted, bounds_written, takes_bounds, place_of_limits, bounds_declared}
-use Rattle.ckc_bounds_statements.specs.DeclBounds.{decl_bounds}
-use Rattle.ckc_bounds.specs.Declarations.{member_holder}
-use Rattle.ckc_bounds.specs.Frames.{text_frame}
-use Rattle.ckc_bounds.specs.Texts.{members_judged, item_judged, items_judged}
+use Rattle.ckc_blame_sound.specs.ckc_bounds_points.specs.declared.frame.Bounds.{Bounds}
+use Rattle.ckc_blame_sound.specs.ckc_bounds_points.specs.declared.frame.Frame.{Frame}
+use Rattle.ckc_blame_sound.specs.ckc_bounds_points.specs.Codes.{bad_limits}
+use Rattle.ckc_blame_sound.specs.ckc_bounds_points.specs.Forms.{moved_form, elements}
+use Rattle.ckc_blame_sound.specs.ckc_bounds_points.specs.Shown.{is_within}
+use Rattle.ckc_blame_sound.specs.ckc_bounds_declared.specs.declared.limits.Holder.TheVariants as holder
+use Rattle.ckc_blame_sound.specs.ckc_bounds_declared.specs.Written.{own, is_integer_member, amount_with, amount_form, counted, bounds_written, takes_bounds, place_of_limits, bounds_declared}
+use Rattle.ckc_blame_sound.specs.ckc_bounds_statements.specs.DeclBounds.{decl_bounds}
+use Rattle.ckc_blame_sound.specs.ckc_bounds.specs.Declarations.{member_holder}
+use Rattle.ckc_blame_sound.specs.ckc_bounds.specs.Frames.{text_frame}
+use Rattle.ckc_blame_sound.specs.ckc_bounds.specs.Texts.{members_judged, item_judged, items_judged}
 use Rattle.ckc_blame_sound.specs.Elements.{NameIntegerMembers}
 use Rattle.ckc_blame_sound.specs.JudgedTexts.{IsJudged}
 use Rattle.ckc_blame_sound.proofs.Bounded.{is_bounded, anything}

@@ -18,15 +18,15 @@ use Rattle.ckc_typed.specs.Amounts.{amount}
 use Rattle.ckc_typed.specs.Constants.{size_of}
 use Rattle.ckc_typed.specs.Trees.{NotedLimits, NotedNode, NotedExpr}
 use Rattle.ckc_typed.specs.Types.{element_of}
-use Rattle.ckc_bounds_points.specs.declared.frame.Bounds.{Bounds}
-use Rattle.ckc_bounds_points.specs.declared.frame.Frame.{Frame}
-use Rattle.ckc_bounds_points.specs.Codes.{bad_limits}
-use Rattle.ckc_bounds_points.specs.Forms.{constant_form, moved_form, sum_of_forms, elements}
-use Rattle.ckc_bounds_points.specs.Frames.{local_at, variable_of, variable}
-use Rattle.ckc_bounds_points.specs.Shown.{is_within}
-use Rattle.ckc_bounds_declared.specs.declared.limits.Holder.{Holder}
-use Rattle.ckc_bounds_declared.specs.declared.limits.Holder.TheVariants as holder
-use Rattle.ckc_bounds_declared.specs.Written.{own, variable_for, member_variable, amount_with, amount_form, counted, local_base, array_base, named_base, bound_with, bound, node_pieces, known_between, takes_ends, bounds_written, takes_bounds, place_of_limits, bounds_taken, bounds_declared}
+use Rattle.ckc_blame_sound.specs.ckc_bounds_points.specs.declared.frame.Bounds.{Bounds}
+use Rattle.ckc_blame_sound.specs.ckc_bounds_points.specs.declared.frame.Frame.{Frame}
+use Rattle.ckc_blame_sound.specs.ckc_bounds_points.specs.Codes.{bad_limits}
+use Rattle.ckc_blame_sound.specs.ckc_bounds_points.specs.Forms.{constant_form, moved_form, sum_of_forms, elements}
+use Rattle.ckc_blame_sound.specs.ckc_bounds_points.specs.Frames.{local_at, variable_of, variable}
+use Rattle.ckc_blame_sound.specs.ckc_bounds_points.specs.Shown.{is_within}
+use Rattle.ckc_blame_sound.specs.ckc_bounds_declared.specs.declared.limits.Holder.{Holder}
+use Rattle.ckc_blame_sound.specs.ckc_bounds_declared.specs.declared.limits.Holder.TheVariants as holder
+use Rattle.ckc_blame_sound.specs.ckc_bounds_declared.specs.Written.{own, variable_for, member_variable, amount_with, amount_form, counted, local_base, array_base, named_base, bound_with, bound, node_pieces, known_between, takes_ends, bounds_written, takes_bounds, place_of_limits, bounds_taken, bounds_declared}
 
 -- What there is stays.
 abbrev pub Stays : {A : Type 0} → Option A → Option A → Type 0

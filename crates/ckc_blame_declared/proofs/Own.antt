@@ -22,19 +22,19 @@ use Rattle.ckc_typed.specs.Amounts.{amount}
 use Rattle.ckc_typed.specs.Constants.{size_of}
 use Rattle.ckc_typed.specs.Trees.{NotedDecl, NotedHead, NotedStmt, NotedItem, NotedLimits, NotedNode, NotedExpr, NotedLayer}
 use Rattle.ckc_typed.specs.Types.{element_of, kind_of, type_written}
-use Rattle.ckc_bounds_points.specs.declared.frame.Bounds.{Bounds}
-use Rattle.ckc_bounds_points.specs.declared.frame.Bounds.TheVariants as bounds
-use Rattle.ckc_bounds_points.specs.declared.frame.Frame.{Frame}
-use Rattle.ckc_bounds_points.specs.Codes.{bad_limits}
-use Rattle.ckc_bounds_points.specs.Forms.{elements}
-use Rattle.ckc_bounds_declared.specs.declared.limits.Holder.TheVariants as holder
-use Rattle.ckc_bounds_declared.specs.Written.{amount_form, counted, bounds_written, takes_bounds, bounds_of_kind, bounds_by_type, place_of_limits, bounds_declared}
-use Rattle.ckc_bounds_stores.specs.Targets.{bounds_by_member, written_there, object_named, written_in, bounds_by, memory_bounds}
-use Rattle.ckc_bounds_views.specs.declared.variables.Member.{Member}
-use Rattle.ckc_bounds_views.specs.Fresh.{member_bounds}
-use Rattle.ckc_bounds_views.specs.Views.{view}
-use Rattle.ckc_bounds.specs.Declarations.{object_bounds, object_bounds_in, objects_of}
-use Rattle.ckc_bounds.specs.Frames.{structs_frame}
+use Rattle.ckc_blame_sound.specs.ckc_bounds_points.specs.declared.frame.Bounds.{Bounds}
+use Rattle.ckc_blame_sound.specs.ckc_bounds_points.specs.declared.frame.Bounds.TheVariants as bounds
+use Rattle.ckc_blame_sound.specs.ckc_bounds_points.specs.declared.frame.Frame.{Frame}
+use Rattle.ckc_blame_sound.specs.ckc_bounds_points.specs.Codes.{bad_limits}
+use Rattle.ckc_blame_sound.specs.ckc_bounds_points.specs.Forms.{elements}
+use Rattle.ckc_blame_sound.specs.ckc_bounds_declared.specs.declared.limits.Holder.TheVariants as holder
+use Rattle.ckc_blame_sound.specs.ckc_bounds_declared.specs.Written.{amount_form, counted, bounds_written, takes_bounds, bounds_of_kind, bounds_by_type, place_of_limits, bounds_declared}
+use Rattle.ckc_blame_sound.specs.ckc_bounds_stores.specs.Targets.{bounds_by_member, written_there, object_named, written_in, bounds_by, memory_bounds}
+use Rattle.ckc_blame_sound.specs.ckc_bounds_views.specs.declared.variables.Member.{Member}
+use Rattle.ckc_blame_sound.specs.ckc_bounds_views.specs.Fresh.{member_bounds}
+use Rattle.ckc_blame_sound.specs.ckc_bounds_views.specs.Views.{view}
+use Rattle.ckc_blame_sound.specs.ckc_bounds.specs.Declarations.{object_bounds, object_bounds_in, objects_of}
+use Rattle.ckc_blame_sound.specs.ckc_bounds.specs.Frames.{structs_frame}
 use Rattle.ckc_source.specs.Code.{Function}
 use Rattle.ckc_source.specs.declared.expr.Count.{Count}
 use Rattle.ckc_build_values.specs.Kinds.{count_of_kind}

@@ -14,15 +14,15 @@ use Rattle.ckc_typed.specs.declared.typed.Typed.{Typed}
 use Rattle.ckc_typed.specs.Environment.{variables_of}
 use Rattle.ckc_typed.specs.Trees.{NotedDecl, NotedHead, NotedStmt, NotedItem}
 use Rattle.ckc_typed.specs.Types.{type_written}
-use Rattle.ckc_bounds_points.specs.declared.frame.Bounds.{Bounds}
-use Rattle.ckc_bounds_points.specs.declared.frame.Frame.{Frame}
-use Rattle.ckc_bounds_points.specs.declared.frame.Local.{Local}
-use Rattle.ckc_bounds_declared.specs.declared.limits.Holder.TheVariants as holder
-use Rattle.ckc_bounds_statements.specs.DeclBounds.{holder_of, decl_bounds, bounds_there}
-use Rattle.ckc_bounds_statements.specs.Paths.{path}
-use Rattle.ckc_bounds.specs.Declarations.{member_holder, each, few_of, known_or_not, local_made, with_all, types_in, declared_in, head_judged, result_bounds}
-use Rattle.ckc_bounds.specs.Frames.{all_of}
-use Rattle.ckc_bounds.specs.Texts.{members_judged, object_judged, body_judged, head_kept, item_judged, items_judged}
+use Rattle.ckc_blame_sound.specs.ckc_bounds_points.specs.declared.frame.Bounds.{Bounds}
+use Rattle.ckc_blame_sound.specs.ckc_bounds_points.specs.declared.frame.Frame.{Frame}
+use Rattle.ckc_blame_sound.specs.ckc_bounds_points.specs.declared.frame.Local.{Local}
+use Rattle.ckc_blame_sound.specs.ckc_bounds_declared.specs.declared.limits.Holder.TheVariants as holder
+use Rattle.ckc_blame_sound.specs.ckc_bounds_statements.specs.DeclBounds.{holder_of, decl_bounds, bounds_there}
+use Rattle.ckc_blame_sound.specs.ckc_bounds_statements.specs.Paths.{path}
+use Rattle.ckc_blame_sound.specs.ckc_bounds.specs.Declarations.{member_holder, each, few_of, known_or_not, local_made, with_all, types_in, declared_in, head_judged, result_bounds}
+use Rattle.ckc_blame_sound.specs.ckc_bounds.specs.Frames.{all_of}
+use Rattle.ckc_blame_sound.specs.ckc_bounds.specs.Texts.{members_judged, object_judged, body_judged, head_kept, item_judged, items_judged}
 use Rattle.ckc_source.specs.Code.{Function}
 use Rattle.ckc_blame_sound.specs.Settings.{Setting, IsFunction, frame_of_text, setting_of}
 use Rattle.ckc_blame_sound.specs.Passed.{AreParameters}

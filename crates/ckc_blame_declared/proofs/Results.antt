@@ -31,17 +31,17 @@ use Rattle.ckc_typed.specs.Operands.{same_element}
 use Rattle.ckc_typed.specs.Trees.{NotedDecl, NotedHead, NotedStmt, NotedLimits, NotedNode, NotedExpr, NotedLayer}
 use Rattle.ckc_typed.specs.Types.{is_integer, kind_of, type_written}
 use Rattle.ckc_typed.specs.Environment.{variables_of}
-use Rattle.ckc_bounds_points.specs.declared.frame.Bounds.{Bounds}
-use Rattle.ckc_bounds_points.specs.declared.frame.Bounds.TheVariants as bounds
-use Rattle.ckc_bounds_points.specs.declared.frame.Local.{Local}
-use Rattle.ckc_bounds_points.specs.Codes.{bad_limits}
-use Rattle.ckc_bounds_points.specs.declared.frame.Frame.{Frame}
-use Rattle.ckc_bounds_points.specs.Forms.{is_small, constant_form, moved_form, sum_of_forms, base_form, elements_of, elements}
-use Rattle.ckc_bounds_points.specs.Frames.{local_at, variable_of}
-use Rattle.ckc_bounds_points.specs.Shown.{is_within}
-use Rattle.ckc_bounds_declared.specs.declared.limits.Holder.TheVariants as holder
-use Rattle.ckc_bounds_declared.specs.Written.{variable_for, amount_with, amount_form, is_checked, local_base, is_element, array_base, named_base, named_pieces, negative_amount, node_pieces, sum_pieces, bound_with, bound, counted, known_between, bounds_written, takes_bounds, bounds_of_kind, place_of_limits, bounds_declared}
-use Rattle.ckc_bounds.specs.Declarations.{types_in, result_bounds}
+use Rattle.ckc_blame_sound.specs.ckc_bounds_points.specs.declared.frame.Bounds.{Bounds}
+use Rattle.ckc_blame_sound.specs.ckc_bounds_points.specs.declared.frame.Bounds.TheVariants as bounds
+use Rattle.ckc_blame_sound.specs.ckc_bounds_points.specs.declared.frame.Local.{Local}
+use Rattle.ckc_blame_sound.specs.ckc_bounds_points.specs.Codes.{bad_limits}
+use Rattle.ckc_blame_sound.specs.ckc_bounds_points.specs.declared.frame.Frame.{Frame}
+use Rattle.ckc_blame_sound.specs.ckc_bounds_points.specs.Forms.{is_small, constant_form, moved_form, sum_of_forms, base_form, elements_of, elements}
+use Rattle.ckc_blame_sound.specs.ckc_bounds_points.specs.Frames.{local_at, variable_of}
+use Rattle.ckc_blame_sound.specs.ckc_bounds_points.specs.Shown.{is_within}
+use Rattle.ckc_blame_sound.specs.ckc_bounds_declared.specs.declared.limits.Holder.TheVariants as holder
+use Rattle.ckc_blame_sound.specs.ckc_bounds_declared.specs.Written.{variable_for, amount_with, amount_form, is_checked, local_base, is_element, array_base, named_base, named_pieces, negative_amount, node_pieces, sum_pieces, bound_with, bound, counted, known_between, bounds_written, takes_bounds, bounds_of_kind, place_of_limits, bounds_declared}
+use Rattle.ckc_blame_sound.specs.ckc_bounds.specs.Declarations.{types_in, result_bounds}
 use Rattle.ckc_source.specs.declared.expr.Base as ends
 use Rattle.ckc_source.specs.declared.expr.Base.TheVariants as lies
 use Rattle.ckc_source.specs.declared.expr.End.{End}

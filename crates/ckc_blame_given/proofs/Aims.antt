@@ -19,14 +19,14 @@ use Rattle.ckc_typed.specs.Operands.{dot_type}
 use Rattle.ckc_typed.specs.Statics.{strings_of_expr}
 use Rattle.ckc_typed.specs.Trees.{NotedExpr, NotedLayer}
 use Rattle.ckc_typed.specs.Types.{is_scalar, element_of}
-use Rattle.ckc_bounds_declared.specs.Written.{bounds_by_type}
-use Rattle.ckc_bounds_views.specs.declared.variables.Member.{Member}
-use Rattle.ckc_bounds_views.specs.Fresh.{member_in, member_of_node}
-use Rattle.ckc_bounds_views.specs.Parts.{View}
-use Rattle.ckc_bounds_views.specs.Views.{view}
-use Rattle.ckc_bounds_statements.specs.Paths.{Here}
-use Rattle.ckc_bounds_stores.specs.Stores.{Placed}
-use Rattle.ckc_bounds_stores.specs.Targets.{local_in, local_of, written_in, bounds_by, memory_bounds}
+use Rattle.ckc_blame_sound.specs.ckc_bounds_declared.specs.Written.{bounds_by_type}
+use Rattle.ckc_blame_sound.specs.ckc_bounds_views.specs.declared.variables.Member.{Member}
+use Rattle.ckc_blame_sound.specs.ckc_bounds_views.specs.Fresh.{member_in, member_of_node}
+use Rattle.ckc_blame_sound.specs.ckc_bounds_views.specs.Parts.{View}
+use Rattle.ckc_blame_sound.specs.ckc_bounds_views.specs.Views.{view}
+use Rattle.ckc_blame_sound.specs.ckc_bounds_statements.specs.Paths.{Here}
+use Rattle.ckc_blame_sound.specs.ckc_bounds_stores.specs.Stores.{Placed}
+use Rattle.ckc_blame_sound.specs.ckc_bounds_stores.specs.Targets.{local_in, local_of, written_in, bounds_by, memory_bounds}
 use Rattle.ckc_source.specs.declared.expr.Access.{Access}
 use Rattle.ckc_source.specs.declared.outcome.Halt.{Halt}
 use Rattle.ckc_source.specs.declared.outcome.Halt.TheVariants as halt

@@ -11,12 +11,12 @@ use Rattle.ckc_syntax.specs.declared.tree.Node.{Node-F, out-Node, fold-roll-Node
 use Rattle.ckc_syntax.specs.declared.tree.Act.{Act-F, out-Act}
 use Rattle.ckc_typed.specs.declared.typed.Note.{Note}
 use Rattle.ckc_typed.specs.Trees.{NotedAct, NotedExpr, NotedLayer, NotedNode, NotedStmt}
-use Rattle.ckc_bounds_points.specs.declared.frame.Frame.{Frame}
-use Rattle.ckc_bounds_points.specs.Flow.{State}
-use Rattle.ckc_bounds_known.proofs.Reaching.{and_cases}
-use Rattle.ckc_bounds_ranges.specs.Bundles.{local_target, Mention, limits_mention, node_mention, expr_mention, mention_of_node, mention, is_call, is_in_the_way, may_follow, names_earlier, target_behind, target_in, and_rest, all_follow}
-use Rattle.ckc_bounds_stores.specs.Targets.{local_in, local_of}
-use Rattle.ckc_bounds_stores.specs.Stores.{Placed, with_store, stores_of, numbered}
+use Rattle.ckc_blame_sound.specs.ckc_bounds_points.specs.declared.frame.Frame.{Frame}
+use Rattle.ckc_blame_sound.specs.ckc_bounds_points.specs.Flow.{State}
+use Rattle.ckc_blame_sound.specs.ckc_bounds_known.proofs.Reaching.{and_cases}
+use Rattle.ckc_blame_sound.specs.ckc_bounds_ranges.specs.Bundles.{local_target, Mention, limits_mention, node_mention, expr_mention, mention_of_node, mention, is_call, is_in_the_way, may_follow, names_earlier, target_behind, target_in, and_rest, all_follow}
+use Rattle.ckc_blame_sound.specs.ckc_bounds_stores.specs.Targets.{local_in, local_of}
+use Rattle.ckc_blame_sound.specs.ckc_bounds_stores.specs.Stores.{Placed, with_store, stores_of, numbered}
 use Rattle.ckc_blame_sound.proofs.Types.{some_is, none_is_some}
 use Rattle.ckc_blame_sound.proofs.Tests.{left_of, right_of}
 use Rattle.ckc_blame_given.specs.Written.{AreOne}

@@ -6,12 +6,12 @@ use Rattle.std.proofs.lemmas.Bool.{eqb-true, eq-eqb}
 use Rattle.std.proofs.lemmas.List.{get_or-set_same, get_or-set_other}
 use Rattle.std.proofs.lemmas.List.Elements.{All-head, All-tail, All-weaker, All-contains_itself}
 use Rattle.ckc_base.specs.Memory.{kept_part}
-use Rattle.ckc_bounds_points.specs.declared.frame.Bounds.{Bounds}
-use Rattle.ckc_bounds_points.specs.Codes.{lost_bounds}
-use Rattle.ckc_bounds_points.specs.Frames.{local_at}
-use Rattle.ckc_bounds_points.specs.Flow.{State, in_bounds}
-use Rattle.ckc_bounds_stores.specs.Targets.{local_of}
-use Rattle.ckc_bounds_stores.specs.Stores.{Placed, assigns, assigns_local, store_fault, target_fault_of}
+use Rattle.ckc_blame_sound.specs.ckc_bounds_points.specs.declared.frame.Bounds.{Bounds}
+use Rattle.ckc_blame_sound.specs.ckc_bounds_points.specs.Codes.{lost_bounds}
+use Rattle.ckc_blame_sound.specs.ckc_bounds_points.specs.Frames.{local_at}
+use Rattle.ckc_blame_sound.specs.ckc_bounds_points.specs.Flow.{State, in_bounds}
+use Rattle.ckc_blame_sound.specs.ckc_bounds_stores.specs.Targets.{local_of}
+use Rattle.ckc_blame_sound.specs.ckc_bounds_stores.specs.Stores.{Placed, assigns, assigns_local, store_fault, target_fault_of}
 use Rattle.ckc_source.specs.declared.outcome.Place.{Place}
 use Rattle.ckc_source.specs.Eval.{Store}
 use Rattle.ckc_source.specs.Steps.{Write}

@@ -12,13 +12,13 @@ use Rattle.ckc_syntax.specs.declared.tree.Init.TheVariants as init
 use Rattle.ckc_types.specs.declared.types.CType.{CType}
 use Rattle.ckc_typed.specs.Trees.{NotedDecl, NotedExpr, NotedInit}
 use Rattle.ckc_typed.specs.Types.{is_integer, type_written}
-use Rattle.ckc_bounds_points.specs.declared.frame.Local.{Local}
-use Rattle.ckc_bounds_points.specs.Codes.{not_contained}
-use Rattle.ckc_bounds_points.specs.Flow.{State, in_bounds, assigned}
-use Rattle.ckc_bounds_views.specs.Parts.{fresh_behind}
-use Rattle.ckc_bounds_views.specs.Views.{view}
-use Rattle.ckc_bounds_stores.specs.Stores.{initialised}
-use Rattle.ckc_bounds_statements.specs.Paths.{Here, expr_judged, value_judged, values_judged, init_judged, local_in, starts_within, value_form, start_form, started, declared_here, bounds_judged, decl_judged}
+use Rattle.ckc_blame_sound.specs.ckc_bounds_points.specs.declared.frame.Local.{Local}
+use Rattle.ckc_blame_sound.specs.ckc_bounds_points.specs.Codes.{not_contained}
+use Rattle.ckc_blame_sound.specs.ckc_bounds_points.specs.Flow.{State, in_bounds, assigned}
+use Rattle.ckc_blame_sound.specs.ckc_bounds_views.specs.Parts.{fresh_behind}
+use Rattle.ckc_blame_sound.specs.ckc_bounds_views.specs.Views.{view}
+use Rattle.ckc_blame_sound.specs.ckc_bounds_stores.specs.Stores.{initialised}
+use Rattle.ckc_blame_sound.specs.ckc_bounds_statements.specs.Paths.{Here, expr_judged, value_judged, values_judged, init_judged, local_in, starts_within, value_form, start_form, started, declared_here, bounds_judged, decl_judged}
 use Rattle.ckc_source.specs.declared.expr.Integer.{Integer}
 use Rattle.ckc_source.specs.declared.expr.Integer.TheVariants.{Int, Unsigned, Char}
 use Rattle.ckc_source.specs.Eval.{Store}
@@ -27,7 +27,7 @@ use Rattle.ckc_build_values.specs.Kinds.{width_of, integer_of}
 use Rattle.ckc_blame_sound.specs.Settings.{Setting}
 use Rattle.ckc_blame_sound.specs.Values.{value, value_in, number_of, AreTrue, HoldWords}
 use Rattle.ckc_blame_sound.specs.Points.{IsReadable, AreBounded, HoldsAt}
-use Rattle.ckc_bounds_ranges.specs.Rows.{range_by}
+use Rattle.ckc_blame_sound.specs.ckc_bounds_ranges.specs.Rows.{range_by}
 use Rattle.ckc_blame_sound.specs.Sound.{IsPlaced}
 use Rattle.ckc_blame_sound.proofs.Flow.{facts_assigned_hold, integer_value}
 use Rattle.ckc_blame_sound.proofs.Statements.{made_of, pair_same}

@@ -5,9 +5,9 @@ use Rattle.ckc_types.specs.declared.types.CType.{CType}
 use Rattle.ckc_typed.specs.declared.typed.Range.{Range}
 use Rattle.ckc_typed.specs.declared.typed.Range.TheVariants as range
 use Rattle.ckc_typed.specs.Trees.{NotedExpr}
-use Rattle.ckc_bounds_points.specs.declared.frame.Frame.{Frame}
-use Rattle.ckc_bounds_points.specs.Flow.{State}
-use Rattle.ckc_bounds_stores.specs.declared.values.Numbered.{Numbered}
+use Rattle.ckc_blame_sound.specs.ckc_bounds_points.specs.declared.frame.Frame.{Frame}
+use Rattle.ckc_blame_sound.specs.ckc_bounds_points.specs.Flow.{State}
+use Rattle.ckc_blame_sound.specs.ckc_bounds_stores.specs.declared.values.Numbered.{Numbered}
 use Rattle.ckc_source.specs.declared.expr.Pointee.{Pointee}
 use Rattle.ckc_source.specs.declared.outcome.Halt.{Halt}
 use Rattle.ckc_source.specs.declared.outcome.Value.{Value}

@@ -1,9 +1,9 @@
 -- A target stays one when blocks are made.
 use Rattle.std.proofs.Common.{◌≡◌, sym, subst, ℕ, List, ◌++◌}
 use Rattle.std.specs.Prelude.{Option, None, Some, is_some, slice_get}
-use Rattle.ckc_bounds_views.specs.Views.{view}
-use Rattle.ckc_bounds_stores.specs.Stores.{Placed}
-use Rattle.ckc_bounds_stores.specs.Targets.{local_of}
+use Rattle.ckc_blame_sound.specs.ckc_bounds_views.specs.Views.{view}
+use Rattle.ckc_blame_sound.specs.ckc_bounds_stores.specs.Stores.{Placed}
+use Rattle.ckc_blame_sound.specs.ckc_bounds_stores.specs.Targets.{local_of}
 use Rattle.ckc_types.specs.declared.types.Structs.{Structs}
 use Rattle.ckc_source.specs.declared.outcome.Place.{Place}
 use Rattle.ckc_source.specs.declared.outcome.Place.TheVariants as place

@@ -24,13 +24,13 @@ use Rattle.ckc_typed.specs.Statics.{strings_of_expr}
 use Rattle.ckc_typed.specs.Trees.{NotedLimits, NotedNode, NotedExpr, NotedLayer}
 use Rattle.ckc_typed.specs.Types.{is_pointer, element_of, kind_of}
 use Rattle.ckc_typed_welltyped.specs.Expressions.{AnyLimits, AnyNode}
-use Rattle.ckc_bounds_points.specs.Flow.{State}
-use Rattle.ckc_bounds_points.specs.Forms.{base_form, constant_form}
-use Rattle.ckc_bounds_points.specs.Shown.{Known}
-use Rattle.ckc_bounds_ranges.specs.Rows.{range_from}
-use Rattle.ckc_bounds_views.specs.Parts.{View, capped}
-use Rattle.ckc_bounds_views.specs.Views.{view}
-use Rattle.ckc_bounds_statements.specs.Paths.{Here}
+use Rattle.ckc_blame_sound.specs.ckc_bounds_points.specs.Flow.{State}
+use Rattle.ckc_blame_sound.specs.ckc_bounds_points.specs.Forms.{base_form, constant_form}
+use Rattle.ckc_blame_sound.specs.ckc_bounds_points.specs.Shown.{Known}
+use Rattle.ckc_blame_sound.specs.ckc_bounds_ranges.specs.Rows.{range_from}
+use Rattle.ckc_blame_sound.specs.ckc_bounds_views.specs.Parts.{View, capped}
+use Rattle.ckc_blame_sound.specs.ckc_bounds_views.specs.Views.{view}
+use Rattle.ckc_blame_sound.specs.ckc_bounds_statements.specs.Paths.{Here}
 use Rattle.ckc_source.specs.declared.expr.Pointee.{Pointee}
 use Rattle.ckc_source.specs.declared.outcome.Value.{Value}
 use Rattle.ckc_source.specs.Code.{Array}

@@ -3,13 +3,13 @@ use Rattle.std.proofs.Common.{◌≡◌, inl, inr, refl, sym, ap, subst, ◌∙�
 use Rattle.std.specs.Prelude.{slice_index, Option, None, Some, Ok}
 use Rattle.std.specs.List.{All, Contains, find}
 use Rattle.std.proofs.lemmas.List.Elements.{All-nil, All-head, All-tail, All-weaker, All-contains_itself}
-use Rattle.ckc_bounds_points.specs.Frames.{local_at}
-use Rattle.ckc_bounds_points.specs.Flow.{State}
-use Rattle.ckc_bounds_views.specs.declared.variables.Member.{Member}
-use Rattle.ckc_bounds_views.specs.Views.{view}
-use Rattle.ckc_bounds_stores.specs.Targets.{local_of}
-use Rattle.ckc_bounds_stores.specs.Stores.{Placed, assigns_local, after, stored_placed}
-use Rattle.ckc_bounds_statements.specs.Paths.{Here}
+use Rattle.ckc_blame_sound.specs.ckc_bounds_points.specs.Frames.{local_at}
+use Rattle.ckc_blame_sound.specs.ckc_bounds_points.specs.Flow.{State}
+use Rattle.ckc_blame_sound.specs.ckc_bounds_views.specs.declared.variables.Member.{Member}
+use Rattle.ckc_blame_sound.specs.ckc_bounds_views.specs.Views.{view}
+use Rattle.ckc_blame_sound.specs.ckc_bounds_stores.specs.Targets.{local_of}
+use Rattle.ckc_blame_sound.specs.ckc_bounds_stores.specs.Stores.{Placed, assigns_local, after, stored_placed}
+use Rattle.ckc_blame_sound.specs.ckc_bounds_statements.specs.Paths.{Here}
 use Rattle.ckc_source.specs.declared.outcome.Place.{Place}
 use Rattle.ckc_source.specs.declared.program.Shape.{Shape}
 use Rattle.ckc_source.specs.Eval.{Store, given}

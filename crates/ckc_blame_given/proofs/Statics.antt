@@ -8,10 +8,10 @@ use Rattle.ckc_types.specs.declared.types.CType.{CType, CType-F, out-CType}
 use Rattle.ckc_syntax.specs.declared.tree.Name.TheVariants as name
 use Rattle.ckc_typed.specs.Operands.{dot_type}
 use Rattle.ckc_typed.specs.Types.{is_scalar}
-use Rattle.ckc_bounds_views.specs.declared.variables.Member.{Member}
-use Rattle.ckc_bounds_views.specs.Views.{view}
-use Rattle.ckc_bounds_stores.specs.Stores.{Placed}
-use Rattle.ckc_bounds_stores.specs.Targets.{local_of, memory_bounds}
+use Rattle.ckc_blame_sound.specs.ckc_bounds_views.specs.declared.variables.Member.{Member}
+use Rattle.ckc_blame_sound.specs.ckc_bounds_views.specs.Views.{view}
+use Rattle.ckc_blame_sound.specs.ckc_bounds_stores.specs.Stores.{Placed}
+use Rattle.ckc_blame_sound.specs.ckc_bounds_stores.specs.Targets.{local_of, memory_bounds}
 use Rattle.ckc_source.specs.declared.expr.Access.{Access}
 use Rattle.ckc_source.specs.declared.expr.Count.{Count}
 use Rattle.ckc_source.specs.declared.outcome.Place.TheVariants as place

@@ -9,13 +9,13 @@ use Rattle.ckc_syntax.specs.declared.tree.Act.TheVariants as act
 use Rattle.ckc_syntax.specs.declared.tree.Stmt.{fold-roll-Stmt}
 use Rattle.ckc_typed.specs.declared.typed.Note.{Note}
 use Rattle.ckc_typed.specs.Trees.{NotedExpr, NotedStmt}
-use Rattle.ckc_bounds_points.specs.Codes.{bad_bundle}
-use Rattle.ckc_bounds_points.specs.Flow.{State}
-use Rattle.ckc_bounds_ranges.specs.Bundles.{is_bundle}
-use Rattle.ckc_bounds_views.specs.Parts.{fresh_behind}
-use Rattle.ckc_bounds_views.specs.Views.{view}
-use Rattle.ckc_bounds_stores.specs.Stores.{stores_of, stored, passed as passed_stores}
-use Rattle.ckc_bounds_statements.specs.Paths.{Here, Path, ActPath, expr_judged, value_judged, sides_judged, stated, stores_judged, behind_stores, assign_judged, act_judged, act_part, parts_judged, is_good, bundle_judged, act_path, stmt_path, path_of_act, path}
+use Rattle.ckc_blame_sound.specs.ckc_bounds_points.specs.Codes.{bad_bundle}
+use Rattle.ckc_blame_sound.specs.ckc_bounds_points.specs.Flow.{State}
+use Rattle.ckc_blame_sound.specs.ckc_bounds_ranges.specs.Bundles.{is_bundle}
+use Rattle.ckc_blame_sound.specs.ckc_bounds_views.specs.Parts.{fresh_behind}
+use Rattle.ckc_blame_sound.specs.ckc_bounds_views.specs.Views.{view}
+use Rattle.ckc_blame_sound.specs.ckc_bounds_stores.specs.Stores.{stores_of, stored, passed as passed_stores}
+use Rattle.ckc_blame_sound.specs.ckc_bounds_statements.specs.Paths.{Here, Path, ActPath, expr_judged, value_judged, sides_judged, stated, stores_judged, behind_stores, assign_judged, act_judged, act_part, parts_judged, is_good, bundle_judged, act_path, stmt_path, path_of_act, path}
 use Rattle.ckc_blame_sound.specs.Settings.{Setting}
 use Rattle.ckc_blame_sound.proofs.Statements.{made_of, pair_same}
 use Rattle.ckc_blame_sound.proofs.Stepping.{ActLayer, viewed, act_back, judged_is, out_bundle}

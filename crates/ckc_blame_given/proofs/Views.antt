@@ -11,14 +11,14 @@ use Rattle.ckc_typed.specs.Conversions.{is_null_form, is_null, is_string_form, i
 use Rattle.ckc_typed.specs.Trees.{NotedLimits, NotedNode, NotedExpr, NotedLayer}
 use Rattle.ckc_typed.specs.Types.{is_pointer}
 use Rattle.ckc_linear.specs.declared.forms.Form.{Form}
-use Rattle.ckc_bounds_points.specs.declared.frame.Frame.{Frame}
-use Rattle.ckc_bounds_points.specs.Flow.{State}
-use Rattle.ckc_bounds_points.specs.Shown.{Known}
-use Rattle.ckc_bounds_views.specs.Integers.{null_node}
-use Rattle.ckc_bounds_views.specs.Parts.{LimitsView, View, NodeView, NodeOfViews}
-use Rattle.ckc_bounds_views.specs.Places.{own_place}
-use Rattle.ckc_bounds_views.specs.Ranges.{own_numbers, pointer_range}
-use Rattle.ckc_bounds_views.specs.Views.{allocates_node, limits_view, node_view, expr_view, view_of_limits, view_of_node, view}
+use Rattle.ckc_blame_sound.specs.ckc_bounds_points.specs.declared.frame.Frame.{Frame}
+use Rattle.ckc_blame_sound.specs.ckc_bounds_points.specs.Flow.{State}
+use Rattle.ckc_blame_sound.specs.ckc_bounds_points.specs.Shown.{Known}
+use Rattle.ckc_blame_sound.specs.ckc_bounds_views.specs.Integers.{null_node}
+use Rattle.ckc_blame_sound.specs.ckc_bounds_views.specs.Parts.{LimitsView, View, NodeView, NodeOfViews}
+use Rattle.ckc_blame_sound.specs.ckc_bounds_views.specs.Places.{own_place}
+use Rattle.ckc_blame_sound.specs.ckc_bounds_views.specs.Ranges.{own_numbers, pointer_range}
+use Rattle.ckc_blame_sound.specs.ckc_bounds_views.specs.Views.{allocates_node, limits_view, node_view, expr_view, view_of_limits, view_of_node, view}
 
 pub node_back : (n : NotedNode) → roll-Node Name Note (out-Node Name Note n) ≡ n
 node_back n = search (rules, node_lemmas)

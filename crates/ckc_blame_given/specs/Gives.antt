@@ -4,12 +4,12 @@ use Rattle.ckc_linear.specs.declared.forms.Base.TheVariants as base
 use Rattle.ckc_linear.specs.declared.forms.Form.{Form}
 use Rattle.ckc_typed.specs.Conversions.{is_string}
 use Rattle.ckc_typed.specs.Trees.{NotedExpr}
-use Rattle.ckc_bounds_points.specs.Shown.{Known}
-use Rattle.ckc_bounds_points.specs.Flow.{State}
-use Rattle.ckc_bounds_views.specs.Parts.{capped, fresh_behind}
-use Rattle.ckc_bounds_views.specs.Views.{view}
-use Rattle.ckc_bounds_stores.specs.declared.values.Numbered.{Numbered}
-use Rattle.ckc_bounds_stores.specs.Values.{narrow}
+use Rattle.ckc_blame_sound.specs.ckc_bounds_points.specs.Shown.{Known}
+use Rattle.ckc_blame_sound.specs.ckc_bounds_points.specs.Flow.{State}
+use Rattle.ckc_blame_sound.specs.ckc_bounds_views.specs.Parts.{capped, fresh_behind}
+use Rattle.ckc_blame_sound.specs.ckc_bounds_views.specs.Views.{view}
+use Rattle.ckc_blame_sound.specs.ckc_bounds_stores.specs.declared.values.Numbered.{Numbered}
+use Rattle.ckc_blame_sound.specs.ckc_bounds_stores.specs.Values.{narrow}
 use Rattle.ckc_source.specs.Eval.{Store}
 use Rattle.ckc_source.specs.Words.{exact}
 use Rattle.ckc_build_values.specs.Kinds.{integer_of, size_behind}

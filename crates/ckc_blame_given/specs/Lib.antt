@@ -5,3 +5,4 @@ pub mod Targets
 pub mod Together
 pub mod Written
 pub mod Stored
+pub use Rattle.ckc_blame_pointers

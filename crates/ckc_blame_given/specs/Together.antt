@@ -4,11 +4,11 @@ use Rattle.std.specs.List.{Contains}
 use Rattle.ckc_types.specs.declared.types.MemberShape.{MemberShape}
 use Rattle.ckc_types.specs.declared.types.Structs.{Structs}
 use Rattle.ckc_types.specs.Layout.{members_of}
-use Rattle.ckc_bounds_ranges.specs.Members.{is_target}
-use Rattle.ckc_bounds_views.specs.declared.variables.Member.{Member}
-use Rattle.ckc_bounds_views.specs.Views.{view}
-use Rattle.ckc_bounds_stores.specs.Stores.{Placed, members_assigned}
-use Rattle.ckc_bounds_stores.specs.Targets.{local_of}
+use Rattle.ckc_blame_sound.specs.ckc_bounds_ranges.specs.Members.{is_target}
+use Rattle.ckc_blame_sound.specs.ckc_bounds_views.specs.declared.variables.Member.{Member}
+use Rattle.ckc_blame_sound.specs.ckc_bounds_views.specs.Views.{view}
+use Rattle.ckc_blame_sound.specs.ckc_bounds_stores.specs.Stores.{Placed, members_assigned}
+use Rattle.ckc_blame_sound.specs.ckc_bounds_stores.specs.Targets.{local_of}
 use Rattle.ckc_source.specs.Steps.{Write}
 use Rattle.ckc_blame_sound.specs.Settings.{Setting}
 use Rattle.ckc_blame_given.specs.Targets.{begin_of, LiesIn}

@@ -6,17 +6,17 @@ use Rattle.ckc_syntax.specs.declared.tree.Init.TheVariants as init
 use Rattle.ckc_syntax.specs.declared.tree.Name.TheVariants as name
 use Rattle.ckc_typed.specs.Trees.{NotedDecl, NotedExpr, NotedInit, NotedStmt}
 use Rattle.ckc_typed.specs.Types.{is_char, is_pointer, type_written}
-use Rattle.ckc_bounds_points.specs.declared.frame.Local.{Local}
-use Rattle.ckc_bounds_points.specs.Frames.{local_at}
-use Rattle.ckc_bounds_points.specs.Shown.{Known}
-use Rattle.ckc_bounds_points.specs.Flow.{State, in_bounds}
-use Rattle.ckc_bounds_points.specs.Forms.{in_type}
-use Rattle.ckc_bounds_ranges.specs.Bundles.{is_bundle}
-use Rattle.ckc_bounds_views.specs.Views.{view}
-use Rattle.ckc_bounds_stores.specs.declared.values.Numbered.{Numbered}
-use Rattle.ckc_bounds_stores.specs.Stores.{Placed}
-use Rattle.ckc_bounds_stores.specs.Targets.{local_of}
-use Rattle.ckc_bounds_statements.specs.Paths.{Here}
+use Rattle.ckc_blame_sound.specs.ckc_bounds_points.specs.declared.frame.Local.{Local}
+use Rattle.ckc_blame_sound.specs.ckc_bounds_points.specs.Frames.{local_at}
+use Rattle.ckc_blame_sound.specs.ckc_bounds_points.specs.Shown.{Known}
+use Rattle.ckc_blame_sound.specs.ckc_bounds_points.specs.Flow.{State, in_bounds}
+use Rattle.ckc_blame_sound.specs.ckc_bounds_points.specs.Forms.{in_type}
+use Rattle.ckc_blame_sound.specs.ckc_bounds_ranges.specs.Bundles.{is_bundle}
+use Rattle.ckc_blame_sound.specs.ckc_bounds_views.specs.Views.{view}
+use Rattle.ckc_blame_sound.specs.ckc_bounds_stores.specs.declared.values.Numbered.{Numbered}
+use Rattle.ckc_blame_sound.specs.ckc_bounds_stores.specs.Stores.{Placed}
+use Rattle.ckc_blame_sound.specs.ckc_bounds_stores.specs.Targets.{local_of}
+use Rattle.ckc_blame_sound.specs.ckc_bounds_statements.specs.Paths.{Here}
 use Rattle.ckc_source.specs.declared.outcome.Place.{Place}
 use Rattle.ckc_source.specs.declared.outcome.Place.TheVariants as place
 use Rattle.ckc_source.specs.Eval.{Store}

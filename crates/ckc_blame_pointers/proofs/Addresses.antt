@@ -23,14 +23,14 @@ use Rattle.ckc_typed.specs.declared.typed.Range.TheVariants as range
 use Rattle.ckc_typed.specs.Constants.{size_of}
 use Rattle.ckc_typed.specs.Conversions.{is_terminated_kind}
 use Rattle.ckc_typed.specs.Types.{is_pointer, is_pointer_form, kind_of, kind_in, element_of, element_in}
-use Rattle.ckc_bounds_points.specs.Shown.{Known}
-use Rattle.ckc_bounds_points.specs.Flow.{State}
-use Rattle.ckc_bounds_points.specs.Forms.{base_form, sum_of_forms}
-use Rattle.ckc_bounds_views.specs.Parts.{NodeView, capped, next_behind, fresh_behind}
-use Rattle.ckc_bounds_views.specs.Places.{with_own, binary_place, pointer_place}
-use Rattle.ckc_bounds_views.specs.Ranges.{range_of_operand, pointer_range}
-use Rattle.ckc_bounds_views.specs.Views.{node_view, expr_view, view}
-use Rattle.ckc_bounds_statements.specs.Paths.{Here}
+use Rattle.ckc_blame_sound.specs.ckc_bounds_points.specs.Shown.{Known}
+use Rattle.ckc_blame_sound.specs.ckc_bounds_points.specs.Flow.{State}
+use Rattle.ckc_blame_sound.specs.ckc_bounds_points.specs.Forms.{base_form, sum_of_forms}
+use Rattle.ckc_blame_sound.specs.ckc_bounds_views.specs.Parts.{NodeView, capped, next_behind, fresh_behind}
+use Rattle.ckc_blame_sound.specs.ckc_bounds_views.specs.Places.{with_own, binary_place, pointer_place}
+use Rattle.ckc_blame_sound.specs.ckc_bounds_views.specs.Ranges.{range_of_operand, pointer_range}
+use Rattle.ckc_blame_sound.specs.ckc_bounds_views.specs.Views.{node_view, expr_view, view}
+use Rattle.ckc_blame_sound.specs.ckc_bounds_statements.specs.Paths.{Here}
 use Rattle.ckc_source.specs.declared.outcome.Value.{Value}
 use Rattle.ckc_source.specs.Eval.{Store}
 use Rattle.ckc_source.specs.Runs.{is_true}

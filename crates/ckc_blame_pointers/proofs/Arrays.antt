@@ -21,14 +21,14 @@ use Rattle.ckc_typed.specs.Constants.{size_of}
 use Rattle.ckc_typed.specs.Conversions.{is_terminated_kind}
 use Rattle.ckc_typed.specs.Operands.{is_raw_kind}
 use Rattle.ckc_typed.specs.Types.{kind_of}
-use Rattle.ckc_bounds_points.specs.Shown.{Known}
-use Rattle.ckc_bounds_points.specs.Forms.{constant_form, base_form}
-use Rattle.ckc_bounds_ranges.specs.Rows.{readable, range_of_array}
-use Rattle.ckc_bounds_views.specs.Parts.{NodeView}
-use Rattle.ckc_bounds_views.specs.Places.{is_array, own_place, with_own, pointer_place}
-use Rattle.ckc_bounds_views.specs.Ranges.{own_numbers, range_of_object, range_of_static, pointer_range}
-use Rattle.ckc_bounds_views.specs.Views.{node_view}
-use Rattle.ckc_bounds_statements.specs.Paths.{Here}
+use Rattle.ckc_blame_sound.specs.ckc_bounds_points.specs.Shown.{Known}
+use Rattle.ckc_blame_sound.specs.ckc_bounds_points.specs.Forms.{constant_form, base_form}
+use Rattle.ckc_blame_sound.specs.ckc_bounds_ranges.specs.Rows.{readable, range_of_array}
+use Rattle.ckc_blame_sound.specs.ckc_bounds_views.specs.Parts.{NodeView}
+use Rattle.ckc_blame_sound.specs.ckc_bounds_views.specs.Places.{is_array, own_place, with_own, pointer_place}
+use Rattle.ckc_blame_sound.specs.ckc_bounds_views.specs.Ranges.{own_numbers, range_of_object, range_of_static, pointer_range}
+use Rattle.ckc_blame_sound.specs.ckc_bounds_views.specs.Views.{node_view}
+use Rattle.ckc_blame_sound.specs.ckc_bounds_statements.specs.Paths.{Here}
 use Rattle.ckc_source.specs.declared.outcome.Range.{Range as RunRange}
 use Rattle.ckc_source.specs.declared.outcome.Range.TheVariants.{Within, Without}
 use Rattle.ckc_source.specs.declared.outcome.Value.{Value}

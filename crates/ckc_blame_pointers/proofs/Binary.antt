@@ -12,11 +12,11 @@ use Rattle.ckc_syntax.specs.declared.tree.TreeOp.TheVariants as op
 use Rattle.ckc_typed.specs.Operands.{binary_type, both_type}
 use Rattle.ckc_typed.specs.Trees.{NotedExpr}
 use Rattle.ckc_typed.specs.Types.{is_scalar}
-use Rattle.ckc_bounds_points.specs.Flow.{State}
-use Rattle.ckc_bounds_views.specs.Parts.{View, NodeView}
-use Rattle.ckc_bounds_views.specs.Conditions.{wider, widened_by, read_place, widening, widening_side, operand, compares_unsigned, nonzero_side, by_operands, narrowed, right_point, and_side, or_side, binary_side}
-use Rattle.ckc_bounds_views.specs.Views.{node_view, view}
-use Rattle.ckc_bounds_statements.specs.Paths.{Here}
+use Rattle.ckc_blame_sound.specs.ckc_bounds_points.specs.Flow.{State}
+use Rattle.ckc_blame_sound.specs.ckc_bounds_views.specs.Parts.{View, NodeView}
+use Rattle.ckc_blame_sound.specs.ckc_bounds_views.specs.Conditions.{wider, widened_by, read_place, widening, widening_side, operand, compares_unsigned, nonzero_side, by_operands, narrowed, right_point, and_side, or_side, binary_side}
+use Rattle.ckc_blame_sound.specs.ckc_bounds_views.specs.Views.{node_view, view}
+use Rattle.ckc_blame_sound.specs.ckc_bounds_statements.specs.Paths.{Here}
 use Rattle.ckc_source.specs.declared.expr.Operation.TheVariants as operation
 use Rattle.ckc_source.specs.declared.outcome.Halt.{Halt}
 use Rattle.ckc_source.specs.declared.outcome.Value.{Value}

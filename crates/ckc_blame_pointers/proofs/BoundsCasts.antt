@@ -14,11 +14,11 @@ use Rattle.ckc_typed.specs.Statics.{strings_of_limits, strings_of_expr}
 use Rattle.ckc_typed.specs.Types.{type_written, is_integer, element_of}
 use Rattle.ckc_typed_welltyped.specs.Parts.{LimitsLayer}
 use Rattle.ckc_typed_welltyped.proofs.Nodes.{limits_of}
-use Rattle.ckc_bounds_points.specs.Codes.{bad_limits}
-use Rattle.ckc_bounds_views.specs.Parts.{LimitsView, NodeView, View, NodeOfViews, fresh_behind}
-use Rattle.ckc_bounds_views.specs.Judged.{counts_bytes, there_judged}
-use Rattle.ckc_bounds_views.specs.Views.{limits_view, node_view, expr_view, view_of_limits, view}
-use Rattle.ckc_bounds_statements.specs.Paths.{Here}
+use Rattle.ckc_blame_sound.specs.ckc_bounds_points.specs.Codes.{bad_limits}
+use Rattle.ckc_blame_sound.specs.ckc_bounds_views.specs.Parts.{LimitsView, NodeView, View, NodeOfViews, fresh_behind}
+use Rattle.ckc_blame_sound.specs.ckc_bounds_views.specs.Judged.{counts_bytes, there_judged}
+use Rattle.ckc_blame_sound.specs.ckc_bounds_views.specs.Views.{limits_view, node_view, expr_view, view_of_limits, view}
+use Rattle.ckc_blame_sound.specs.ckc_bounds_statements.specs.Paths.{Here}
 use Rattle.ckc_source.specs.declared.outcome.Value.{Value}
 use Rattle.ckc_source.specs.declared.expr.Integer.{Integer}
 use Rattle.ckc_source.specs.Code.{Expr}

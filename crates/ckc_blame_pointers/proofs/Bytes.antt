@@ -14,14 +14,14 @@ use Rattle.ckc_typed.specs.Amounts.{is_multiple}
 use Rattle.ckc_typed.specs.Constants.{size_of, value_of}
 use Rattle.ckc_typed.specs.Trees.{NotedExpr, TypeTree}
 use Rattle.ckc_typed.specs.Types.{is_integer, is_pointer, kind_of, element_of}
-use Rattle.ckc_bounds_points.specs.Forms.{constant_form, elements, elements_of}
-use Rattle.ckc_bounds_points.specs.Shown.{Known}
-use Rattle.ckc_bounds_views.specs.Integers.{constant_or}
-use Rattle.ckc_bounds_views.specs.Judged.{counts_bytes, is_multiple_of}
-use Rattle.ckc_bounds_views.specs.Parts.{LimitsView, View}
-use Rattle.ckc_bounds_views.specs.Views.{limits_view, node_view, view, view_of_node}
-use Rattle.ckc_bounds_points.specs.declared.frame.Frame.{Frame}
-use Rattle.ckc_bounds_statements.specs.Paths.{Here}
+use Rattle.ckc_blame_sound.specs.ckc_bounds_points.specs.Forms.{constant_form, elements, elements_of}
+use Rattle.ckc_blame_sound.specs.ckc_bounds_points.specs.Shown.{Known}
+use Rattle.ckc_blame_sound.specs.ckc_bounds_views.specs.Integers.{constant_or}
+use Rattle.ckc_blame_sound.specs.ckc_bounds_views.specs.Judged.{counts_bytes, is_multiple_of}
+use Rattle.ckc_blame_sound.specs.ckc_bounds_views.specs.Parts.{LimitsView, View}
+use Rattle.ckc_blame_sound.specs.ckc_bounds_views.specs.Views.{limits_view, node_view, view, view_of_node}
+use Rattle.ckc_blame_sound.specs.ckc_bounds_points.specs.declared.frame.Frame.{Frame}
+use Rattle.ckc_blame_sound.specs.ckc_bounds_statements.specs.Paths.{Here}
 use Rattle.ckc_source.specs.declared.expr.Operation.TheVariants.{Div}
 use Rattle.ckc_source.specs.declared.outcome.Value.{Value}
 use Rattle.ckc_source.specs.Code.{Expr, Binary, Number, Tested}

@@ -18,13 +18,13 @@ use Rattle.ckc_typed.specs.Conversions.{limits_fit_kind, is_terminated_kind, kin
 use Rattle.ckc_typed.specs.Operands.{is_raw_kind, same_element}
 use Rattle.ckc_typed.specs.Trees.{NotedExpr, TypeTree}
 use Rattle.ckc_typed.specs.Types.{is_integer, is_object_type, is_pointer, kind_of, element_of}
-use Rattle.ckc_bounds_views.specs.declared.variables.Own.{Own}
-use Rattle.ckc_bounds_views.specs.Judged.{is_missing}
-use Rattle.ckc_bounds_points.specs.Forms.{constant_form, elements, elements_of}
-use Rattle.ckc_bounds_views.specs.Ranges.{form_or_fresh, range_counted}
-use Rattle.ckc_bounds_views.specs.Parts.{LimitsView, NodeView, capped, fresh_behind}
-use Rattle.ckc_bounds_views.specs.Views.{node_view, view}
-use Rattle.ckc_bounds_statements.specs.Paths.{Here}
+use Rattle.ckc_blame_sound.specs.ckc_bounds_views.specs.declared.variables.Own.{Own}
+use Rattle.ckc_blame_sound.specs.ckc_bounds_views.specs.Judged.{is_missing}
+use Rattle.ckc_blame_sound.specs.ckc_bounds_points.specs.Forms.{constant_form, elements, elements_of}
+use Rattle.ckc_blame_sound.specs.ckc_bounds_views.specs.Ranges.{form_or_fresh, range_counted}
+use Rattle.ckc_blame_sound.specs.ckc_bounds_views.specs.Parts.{LimitsView, NodeView, capped, fresh_behind}
+use Rattle.ckc_blame_sound.specs.ckc_bounds_views.specs.Views.{node_view, view}
+use Rattle.ckc_blame_sound.specs.ckc_bounds_statements.specs.Paths.{Here}
 use Rattle.ckc_source.specs.declared.expr.Integer.{Integer}
 use Rattle.ckc_source.specs.declared.expr.Integer.TheVariants.{Int}
 use Rattle.ckc_source.specs.declared.expr.Pointee.{Pointee}

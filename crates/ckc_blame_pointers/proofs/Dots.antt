@@ -7,11 +7,11 @@ use Rattle.ckc_syntax.specs.declared.tree.Name.{Name}
 use Rattle.ckc_syntax.specs.declared.tree.Node.{Node-F}
 use Rattle.ckc_typed.specs.Layouts.{member_number}
 use Rattle.ckc_typed.specs.Trees.{NotedExpr}
-use Rattle.ckc_bounds_views.specs.Fresh.{member_in, member_fresh}
-use Rattle.ckc_bounds_views.specs.Parts.{NodeView}
-use Rattle.ckc_bounds_views.specs.Ranges.{range_of_member}
-use Rattle.ckc_bounds_views.specs.Views.{node_view, view}
-use Rattle.ckc_bounds_statements.specs.Paths.{Here}
+use Rattle.ckc_blame_sound.specs.ckc_bounds_views.specs.Fresh.{member_in, member_fresh}
+use Rattle.ckc_blame_sound.specs.ckc_bounds_views.specs.Parts.{NodeView}
+use Rattle.ckc_blame_sound.specs.ckc_bounds_views.specs.Ranges.{range_of_member}
+use Rattle.ckc_blame_sound.specs.ckc_bounds_views.specs.Views.{node_view, view}
+use Rattle.ckc_blame_sound.specs.ckc_bounds_statements.specs.Paths.{Here}
 use Rattle.ckc_source.specs.declared.outcome.Range.TheVariants.{Without}
 use Rattle.ckc_source.specs.Blocks.{Block, block_of}
 use Rattle.ckc_source.specs.Eval.{Store, evaluated}

@@ -11,15 +11,15 @@ use Rattle.ckc_typed.specs.declared.typed.Range.TheVariants as range
 use Rattle.ckc_typed.specs.Operands.{is_raw_kind}
 use Rattle.ckc_typed.specs.Trees.{NotedExpr}
 use Rattle.ckc_typed.specs.Types.{is_integer, kind_of, element_of}
-use Rattle.ckc_bounds_points.specs.Codes.{unknown_bounds}
-use Rattle.ckc_bounds_views.specs.Conditions.{wider, widened_by, read_place, widening, widening_side}
-use Rattle.ckc_bounds_views.specs.Judged.{is_counted_kind, is_missing, fault_if, access_fault}
-use Rattle.ckc_bounds_points.specs.Shown.{Known}
-use Rattle.ckc_bounds_points.specs.Flow.{State}
-use Rattle.ckc_bounds_views.specs.Parts.{NodeView, fresh_behind}
-use Rattle.ckc_bounds_views.specs.Places.{with_own}
-use Rattle.ckc_bounds_views.specs.Views.{view}
-use Rattle.ckc_bounds_statements.specs.Paths.{Here}
+use Rattle.ckc_blame_sound.specs.ckc_bounds_points.specs.Codes.{unknown_bounds}
+use Rattle.ckc_blame_sound.specs.ckc_bounds_views.specs.Conditions.{wider, widened_by, read_place, widening, widening_side}
+use Rattle.ckc_blame_sound.specs.ckc_bounds_views.specs.Judged.{is_counted_kind, is_missing, fault_if, access_fault}
+use Rattle.ckc_blame_sound.specs.ckc_bounds_points.specs.Shown.{Known}
+use Rattle.ckc_blame_sound.specs.ckc_bounds_points.specs.Flow.{State}
+use Rattle.ckc_blame_sound.specs.ckc_bounds_views.specs.Parts.{NodeView, fresh_behind}
+use Rattle.ckc_blame_sound.specs.ckc_bounds_views.specs.Places.{with_own}
+use Rattle.ckc_blame_sound.specs.ckc_bounds_views.specs.Views.{view}
+use Rattle.ckc_blame_sound.specs.ckc_bounds_statements.specs.Paths.{Here}
 use Rattle.ckc_source.specs.declared.expr.Access.{Access}
 use Rattle.ckc_source.specs.declared.expr.Integer.{Integer}
 use Rattle.ckc_source.specs.declared.outcome.Range.TheVariants.{Within, Without}
@@ -49,7 +49,7 @@ use Rattle.ckc_blame_pointers.proofs.Later.{extends_self, still_fits}
 use Rattle.ckc_blame_pointers.proofs.Sums.{IsIndex}
 use Rattle.ckc_blame_sound.proofs.Claims.{plain_is}
 use Rattle.ckc_source.specs.declared.expr.Integer.TheVariants.{Int}
-use Rattle.ckc_bounds_points.specs.Forms.{sum_of_forms}
+use Rattle.ckc_blame_sound.specs.ckc_bounds_points.specs.Forms.{sum_of_forms}
 use Rattle.ckc_blame_pointers.proofs.Wider.{place_widens}
 use Rattle.ckc_blame_pointers.proofs.Loads.{integer_part, element_is, IsTested, element_goes, reached_by, tested_pointer, part_loads}
 

@@ -25,15 +25,15 @@ use Rattle.ckc_typed.specs.Statics.{Strings, strings_of_limits, strings_of_expr}
 use Rattle.ckc_typed.specs.Types.{type_written, is_integer, is_pointer, is_void, is_scalar, kind_of, element_of}
 use Rattle.ckc_typed_welltyped.specs.Parts.{LimitsLayer}
 use Rattle.ckc_typed_welltyped.proofs.Nodes.{node_of}
-use Rattle.ckc_bounds_points.specs.Flow.{State}
-use Rattle.ckc_bounds_ranges.specs.Rows.{range_of_local}
-use Rattle.ckc_bounds_views.specs.Parts.{LimitsView, NodeView, View, NodeOfViews, fresh_behind}
-use Rattle.ckc_bounds_views.specs.Conditions.{right_point, widening, widening_side}
-use Rattle.ckc_bounds_views.specs.Judged.{is_counted_kind, fault_if, fault_of_node, node_judged, there_judged}
-use Rattle.ckc_bounds_views.specs.Fresh.{own_fresh}
-use Rattle.ckc_bounds_views.specs.Ranges.{pointer_range, range_by_type}
-use Rattle.ckc_bounds_views.specs.Views.{node_view, view_of_limits, view}
-use Rattle.ckc_bounds_statements.specs.Paths.{Here}
+use Rattle.ckc_blame_sound.specs.ckc_bounds_points.specs.Flow.{State}
+use Rattle.ckc_blame_sound.specs.ckc_bounds_ranges.specs.Rows.{range_of_local}
+use Rattle.ckc_blame_sound.specs.ckc_bounds_views.specs.Parts.{LimitsView, NodeView, View, NodeOfViews, fresh_behind}
+use Rattle.ckc_blame_sound.specs.ckc_bounds_views.specs.Conditions.{right_point, widening, widening_side}
+use Rattle.ckc_blame_sound.specs.ckc_bounds_views.specs.Judged.{is_counted_kind, fault_if, fault_of_node, node_judged, there_judged}
+use Rattle.ckc_blame_sound.specs.ckc_bounds_views.specs.Fresh.{own_fresh}
+use Rattle.ckc_blame_sound.specs.ckc_bounds_views.specs.Ranges.{pointer_range, range_by_type}
+use Rattle.ckc_blame_sound.specs.ckc_bounds_views.specs.Views.{node_view, view_of_limits, view}
+use Rattle.ckc_blame_sound.specs.ckc_bounds_statements.specs.Paths.{Here}
 use Rattle.ckc_source.specs.declared.outcome.Value.{Value}
 use Rattle.ckc_source.specs.declared.expr.Integer.{Integer}
 use Rattle.ckc_source.specs.declared.expr.Integer.TheVariants.{Int}
@@ -75,7 +75,7 @@ use Rattle.ckc_blame_pointers.proofs.Bytes.{amount_claims}
 use Rattle.ckc_blame_pointers.proofs.Operands.{tested_pointer, operand_scalar, operand_testable}
 use Rattle.ckc_blame_pointers.proofs.Reach.{IsStructurePlace}
 use Rattle.ckc_blame_pointers.proofs.Pointees.{pointee_claims}
-use Rattle.ckc_bounds_points.specs.Codes.{bounds_address}
+use Rattle.ckc_blame_sound.specs.ckc_bounds_points.specs.Codes.{bounds_address}
 use Rattle.ckc_blame_pointers.proofs.Dots.{dot_node, integer_held}
 use Rattle.ckc_blame_pointers.proofs.Scalars.{integer_scalar, pointer_scalar, kind_scalar, through_scalar, through_bare, no_structure, true_if, target_scalar, index_scalar, binary_scalar, choice_scalar, cast_scalar, null_scalar, same_scalar}
 use Rattle.std.proofs.lemmas.Bool.{and_parts}
@@ -88,8 +88,8 @@ use Rattle.ckc_blame_pointers.proofs.Strings.{strings_in_node, first_strings, la
 use Rattle.ckc_blame_pointers.proofs.Leaves.{number_claims, size_claims, null_claims, local_claims, minus_claims, plus_claims, flip_claims, not_claims, cast_claims, choice_claims}
 use Rattle.ckc_blame_pointers.proofs.Hypotheses as hypotheses
 use Rattle.ckc_source.specs.declared.expr.Operation.TheVariants as operation
-use Rattle.ckc_bounds_views.specs.declared.variables.Own.{Own}
-use Rattle.ckc_bounds_points.specs.Shown.{Known}
+use Rattle.ckc_blame_sound.specs.ckc_bounds_views.specs.declared.variables.Own.{Own}
+use Rattle.ckc_blame_sound.specs.ckc_bounds_points.specs.Shown.{Known}
 use Rattle.ckc_blame_pointers.proofs.Hypotheses.{only, none_of, unchecked_alone, some_if, not_raw}
 use Rattle.ckc_blame_pointers.proofs.RawCasts.{raw_type, raw_cast_claims}
 use Rattle.ckc_blame_pointers.proofs.RawNames.{text_claims}

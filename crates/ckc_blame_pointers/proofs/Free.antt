@@ -11,9 +11,9 @@ use Rattle.ckc_types.specs.declared.types.Structs.{Structs}
 use Rattle.ckc_types.specs.Layout.{members_of}
 use Rattle.ckc_syntax.specs.declared.tree.Name.{Name}
 use Rattle.ckc_typed.specs.Environment.{is_member_named}
-use Rattle.ckc_bounds_ranges.specs.Members.{names_member, has_bounds, names_another, is_named, is_declared, takes_part, has_no_address}
-use Rattle.ckc_bounds_views.specs.Fresh.{member_in}
-use Rattle.ckc_bounds_views.specs.Judged.{member_has_none}
+use Rattle.ckc_blame_sound.specs.ckc_bounds_ranges.specs.Members.{names_member, has_bounds, names_another, is_named, is_declared, takes_part, has_no_address}
+use Rattle.ckc_blame_sound.specs.ckc_bounds_views.specs.Fresh.{member_in}
+use Rattle.ckc_blame_sound.specs.ckc_bounds_views.specs.Judged.{member_has_none}
 use Rattle.ckc_build_elaborate.specs.Shapes.{is_bare, names, is_run}
 use Rattle.ckc_blame_sound.specs.Settings.{Setting}
 use Rattle.ckc_blame_pointers.specs.Covered.{IsScalarMember}

@@ -19,14 +19,14 @@ use Rattle.ckc_typed.specs.Environment.{is_member_named}
 use Rattle.ckc_typed.specs.Layouts.{member_number}
 use Rattle.ckc_typed.specs.Operands.{member_in, dot_type}
 use Rattle.ckc_typed.specs.Types.{is_integer, is_integer_form, is_char_form, kind_of}
-use Rattle.ckc_bounds_points.specs.Forms.{constant_form, is_small}
-use Rattle.ckc_bounds_points.specs.Shown.{Known}
-use Rattle.ckc_bounds_views.specs.declared.variables.Own.{Own}
-use Rattle.ckc_bounds_views.specs.declared.variables.Member.{Member}
-use Rattle.ckc_bounds_views.specs.Fresh.{is_checked, member_bounds, named_type, member_fresh, own_fresh, fresh_form}
-use Rattle.ckc_bounds_views.specs.Parts.{NodeView, capped}
-use Rattle.ckc_bounds_views.specs.Ranges.{range_up_to, range_in_struct, range_of_member}
-use Rattle.ckc_bounds_statements.specs.Paths.{Here}
+use Rattle.ckc_blame_sound.specs.ckc_bounds_points.specs.Forms.{constant_form, is_small}
+use Rattle.ckc_blame_sound.specs.ckc_bounds_points.specs.Shown.{Known}
+use Rattle.ckc_blame_sound.specs.ckc_bounds_views.specs.declared.variables.Own.{Own}
+use Rattle.ckc_blame_sound.specs.ckc_bounds_views.specs.declared.variables.Member.{Member}
+use Rattle.ckc_blame_sound.specs.ckc_bounds_views.specs.Fresh.{is_checked, member_bounds, named_type, member_fresh, own_fresh, fresh_form}
+use Rattle.ckc_blame_sound.specs.ckc_bounds_views.specs.Parts.{NodeView, capped}
+use Rattle.ckc_blame_sound.specs.ckc_bounds_views.specs.Ranges.{range_up_to, range_in_struct, range_of_member}
+use Rattle.ckc_blame_sound.specs.ckc_bounds_statements.specs.Paths.{Here}
 use Rattle.ckc_source.specs.declared.expr.Count.{Count}
 use Rattle.ckc_source.specs.declared.expr.Count.TheVariants as count
 use Rattle.ckc_source.specs.declared.expr.Integer.{Integer}

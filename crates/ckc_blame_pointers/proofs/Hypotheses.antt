@@ -18,11 +18,11 @@ use Rattle.ckc_typed.specs.Statics.{strings_of_expr}
 use Rattle.ckc_typed.specs.Types.{is_pointer, is_scalar, kind_of}
 use Rattle.ckc_typed_welltyped.specs.Expressions.{AnyLimits, AnyNode}
 use Rattle.ckc_typed_welltyped.specs.Parts.{LimitsLayer}
-use Rattle.ckc_bounds_points.specs.Flow.{State}
-use Rattle.ckc_bounds_views.specs.Parts.{LimitsView, NodeView, View, NodeOfViews, fresh_behind}
-use Rattle.ckc_bounds_views.specs.Ranges.{pointer_range}
-use Rattle.ckc_bounds_views.specs.Views.{node_view, expr_view, view_of_limits, view_of_node, view}
-use Rattle.ckc_bounds_statements.specs.Paths.{Here, side_of}
+use Rattle.ckc_blame_sound.specs.ckc_bounds_points.specs.Flow.{State}
+use Rattle.ckc_blame_sound.specs.ckc_bounds_views.specs.Parts.{LimitsView, NodeView, View, NodeOfViews, fresh_behind}
+use Rattle.ckc_blame_sound.specs.ckc_bounds_views.specs.Ranges.{pointer_range}
+use Rattle.ckc_blame_sound.specs.ckc_bounds_views.specs.Views.{node_view, expr_view, view_of_limits, view_of_node, view}
+use Rattle.ckc_blame_sound.specs.ckc_bounds_statements.specs.Paths.{Here, side_of}
 use Rattle.ckc_source.specs.declared.outcome.Value.{Value}
 use Rattle.ckc_source.specs.Code.{Expr}
 use Rattle.ckc_source.specs.Eval.{Store, evaluated}

@@ -15,11 +15,11 @@ use Rattle.ckc_typed.specs.Statics.{strings_of_expr}
 use Rattle.ckc_typed_welltyped.specs.Expressions.{AnyLimits, AnyNode}
 use Rattle.ckc_typed_welltyped.specs.Parts.{LimitsLayer}
 use Rattle.ckc_typed_welltyped.proofs.Nodes.{node_of, node_rolled, limits_out}
-use Rattle.ckc_bounds_views.specs.Parts.{LimitsView, NodeView, View, NodeOfViews}
-use Rattle.ckc_bounds_views.specs.Fresh.{own_fresh}
-use Rattle.ckc_bounds_views.specs.Ranges.{pointer_range}
-use Rattle.ckc_bounds_views.specs.Views.{limits_view, node_view, expr_view, view_of_node, view}
-use Rattle.ckc_bounds_statements.specs.Paths.{Here}
+use Rattle.ckc_blame_sound.specs.ckc_bounds_views.specs.Parts.{LimitsView, NodeView, View, NodeOfViews}
+use Rattle.ckc_blame_sound.specs.ckc_bounds_views.specs.Fresh.{own_fresh}
+use Rattle.ckc_blame_sound.specs.ckc_bounds_views.specs.Ranges.{pointer_range}
+use Rattle.ckc_blame_sound.specs.ckc_bounds_views.specs.Views.{limits_view, node_view, expr_view, view_of_node, view}
+use Rattle.ckc_blame_sound.specs.ckc_bounds_statements.specs.Paths.{Here}
 use Rattle.ckc_source.specs.Eval.{Store, evaluated}
 use Rattle.ckc_build_values.specs.Places.{Place}
 use Rattle.ckc_build_values.specs.Expressions.{Part, NodePart, LimitsPart, limits_parts, node_parts, expr_parts, part_of, part_of_node}

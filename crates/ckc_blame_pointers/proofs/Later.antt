@@ -9,8 +9,8 @@ use Rattle.ckc_linear.specs.declared.forms.Base.{Base}
 use Rattle.ckc_linear.specs.declared.forms.Base.TheVariants as base
 use Rattle.ckc_typed.specs.declared.typed.Range.{Range}
 use Rattle.ckc_typed.specs.declared.typed.Range.TheVariants as range
-use Rattle.ckc_bounds_known.specs.Ranges.{range_in}
-use Rattle.ckc_bounds_views.specs.Parts.{capped, next_behind, with_last}
+use Rattle.ckc_blame_sound.specs.ckc_bounds_known.specs.Ranges.{range_in}
+use Rattle.ckc_blame_sound.specs.ckc_bounds_views.specs.Parts.{capped, next_behind, with_last}
 use Rattle.ckc_blame_sound.specs.Settings.{Setting}
 use Rattle.ckc_blame_sound.specs.Values.{value, IsBetween, IsNumberOf}
 use Rattle.ckc_blame_sound.specs.Bodies.{AreFresh}

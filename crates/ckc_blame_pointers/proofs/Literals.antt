@@ -12,10 +12,10 @@ use Rattle.ckc_syntax.specs.declared.tree.Node.{Node-F}
 use Rattle.ckc_typed.specs.Constants.{size_of}
 use Rattle.ckc_typed.specs.Conversions.{is_terminated_kind}
 use Rattle.ckc_typed.specs.Types.{is_char, is_char_form, is_integer_form, is_pointer, is_pointer_form, is_scalar, kind_of, element_of}
-use Rattle.ckc_bounds_points.specs.Forms.{constant_form}
-use Rattle.ckc_bounds_views.specs.Parts.{NodeView}
-use Rattle.ckc_bounds_views.specs.Views.{node_view}
-use Rattle.ckc_bounds_statements.specs.Paths.{Here}
+use Rattle.ckc_blame_sound.specs.ckc_bounds_points.specs.Forms.{constant_form}
+use Rattle.ckc_blame_sound.specs.ckc_bounds_views.specs.Parts.{NodeView}
+use Rattle.ckc_blame_sound.specs.ckc_bounds_views.specs.Views.{node_view}
+use Rattle.ckc_blame_sound.specs.ckc_bounds_statements.specs.Paths.{Here}
 use Rattle.ckc_source.specs.declared.outcome.Range.TheVariants.{Within}
 use Rattle.ckc_source.specs.declared.outcome.Value.{Value}
 use Rattle.ckc_source.specs.Code.{Array}

@@ -11,7 +11,7 @@ use Rattle.ckc_types.specs.declared.types.CType.{CType, CType-F, out-CType}
 use Rattle.ckc_types.specs.declared.types.Structs.{Structs}
 use Rattle.ckc_typed.specs.Types.{is_integer, is_integer_form, is_char, kind_of, kind_in, element_of}
 use Rattle.ckc_typed.specs.Conversions.{is_terminated_kind}
-use Rattle.ckc_bounds_views.specs.Judged.{is_counted_kind}
+use Rattle.ckc_blame_sound.specs.ckc_bounds_views.specs.Judged.{is_counted_kind}
 use Rattle.ckc_source.specs.declared.expr.Access.{Access}
 use Rattle.ckc_source.specs.declared.expr.Pointee.{Pointee}
 use Rattle.ckc_source.specs.declared.expr.Through.{Through}

@@ -18,11 +18,11 @@ use Rattle.ckc_typed.specs.Trees.{NotedNode, NotedExpr, NotedLayer}
 use Rattle.ckc_typed.specs.Types.{is_integer, is_pointer, is_void, is_scalar, kind_of, element_of}
 use Rattle.ckc_typed_welltyped.specs.Parts.{LimitsLayer}
 use Rattle.ckc_typed_welltyped.proofs.Nodes.{node_of}
-use Rattle.ckc_bounds_views.specs.Parts.{LimitsView, NodeView, View, NodeOfViews, fresh_behind}
-use Rattle.ckc_bounds_views.specs.Judged.{is_counted_kind, has_none_of_node, fault_of_node, operand_fault_of_node, node_judged}
-use Rattle.ckc_bounds_views.specs.Ranges.{range_of_one}
-use Rattle.ckc_bounds_views.specs.Views.{node_view, expr_view, view}
-use Rattle.ckc_bounds_statements.specs.Paths.{Here}
+use Rattle.ckc_blame_sound.specs.ckc_bounds_views.specs.Parts.{LimitsView, NodeView, View, NodeOfViews, fresh_behind}
+use Rattle.ckc_blame_sound.specs.ckc_bounds_views.specs.Judged.{is_counted_kind, has_none_of_node, fault_of_node, operand_fault_of_node, node_judged}
+use Rattle.ckc_blame_sound.specs.ckc_bounds_views.specs.Ranges.{range_of_one}
+use Rattle.ckc_blame_sound.specs.ckc_bounds_views.specs.Views.{node_view, expr_view, view}
+use Rattle.ckc_blame_sound.specs.ckc_bounds_statements.specs.Paths.{Here}
 use Rattle.ckc_source.specs.Code.{Expr}
 use Rattle.ckc_source.specs.Eval.{Store, evaluated}
 use Rattle.ckc_build_values.specs.Kinds.{integer_of, tag_of}

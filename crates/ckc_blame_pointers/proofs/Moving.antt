@@ -11,11 +11,11 @@ use Rattle.ckc_linear.specs.declared.forms.Base.TheVariants as base
 use Rattle.ckc_linear.specs.declared.forms.Form.{Form}
 use Rattle.ckc_typed.specs.declared.typed.Range.{Range}
 use Rattle.ckc_typed.specs.declared.typed.Range.TheVariants as range
-use Rattle.ckc_bounds_points.specs.Forms.{is_small, base_form, moved_form, sum_of_forms}
-use Rattle.ckc_bounds_points.specs.Shown.{Known}
-use Rattle.ckc_bounds_points.specs.Flow.{State}
-use Rattle.ckc_bounds_views.specs.Parts.{capped, next_behind}
-use Rattle.ckc_bounds_statements.specs.Paths.{Here}
+use Rattle.ckc_blame_sound.specs.ckc_bounds_points.specs.Forms.{is_small, base_form, moved_form, sum_of_forms}
+use Rattle.ckc_blame_sound.specs.ckc_bounds_points.specs.Shown.{Known}
+use Rattle.ckc_blame_sound.specs.ckc_bounds_points.specs.Flow.{State}
+use Rattle.ckc_blame_sound.specs.ckc_bounds_views.specs.Parts.{capped, next_behind}
+use Rattle.ckc_blame_sound.specs.ckc_bounds_statements.specs.Paths.{Here}
 use Rattle.ckc_source.specs.declared.outcome.Range.{Range as RunRange}
 use Rattle.ckc_source.specs.declared.outcome.Value.{Value}
 use Rattle.ckc_source.specs.Eval.{Store}

@@ -13,19 +13,19 @@ use Rattle.ckc_linear.specs.declared.forms.Form.{Form}
 use Rattle.ckc_typed.specs.declared.typed.Range.{Range}
 use Rattle.ckc_typed.specs.declared.typed.Range.TheVariants as range
 use Rattle.ckc_typed.specs.Types.{is_pointer}
-use Rattle.ckc_bounds_points.specs.declared.frame.Bounds.{Bounds}
-use Rattle.ckc_bounds_points.specs.declared.frame.Bounds.TheVariants as bounds
-use Rattle.ckc_bounds_points.specs.declared.frame.Local.{Local}
-use Rattle.ckc_bounds_points.specs.Frames.{local_at}
-use Rattle.ckc_bounds_points.specs.Flow.{State}
-use Rattle.ckc_bounds_points.specs.Forms.{moved_form}
-use Rattle.ckc_bounds_ranges.specs.Rows.{range_moved, range_of_bounds, range_widened, range_by, range_of_local}
-use Rattle.ckc_bounds_views.specs.Parts.{NodeView, with_last}
-use Rattle.ckc_bounds_views.specs.Fresh.{own_fresh}
-use Rattle.ckc_bounds_views.specs.Conditions.{widening}
-use Rattle.ckc_bounds_views.specs.Places.{with_own, pointer_place}
-use Rattle.ckc_bounds_views.specs.Ranges.{pointer_range}
-use Rattle.ckc_bounds_statements.specs.Paths.{Here}
+use Rattle.ckc_blame_sound.specs.ckc_bounds_points.specs.declared.frame.Bounds.{Bounds}
+use Rattle.ckc_blame_sound.specs.ckc_bounds_points.specs.declared.frame.Bounds.TheVariants as bounds
+use Rattle.ckc_blame_sound.specs.ckc_bounds_points.specs.declared.frame.Local.{Local}
+use Rattle.ckc_blame_sound.specs.ckc_bounds_points.specs.Frames.{local_at}
+use Rattle.ckc_blame_sound.specs.ckc_bounds_points.specs.Flow.{State}
+use Rattle.ckc_blame_sound.specs.ckc_bounds_points.specs.Forms.{moved_form}
+use Rattle.ckc_blame_sound.specs.ckc_bounds_ranges.specs.Rows.{range_moved, range_of_bounds, range_widened, range_by, range_of_local}
+use Rattle.ckc_blame_sound.specs.ckc_bounds_views.specs.Parts.{NodeView, with_last}
+use Rattle.ckc_blame_sound.specs.ckc_bounds_views.specs.Fresh.{own_fresh}
+use Rattle.ckc_blame_sound.specs.ckc_bounds_views.specs.Conditions.{widening}
+use Rattle.ckc_blame_sound.specs.ckc_bounds_views.specs.Places.{with_own, pointer_place}
+use Rattle.ckc_blame_sound.specs.ckc_bounds_views.specs.Ranges.{pointer_range}
+use Rattle.ckc_blame_sound.specs.ckc_bounds_statements.specs.Paths.{Here}
 use Rattle.ckc_source.specs.declared.expr.Shift.{Shift}
 use Rattle.ckc_source.specs.declared.outcome.Value.{Value}
 use Rattle.ckc_source.specs.Eval.{Store, stops, plain, at_address, given, moved_exactly, moves_checked, moves, end_address, evaluated}

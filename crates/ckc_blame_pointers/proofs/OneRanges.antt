@@ -29,18 +29,18 @@ use Rattle.ckc_typed.specs.Operands.{is_moved, is_moved_kind, is_raw_kind, choic
 use Rattle.ckc_typed.specs.Trees.{NotedLimits, NotedNode, NotedExpr, NotedLayer}
 use Rattle.ckc_typed.specs.Types.{type_written, is_integer, is_unsigned, is_pointer, is_pointer_form, is_object_type, is_scalar, is_void, kind_of, kind_in, element_of}
 use Rattle.ckc_typed_welltyped.specs.Expressions.{AnyLimits, AnyNode, unary_row}
-use Rattle.ckc_bounds_declared.specs.Written.{bounds_of_kind}
-use Rattle.ckc_bounds_points.specs.declared.frame.Bounds.{Bounds}
-use Rattle.ckc_bounds_points.specs.declared.frame.Local.{Local}
-use Rattle.ckc_bounds_points.specs.Flow.{State}
-use Rattle.ckc_bounds_ranges.specs.Rows.{range_by, range_widened, range_of_bounds, range_of_array}
-use Rattle.ckc_bounds_views.specs.Fresh.{member_bounds, is_checked}
-use Rattle.ckc_bounds_views.specs.Judged.{is_missing, is_declared_object}
-use Rattle.ckc_bounds_views.specs.Parts.{LimitsView, NodeView, View, NodeOfViews}
-use Rattle.ckc_bounds_views.specs.Ranges.{own_numbers, pointer_range, range_by_type, range_in_struct, range_of_object, range_of_static}
-use Rattle.ckc_bounds_views.specs.declared.variables.Own.{Own}
-use Rattle.ckc_bounds_views.specs.Views.{node_view, view, view_of_limits, view_of_node}
-use Rattle.ckc_bounds_statements.specs.Paths.{Here}
+use Rattle.ckc_blame_sound.specs.ckc_bounds_declared.specs.Written.{bounds_of_kind}
+use Rattle.ckc_blame_sound.specs.ckc_bounds_points.specs.declared.frame.Bounds.{Bounds}
+use Rattle.ckc_blame_sound.specs.ckc_bounds_points.specs.declared.frame.Local.{Local}
+use Rattle.ckc_blame_sound.specs.ckc_bounds_points.specs.Flow.{State}
+use Rattle.ckc_blame_sound.specs.ckc_bounds_ranges.specs.Rows.{range_by, range_widened, range_of_bounds, range_of_array}
+use Rattle.ckc_blame_sound.specs.ckc_bounds_views.specs.Fresh.{member_bounds, is_checked}
+use Rattle.ckc_blame_sound.specs.ckc_bounds_views.specs.Judged.{is_missing, is_declared_object}
+use Rattle.ckc_blame_sound.specs.ckc_bounds_views.specs.Parts.{LimitsView, NodeView, View, NodeOfViews}
+use Rattle.ckc_blame_sound.specs.ckc_bounds_views.specs.Ranges.{own_numbers, pointer_range, range_by_type, range_in_struct, range_of_object, range_of_static}
+use Rattle.ckc_blame_sound.specs.ckc_bounds_views.specs.declared.variables.Own.{Own}
+use Rattle.ckc_blame_sound.specs.ckc_bounds_views.specs.Views.{node_view, view, view_of_limits, view_of_node}
+use Rattle.ckc_blame_sound.specs.ckc_bounds_statements.specs.Paths.{Here}
 use Rattle.ckc_source.specs.Eval.{Store}
 use Rattle.ckc_blame_sound.specs.Settings.{Setting}
 use Rattle.ckc_blame_sound.specs.Typed.{IsRow, HasRow, IsTyped, Agrees}

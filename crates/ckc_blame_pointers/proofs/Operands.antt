@@ -20,10 +20,10 @@ use Rattle.ckc_typed.specs.Statics.{strings_of_expr}
 use Rattle.ckc_typed.specs.Trees.{NotedExpr, NotedLayer}
 use Rattle.ckc_typed.specs.Types.{is_char, is_pointer, is_scalar, kind_of, element_of}
 use Rattle.ckc_typed_welltyped.specs.Expressions.{AnyLimits, AnyNode}
-use Rattle.ckc_bounds_points.specs.Codes.{unknown_bounds}
-use Rattle.ckc_bounds_views.specs.Judged.{is_counted_kind, is_missing, fault_if, access_fault}
-use Rattle.ckc_bounds_views.specs.Views.{view}
-use Rattle.ckc_bounds_statements.specs.Paths.{Here}
+use Rattle.ckc_blame_sound.specs.ckc_bounds_points.specs.Codes.{unknown_bounds}
+use Rattle.ckc_blame_sound.specs.ckc_bounds_views.specs.Judged.{is_counted_kind, is_missing, fault_if, access_fault}
+use Rattle.ckc_blame_sound.specs.ckc_bounds_views.specs.Views.{view}
+use Rattle.ckc_blame_sound.specs.ckc_bounds_statements.specs.Paths.{Here}
 use Rattle.ckc_source.specs.declared.outcome.Value.{Value}
 use Rattle.ckc_source.specs.Eval.{Store, evaluated}
 use Rattle.ckc_build_values.specs.Expressions.{part_of}

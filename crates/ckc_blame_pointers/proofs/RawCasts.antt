@@ -15,14 +15,14 @@ use Rattle.ckc_typed.specs.Conversions.{is_terminated_kind}
 use Rattle.ckc_typed.specs.Operands.{is_raw_kind, same_element}
 use Rattle.ckc_typed.specs.Trees.{NotedExpr, TypeTree}
 use Rattle.ckc_typed.specs.Types.{is_pointer, is_pointer_form, kind_of, kind_in, element_of}
-use Rattle.ckc_bounds_points.specs.Flow.{State}
-use Rattle.ckc_bounds_points.specs.Forms.{base_form}
-use Rattle.ckc_bounds_points.specs.Shown.{Known}
-use Rattle.ckc_bounds_views.specs.Parts.{NodeView, capped}
-use Rattle.ckc_bounds_views.specs.Places.{with_own, pointer_place}
-use Rattle.ckc_bounds_views.specs.Ranges.{pointer_range}
-use Rattle.ckc_bounds_views.specs.Views.{node_view, view}
-use Rattle.ckc_bounds_statements.specs.Paths.{Here}
+use Rattle.ckc_blame_sound.specs.ckc_bounds_points.specs.Flow.{State}
+use Rattle.ckc_blame_sound.specs.ckc_bounds_points.specs.Forms.{base_form}
+use Rattle.ckc_blame_sound.specs.ckc_bounds_points.specs.Shown.{Known}
+use Rattle.ckc_blame_sound.specs.ckc_bounds_views.specs.Parts.{NodeView, capped}
+use Rattle.ckc_blame_sound.specs.ckc_bounds_views.specs.Places.{with_own, pointer_place}
+use Rattle.ckc_blame_sound.specs.ckc_bounds_views.specs.Ranges.{pointer_range}
+use Rattle.ckc_blame_sound.specs.ckc_bounds_views.specs.Views.{node_view, view}
+use Rattle.ckc_blame_sound.specs.ckc_bounds_statements.specs.Paths.{Here}
 use Rattle.ckc_source.specs.declared.outcome.Range.TheVariants.{Without}
 use Rattle.ckc_source.specs.declared.outcome.Value.{Value}
 use Rattle.ckc_source.specs.Code.{Expr, Narrow, Bare}

@@ -15,12 +15,12 @@ use Rattle.ckc_typed.specs.Constants.{size_of}
 use Rattle.ckc_typed.specs.Conversions.{is_terminated_kind}
 use Rattle.ckc_typed.specs.Expressions.{string_type}
 use Rattle.ckc_typed.specs.Types.{kind_of}
-use Rattle.ckc_bounds_points.specs.Flow.{State}
-use Rattle.ckc_bounds_points.specs.Shown.{Known}
-use Rattle.ckc_bounds_views.specs.declared.variables.Own.{Own}
-use Rattle.ckc_bounds_views.specs.Parts.{NodeView}
-use Rattle.ckc_bounds_views.specs.Views.{node_view, expr_view}
-use Rattle.ckc_bounds_statements.specs.Paths.{Here}
+use Rattle.ckc_blame_sound.specs.ckc_bounds_points.specs.Flow.{State}
+use Rattle.ckc_blame_sound.specs.ckc_bounds_points.specs.Shown.{Known}
+use Rattle.ckc_blame_sound.specs.ckc_bounds_views.specs.declared.variables.Own.{Own}
+use Rattle.ckc_blame_sound.specs.ckc_bounds_views.specs.Parts.{NodeView}
+use Rattle.ckc_blame_sound.specs.ckc_bounds_views.specs.Views.{node_view, expr_view}
+use Rattle.ckc_blame_sound.specs.ckc_bounds_statements.specs.Paths.{Here}
 use Rattle.ckc_source.specs.declared.outcome.Halt.{Halt}
 use Rattle.ckc_source.specs.declared.outcome.Range.TheVariants.{Within}
 use Rattle.ckc_source.specs.declared.outcome.Value.{Value}

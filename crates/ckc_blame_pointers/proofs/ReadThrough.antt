@@ -8,11 +8,11 @@ use Rattle.ckc_linear.specs.declared.forms.Form.{Form}
 use Rattle.ckc_typed.specs.declared.environment.Globals.{Globals}
 use Rattle.ckc_typed.specs.Trees.{NotedExpr}
 use Rattle.ckc_typed.specs.Types.{kind_of, element_of}
-use Rattle.ckc_bounds_views.specs.Parts.{NodeOfViews}
-use Rattle.ckc_bounds_views.specs.Conditions.{widening, widening_side}
-use Rattle.ckc_bounds_views.specs.Judged.{is_counted_kind, access_fault}
-use Rattle.ckc_bounds_views.specs.Views.{node_view, view}
-use Rattle.ckc_bounds_statements.specs.Paths.{Here}
+use Rattle.ckc_blame_sound.specs.ckc_bounds_views.specs.Parts.{NodeOfViews}
+use Rattle.ckc_blame_sound.specs.ckc_bounds_views.specs.Conditions.{widening, widening_side}
+use Rattle.ckc_blame_sound.specs.ckc_bounds_views.specs.Judged.{is_counted_kind, access_fault}
+use Rattle.ckc_blame_sound.specs.ckc_bounds_views.specs.Views.{node_view, view}
+use Rattle.ckc_blame_sound.specs.ckc_bounds_statements.specs.Paths.{Here}
 use Rattle.ckc_source.specs.declared.outcome.Value.{Value}
 use Rattle.ckc_source.specs.declared.expr.Integer.{Integer}
 use Rattle.ckc_source.specs.Code.{Expr}

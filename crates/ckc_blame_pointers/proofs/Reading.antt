@@ -12,13 +12,13 @@ use Rattle.ckc_syntax.specs.declared.tree.Name.TheVariants as name
 use Rattle.ckc_typed.specs.declared.environment.Globals.{Globals}
 use Rattle.ckc_typed.specs.declared.typed.Range.TheVariants as range
 use Rattle.ckc_typed.specs.Environment.{object_named, or_variable}
-use Rattle.ckc_bounds_points.specs.declared.frame.Bounds.{Bounds}
-use Rattle.ckc_bounds_points.specs.declared.frame.Bounds.TheVariants as bounds
-use Rattle.ckc_bounds_points.specs.declared.frame.Local.{Local}
-use Rattle.ckc_bounds_points.specs.Frames.{local_at}
-use Rattle.ckc_bounds_points.specs.Forms.{is_small}
-use Rattle.ckc_bounds_ranges.specs.Rows.{range_moved, range_of_bounds, range_widened, range_by, range_of_local}
-use Rattle.ckc_bounds_statements.specs.Paths.{Here}
+use Rattle.ckc_blame_sound.specs.ckc_bounds_points.specs.declared.frame.Bounds.{Bounds}
+use Rattle.ckc_blame_sound.specs.ckc_bounds_points.specs.declared.frame.Bounds.TheVariants as bounds
+use Rattle.ckc_blame_sound.specs.ckc_bounds_points.specs.declared.frame.Local.{Local}
+use Rattle.ckc_blame_sound.specs.ckc_bounds_points.specs.Frames.{local_at}
+use Rattle.ckc_blame_sound.specs.ckc_bounds_points.specs.Forms.{is_small}
+use Rattle.ckc_blame_sound.specs.ckc_bounds_ranges.specs.Rows.{range_moved, range_of_bounds, range_widened, range_by, range_of_local}
+use Rattle.ckc_blame_sound.specs.ckc_bounds_statements.specs.Paths.{Here}
 use Rattle.ckc_source.specs.declared.expr.Base.TheVariants.{Own, Local as OtherLocal}
 use Rattle.ckc_source.specs.declared.expr.Pointee.{Pointee}
 use Rattle.ckc_source.specs.declared.program.Shape.{Shape}

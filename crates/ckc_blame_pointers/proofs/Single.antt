@@ -6,10 +6,10 @@ use Rattle.ckc_types.specs.declared.types.Kind.TheVariants as kind
 use Rattle.ckc_types.specs.declared.types.CType.{CType}
 use Rattle.ckc_typed.specs.Trees.{NotedExpr}
 use Rattle.ckc_typed.specs.Types.{is_integer, kind_of, element_of}
-use Rattle.ckc_bounds_points.specs.Flow.{State}
-use Rattle.ckc_bounds_views.specs.Conditions.{widening, widening_side}
-use Rattle.ckc_bounds_views.specs.Parts.{NodeView}
-use Rattle.ckc_bounds_statements.specs.Paths.{Here}
+use Rattle.ckc_blame_sound.specs.ckc_bounds_points.specs.Flow.{State}
+use Rattle.ckc_blame_sound.specs.ckc_bounds_views.specs.Conditions.{widening, widening_side}
+use Rattle.ckc_blame_sound.specs.ckc_bounds_views.specs.Parts.{NodeView}
+use Rattle.ckc_blame_sound.specs.ckc_bounds_statements.specs.Paths.{Here}
 use Rattle.ckc_source.specs.declared.expr.Access.{Access}
 use Rattle.ckc_source.specs.declared.expr.Integer.TheVariants.{Int}
 use Rattle.ckc_source.specs.declared.outcome.Value.{Value}

@@ -28,15 +28,15 @@ use Rattle.ckc_typed.specs.Environment.{is_member_named}
 use Rattle.ckc_typed.specs.Layouts.{member_number}
 use Rattle.ckc_typed.specs.Operands.{member_in}
 use Rattle.ckc_typed.specs.Types.{is_integer_form, is_pointer_form, is_scalar, kind_of, element_of}
-use Rattle.ckc_bounds_points.specs.Forms.{constant_form}
-use Rattle.ckc_bounds_points.specs.Flow.{State}
-use Rattle.ckc_bounds_points.specs.Shown.{Known}
-use Rattle.ckc_bounds_views.specs.declared.variables.Own.{Own}
-use Rattle.ckc_bounds_views.specs.Fresh.{own_fresh}
-use Rattle.ckc_bounds_views.specs.Parts.{NodeView, with_last}
-use Rattle.ckc_bounds_views.specs.Ranges.{range_of_one}
-use Rattle.ckc_bounds_views.specs.Views.{node_view, expr_view}
-use Rattle.ckc_bounds_statements.specs.Paths.{Here}
+use Rattle.ckc_blame_sound.specs.ckc_bounds_points.specs.Forms.{constant_form}
+use Rattle.ckc_blame_sound.specs.ckc_bounds_points.specs.Flow.{State}
+use Rattle.ckc_blame_sound.specs.ckc_bounds_points.specs.Shown.{Known}
+use Rattle.ckc_blame_sound.specs.ckc_bounds_views.specs.declared.variables.Own.{Own}
+use Rattle.ckc_blame_sound.specs.ckc_bounds_views.specs.Fresh.{own_fresh}
+use Rattle.ckc_blame_sound.specs.ckc_bounds_views.specs.Parts.{NodeView, with_last}
+use Rattle.ckc_blame_sound.specs.ckc_bounds_views.specs.Ranges.{range_of_one}
+use Rattle.ckc_blame_sound.specs.ckc_bounds_views.specs.Views.{node_view, expr_view}
+use Rattle.ckc_blame_sound.specs.ckc_bounds_statements.specs.Paths.{Here}
 use Rattle.ckc_source.specs.declared.expr.Pointee.{Pointee}
 use Rattle.ckc_source.specs.declared.outcome.Range.TheVariants.{Within}
 use Rattle.ckc_source.specs.declared.outcome.Value.{Value}

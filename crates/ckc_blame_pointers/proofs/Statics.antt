@@ -6,9 +6,9 @@ use Rattle.ckc_base.specs.declared.places.Pos.{Pos}
 use Rattle.ckc_types.specs.declared.types.CType.{CType}
 use Rattle.ckc_syntax.specs.declared.tree.Name.TheVariants as name
 use Rattle.ckc_syntax.specs.declared.tree.Node.{Node-F}
-use Rattle.ckc_bounds_views.specs.Parts.{NodeView}
-use Rattle.ckc_bounds_views.specs.Views.{node_view}
-use Rattle.ckc_bounds_statements.specs.Paths.{Here}
+use Rattle.ckc_blame_sound.specs.ckc_bounds_views.specs.Parts.{NodeView}
+use Rattle.ckc_blame_sound.specs.ckc_bounds_views.specs.Views.{node_view}
+use Rattle.ckc_blame_sound.specs.ckc_bounds_statements.specs.Paths.{Here}
 use Rattle.ckc_source.specs.declared.outcome.Range.TheVariants.{Without}
 use Rattle.ckc_source.specs.Blocks.{loaded}
 use Rattle.ckc_source.specs.Code.{Load, Number}

@@ -20,16 +20,16 @@ use Rattle.ckc_typed.specs.Declarations.{is_checked_kind}
 use Rattle.ckc_typed.specs.Operands.{is_raw_kind, sum_type, difference_type, is_moved, is_moved_kind}
 use Rattle.ckc_typed.specs.Trees.{NotedExpr}
 use Rattle.ckc_typed.specs.Types.{is_pointer, is_pointer_form, kind_of, kind_in}
-use Rattle.ckc_bounds_points.specs.Shown.{Known}
-use Rattle.ckc_bounds_points.specs.Flow.{State}
-use Rattle.ckc_bounds_points.specs.Forms.{is_small, constant_form, base_form, sum_of_forms, negative_of}
-use Rattle.ckc_bounds_views.specs.Conditions.{right_point}
-use Rattle.ckc_bounds_views.specs.Parts.{NodeView, capped, next_behind, fresh_behind}
-use Rattle.ckc_bounds_views.specs.Fresh.{right_fresh}
-use Rattle.ckc_bounds_views.specs.Places.{with_own, binary_place, pointer_place}
-use Rattle.ckc_bounds_views.specs.Ranges.{range_of_operand, pointer_range}
-use Rattle.ckc_bounds_views.specs.Views.{node_view, view}
-use Rattle.ckc_bounds_statements.specs.Paths.{Here}
+use Rattle.ckc_blame_sound.specs.ckc_bounds_points.specs.Shown.{Known}
+use Rattle.ckc_blame_sound.specs.ckc_bounds_points.specs.Flow.{State}
+use Rattle.ckc_blame_sound.specs.ckc_bounds_points.specs.Forms.{is_small, constant_form, base_form, sum_of_forms, negative_of}
+use Rattle.ckc_blame_sound.specs.ckc_bounds_views.specs.Conditions.{right_point}
+use Rattle.ckc_blame_sound.specs.ckc_bounds_views.specs.Parts.{NodeView, capped, next_behind, fresh_behind}
+use Rattle.ckc_blame_sound.specs.ckc_bounds_views.specs.Fresh.{right_fresh}
+use Rattle.ckc_blame_sound.specs.ckc_bounds_views.specs.Places.{with_own, binary_place, pointer_place}
+use Rattle.ckc_blame_sound.specs.ckc_bounds_views.specs.Ranges.{range_of_operand, pointer_range}
+use Rattle.ckc_blame_sound.specs.ckc_bounds_views.specs.Views.{node_view, view}
+use Rattle.ckc_blame_sound.specs.ckc_bounds_statements.specs.Paths.{Here}
 use Rattle.ckc_source.specs.declared.expr.Operation.TheVariants as operation
 use Rattle.ckc_source.specs.declared.expr.Shift.{Shift}
 use Rattle.ckc_source.specs.declared.outcome.Range.TheVariants.{Without}

@@ -15,9 +15,9 @@ use Rattle.ckc_typed.specs.Conversions.{is_string, is_string_form, is_terminated
 use Rattle.ckc_typed.specs.Statics.{Strings, node_strings, expr_strings, strings_of_expr}
 use Rattle.ckc_typed.specs.Trees.{NotedLimits, NotedNode, NotedExpr, NotedLayer, TypeTree}
 use Rattle.ckc_typed.specs.Types.{is_integer, is_char, is_pointer, kind_of, element_of}
-use Rattle.ckc_bounds_views.specs.Parts.{LimitsView, NodeView}
-use Rattle.ckc_bounds_views.specs.Views.{node_view, view}
-use Rattle.ckc_bounds_statements.specs.Paths.{Here}
+use Rattle.ckc_blame_sound.specs.ckc_bounds_views.specs.Parts.{LimitsView, NodeView}
+use Rattle.ckc_blame_sound.specs.ckc_bounds_views.specs.Views.{node_view, view}
+use Rattle.ckc_blame_sound.specs.ckc_bounds_statements.specs.Paths.{Here}
 use Rattle.ckc_source.specs.declared.expr.Integer.{Integer}
 use Rattle.ckc_source.specs.declared.expr.Integer.TheVariants.{Int}
 use Rattle.ckc_source.specs.declared.expr.Pointee.{Pointee}

@@ -13,14 +13,14 @@ use Rattle.ckc_syntax.specs.declared.tree.Node.{Node-F, map-Node, ind-Node, roll
 use Rattle.ckc_syntax.specs.declared.tree.Expr.{Expr-F, map-Expr, ind-Expr, roll-Expr, fold-roll-Expr}
 use Rattle.ckc_typed.specs.declared.typed.Note.{Note}
 use Rattle.ckc_typed.specs.Trees.{NotedLimits, NotedNode, NotedExpr, NotedLayer}
-use Rattle.ckc_bounds_points.specs.declared.frame.Frame.{Frame}
-use Rattle.ckc_bounds_points.specs.Shown.{Known}
-use Rattle.ckc_bounds_points.specs.Flow.{State}
-use Rattle.ckc_bounds_views.specs.Parts.{LimitsView, NodeView, View, NodeOfViews, LimitsOfViews, capped, with_last}
-use Rattle.ckc_bounds_views.specs.Conditions.{behind_node, wider, widened_by, read_place, widening_side, said, holding, is_comparison, operand, compares_unsigned, nonzero_side, by_operands, narrowed, right_point, binary_side, side_of_node}
-use Rattle.ckc_bounds_views.specs.Places.{target_of_node}
-use Rattle.ckc_bounds_views.specs.Fresh.{own_fresh, most_of_node, most_after, most_there, with_own_most, fresh_there, all_fresh, right_fresh, fresh_of_node}
-use Rattle.ckc_bounds_views.specs.Views.{limits_most, limits_fresh, limits_view, node_view, expr_view, view_of_limits, view_of_node, view}
+use Rattle.ckc_blame_sound.specs.ckc_bounds_points.specs.declared.frame.Frame.{Frame}
+use Rattle.ckc_blame_sound.specs.ckc_bounds_points.specs.Shown.{Known}
+use Rattle.ckc_blame_sound.specs.ckc_bounds_points.specs.Flow.{State}
+use Rattle.ckc_blame_sound.specs.ckc_bounds_views.specs.Parts.{LimitsView, NodeView, View, NodeOfViews, LimitsOfViews, capped, with_last}
+use Rattle.ckc_blame_sound.specs.ckc_bounds_views.specs.Conditions.{behind_node, wider, widened_by, read_place, widening_side, said, holding, is_comparison, operand, compares_unsigned, nonzero_side, by_operands, narrowed, right_point, binary_side, side_of_node}
+use Rattle.ckc_blame_sound.specs.ckc_bounds_views.specs.Places.{target_of_node}
+use Rattle.ckc_blame_sound.specs.ckc_bounds_views.specs.Fresh.{own_fresh, most_of_node, most_after, most_there, with_own_most, fresh_there, all_fresh, right_fresh, fresh_of_node}
+use Rattle.ckc_blame_sound.specs.ckc_bounds_views.specs.Views.{limits_most, limits_fresh, limits_view, node_view, expr_view, view_of_limits, view_of_node, view}
 
 -- points at which the same facts hold, and which can both be reached or both not
 pub record IsSamePoint (a b : State) : Type 0 where

@@ -31,17 +31,17 @@ use Rattle.ckc_typed.specs.Operands.{is_raw_kind, dot_type}
 use Rattle.ckc_typed.specs.Trees.{NotedLimits, NotedNode, NotedExpr, NotedLayer}
 use Rattle.ckc_typed.specs.Types.{kind_of, element_of, is_char, is_integer, is_pointer, is_scalar}
 use Rattle.ckc_typed_welltyped.specs.Expressions.{AnyLimits, AnyNode}
-use Rattle.ckc_bounds_points.specs.declared.frame.Bounds.{Bounds}
-use Rattle.ckc_bounds_points.specs.declared.frame.Bounds.TheVariants as bounds
-use Rattle.ckc_bounds_points.specs.declared.frame.Local.{Local}
-use Rattle.ckc_bounds_points.specs.Frames.{local_at}
-use Rattle.ckc_bounds_declared.specs.Written.{bounds_of_kind}
-use Rattle.ckc_bounds_views.specs.Fresh.{member_bounds, named_type}
-use Rattle.ckc_bounds_points.specs.Forms.{constant_form}
-use Rattle.ckc_bounds_ranges.specs.Rows.{range_from}
-use Rattle.ckc_bounds_views.specs.Judged.{is_counted_kind, is_declared_object}
-use Rattle.ckc_bounds_views.specs.Ranges.{range_of_object}
-use Rattle.ckc_bounds_views.specs.Views.{view}
+use Rattle.ckc_blame_sound.specs.ckc_bounds_points.specs.declared.frame.Bounds.{Bounds}
+use Rattle.ckc_blame_sound.specs.ckc_bounds_points.specs.declared.frame.Bounds.TheVariants as bounds
+use Rattle.ckc_blame_sound.specs.ckc_bounds_points.specs.declared.frame.Local.{Local}
+use Rattle.ckc_blame_sound.specs.ckc_bounds_points.specs.Frames.{local_at}
+use Rattle.ckc_blame_sound.specs.ckc_bounds_declared.specs.Written.{bounds_of_kind}
+use Rattle.ckc_blame_sound.specs.ckc_bounds_views.specs.Fresh.{member_bounds, named_type}
+use Rattle.ckc_blame_sound.specs.ckc_bounds_points.specs.Forms.{constant_form}
+use Rattle.ckc_blame_sound.specs.ckc_bounds_ranges.specs.Rows.{range_from}
+use Rattle.ckc_blame_sound.specs.ckc_bounds_views.specs.Judged.{is_counted_kind, is_declared_object}
+use Rattle.ckc_blame_sound.specs.ckc_bounds_views.specs.Ranges.{range_of_object}
+use Rattle.ckc_blame_sound.specs.ckc_bounds_views.specs.Views.{view}
 use Rattle.ckc_source.specs.declared.expr.Count.TheVariants as count
 use Rattle.ckc_source.specs.Eval.{Store}
 use Rattle.ckc_build_values.specs.Kinds.{size_behind, count_of_kind, tag_of}

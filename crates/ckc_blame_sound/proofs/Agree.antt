@@ -6,8 +6,8 @@ use Rattle.std.proofs.lemmas.Int.{ints}
 use Rattle.std.proofs.lemmas.List.Elements.{All-nil, All-cons, All-head, All-tail}
 use Rattle.ckc_linear.specs.declared.facts.Fact.{Fact}
 use Rattle.ckc_linear.specs.Facts.{Satisfies}
-use Rattle.ckc_bounds_points.specs.declared.frame.Local.{Local}
-use Rattle.ckc_bounds_points.specs.Frames.{local_at}
+use Rattle.ckc_bounds.specs.ckc_bounds_points.specs.declared.frame.Local.{Local}
+use Rattle.ckc_bounds.specs.ckc_bounds_points.specs.Frames.{local_at}
 use Rattle.ckc_blame_sound.specs.Settings.{Setting}
 use Rattle.ckc_blame_sound.specs.Values.{value, IsIntegerLocal, IsInteger, NamesIntegers}
 use Rattle.ckc_blame_sound.specs.Valuations.{Valuation, IsValuationOf}

@@ -9,17 +9,17 @@ use Rattle.ckc_linear.specs.declared.forms.Base.{Base}
 use Rattle.ckc_linear.specs.declared.forms.Base.TheVariants as base
 use Rattle.ckc_linear.specs.declared.forms.Form.{Form}
 use Rattle.ckc_typed.specs.declared.typed.Range.TheVariants as range
-use Rattle.ckc_bounds_points.specs.declared.frame.Bounds.TheVariants as bounds
-use Rattle.ckc_bounds_points.specs.declared.frame.Local.{Local}
-use Rattle.ckc_bounds_points.specs.Shown.{Known}
-use Rattle.ckc_bounds_points.specs.Frames.{local_at}
-use Rattle.ckc_bounds_points.specs.Flow.{State, in_bounds}
-use Rattle.ckc_bounds_points.specs.Forms.{base_form}
-use Rattle.ckc_bounds_points.specs.Codes.{not_contained, lost_bounds}
-use Rattle.ckc_bounds_ranges.specs.Rows.{range_by, range_of_local}
-use Rattle.ckc_bounds_ranges.specs.Replaced.{base_replaced, variable_replaced}
-use Rattle.ckc_bounds_stores.specs.Values.{Value, new_value, same_value}
-use Rattle.ckc_bounds_stores.specs.Stores.{Placed, bases, variables, assigns_local, touches, holds_by, touched_fault, named_fault}
+use Rattle.ckc_bounds.specs.ckc_bounds_points.specs.declared.frame.Bounds.TheVariants as bounds
+use Rattle.ckc_bounds.specs.ckc_bounds_points.specs.declared.frame.Local.{Local}
+use Rattle.ckc_bounds.specs.ckc_bounds_points.specs.Shown.{Known}
+use Rattle.ckc_bounds.specs.ckc_bounds_points.specs.Frames.{local_at}
+use Rattle.ckc_bounds.specs.ckc_bounds_points.specs.Flow.{State, in_bounds}
+use Rattle.ckc_bounds.specs.ckc_bounds_points.specs.Forms.{base_form}
+use Rattle.ckc_bounds.specs.ckc_bounds_points.specs.Codes.{not_contained, lost_bounds}
+use Rattle.ckc_bounds.specs.ckc_bounds_ranges.specs.Rows.{range_by, range_of_local}
+use Rattle.ckc_bounds.specs.ckc_bounds_ranges.specs.Replaced.{base_replaced, variable_replaced}
+use Rattle.ckc_bounds.specs.ckc_bounds_stores.specs.Values.{Value, new_value, same_value}
+use Rattle.ckc_bounds.specs.ckc_bounds_stores.specs.Stores.{Placed, bases, variables, assigns_local, touches, holds_by, touched_fault, named_fault}
 use Rattle.ckc_source.specs.Eval.{Store}
 use Rattle.ckc_source.specs.Words.{exact}
 use Rattle.ckc_build_values.specs.Kinds.{integer_of, size_behind}

@@ -14,12 +14,12 @@ use Rattle.ckc_typed.specs.declared.typed.Note.{Note}
 use Rattle.ckc_typed.specs.declared.typed.Typed.{Typed}
 use Rattle.ckc_typed.specs.Trees.{Init, Decl, NotedAct, NotedStmt, NotedExpr, NotedDecl, NotedInit, NotedHead, NotedItem}
 use Rattle.ckc_typed_welltyped.specs.Noteless.{BareLimits, BareNode, BareExpr, BareAct, BareStmt, limits_bared, node_bared, expr_bared, act_noteless, act_bared, stmt_bared, bare_expr, bare_init, bare_decl, bare_act, bare_stmt, bare_head, bare_item, without_notes}
-use Rattle.ckc_bounds_points.specs.declared.frame.HeadBounds.{HeadBounds}
-use Rattle.ckc_bounds_points.specs.declared.frame.Frame.{Frame}
-use Rattle.ckc_bounds_points.specs.Codes.{bad_bundle, not_contained}
-use Rattle.ckc_bounds_views.specs.Views.{view}
-use Rattle.ckc_bounds_statements.specs.DeclBounds.{bounds_there}
-use Rattle.ckc_bounds_statements.specs.Paths.{Here, is_good, expr_judged, value_judged, bounds_judged, values_judged, maybe_judged, init_judged, starts_within, declared_here, decl_judged, stated, sides_judged, behind_stores, is_returned, gone, Branch, Start, branched, for_started, Path, ActPath, all_judged, parts_judged, bundle_judged, part_judged, act_path, stmt_path, path_of_act, path}
+use Rattle.ckc_bounds.specs.ckc_bounds_points.specs.declared.frame.HeadBounds.{HeadBounds}
+use Rattle.ckc_bounds.specs.ckc_bounds_points.specs.declared.frame.Frame.{Frame}
+use Rattle.ckc_bounds.specs.ckc_bounds_points.specs.Codes.{bad_bundle, not_contained}
+use Rattle.ckc_bounds.specs.ckc_bounds_views.specs.Views.{view}
+use Rattle.ckc_bounds.specs.ckc_bounds_statements.specs.DeclBounds.{bounds_there}
+use Rattle.ckc_bounds.specs.ckc_bounds_statements.specs.Paths.{Here, is_good, expr_judged, value_judged, bounds_judged, values_judged, maybe_judged, init_judged, starts_within, declared_here, decl_judged, stated, sides_judged, behind_stores, is_returned, gone, Branch, Start, branched, for_started, Path, ActPath, all_judged, parts_judged, bundle_judged, part_judged, act_path, stmt_path, path_of_act, path}
 use Rattle.ckc_bounds.specs.Declarations.{member_holder, types_in, head_judged, head_bounds}
 use Rattle.ckc_bounds.specs.Frames.{text_frame, function_frame, begin_of}
 use Rattle.ckc_bounds.specs.Texts.{outside, members_judged, object_judged, body_judged, head_kept, item_judged, items_judged, text_judged}

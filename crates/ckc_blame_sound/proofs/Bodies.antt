@@ -19,8 +19,8 @@ use Rattle.ckc_typed.specs.Walk.{head_mode, pragma_after}
 use Rattle.ckc_typed_welltyped.specs.Noteless.{bare_decl, bare_head, bare_stmt, bare_item, without_notes}
 use Rattle.ckc_typed_welltyped.specs.Statements.{WellTypedStmt}
 use Rattle.ckc_typed_welltyped.specs.Texts.{WellTypedItem, WellTypedItems}
-use Rattle.ckc_bounds_points.specs.declared.frame.Frame.{Frame}
-use Rattle.ckc_bounds_statements.specs.Paths.{path}
+use Rattle.ckc_bounds.specs.ckc_bounds_points.specs.declared.frame.Frame.{Frame}
+use Rattle.ckc_bounds.specs.ckc_bounds_statements.specs.Paths.{path}
 use Rattle.ckc_bounds.specs.Declarations.{member_holder, types_in, head_judged}
 use Rattle.ckc_bounds.specs.Texts.{members_judged, object_judged, body_judged, head_kept, item_judged, items_judged}
 use Rattle.ckc_blame_sound.specs.Settings.{frame_of_text}

@@ -20,13 +20,13 @@ use Rattle.ckc_typed.specs.Layouts.{members_in_item, members_declared}
 use Rattle.ckc_typed.specs.Trees.{NotedDecl, NotedItem, NotedLimits}
 use Rattle.ckc_typed.specs.Types.{type_written, kind_in, kind_of, is_char_form, is_char}
 use Rattle.ckc_typed_welltyped.specs.Noteless.{bare_limits, bare_decl, bare_item}
-use Rattle.ckc_bounds_points.specs.declared.frame.Bounds.{Bounds}
-use Rattle.ckc_bounds_points.specs.declared.frame.Frame.{Frame}
-use Rattle.ckc_bounds_points.specs.Codes.{bad_limits}
-use Rattle.ckc_bounds_declared.specs.declared.limits.Holder.{Holder}
-use Rattle.ckc_bounds_declared.specs.Written.{takes_bounds_kind, takes_bounds, bounds_written, bounds_declared, place_of_limits}
-use Rattle.ckc_bounds_statements.specs.DeclBounds.{holder_of, decl_bounds, bounds_there}
-use Rattle.ckc_bounds_statements.specs.Paths.{init_judged}
+use Rattle.ckc_bounds.specs.ckc_bounds_points.specs.declared.frame.Bounds.{Bounds}
+use Rattle.ckc_bounds.specs.ckc_bounds_points.specs.declared.frame.Frame.{Frame}
+use Rattle.ckc_bounds.specs.ckc_bounds_points.specs.Codes.{bad_limits}
+use Rattle.ckc_bounds.specs.ckc_bounds_declared.specs.declared.limits.Holder.{Holder}
+use Rattle.ckc_bounds.specs.ckc_bounds_declared.specs.Written.{takes_bounds_kind, takes_bounds, bounds_written, bounds_declared, place_of_limits}
+use Rattle.ckc_bounds.specs.ckc_bounds_statements.specs.DeclBounds.{holder_of, decl_bounds, bounds_there}
+use Rattle.ckc_bounds.specs.ckc_bounds_statements.specs.Paths.{init_judged}
 use Rattle.ckc_bounds.specs.Declarations.{member_holder}
 use Rattle.ckc_bounds.specs.Frames.{text_frame}
 use Rattle.ckc_bounds.specs.Texts.{outside, members_judged, object_judged, body_judged, head_kept, item_judged, items_judged}

@@ -11,22 +11,22 @@ use Rattle.ckc_linear.specs.declared.forms.Base.TheVariants as base
 use Rattle.ckc_linear.specs.declared.forms.Form.{Form}
 use Rattle.ckc_typed.specs.declared.typed.Range.TheVariants as range
 use Rattle.ckc_typed.specs.Types.{is_integer}
-use Rattle.ckc_bounds_points.specs.declared.frame.Bounds.{Bounds}
-use Rattle.ckc_bounds_points.specs.declared.frame.Bounds.TheVariants as bounds
-use Rattle.ckc_bounds_points.specs.declared.frame.Local.{Local}
-use Rattle.ckc_bounds_points.specs.Shown.{Known}
-use Rattle.ckc_bounds_points.specs.Frames.{local_at}
-use Rattle.ckc_bounds_points.specs.Flow.{State, names_local, in_form, in_bounds}
-use Rattle.ckc_bounds_points.specs.Forms.{base_form}
-use Rattle.ckc_bounds_ranges.specs.declared.replacements.BaseBy.{BaseBy}
-use Rattle.ckc_bounds_ranges.specs.Replaced.{place_for, base_replaced, variable_replaced, replaced_bounds}
-use Rattle.ckc_bounds_ranges.specs.Contained.{is_contained}
-use Rattle.ckc_bounds_ranges.specs.Rows.{range_by, range_of_bounds}
-use Rattle.ckc_bounds_views.specs.Parts.{View, capped}
-use Rattle.ckc_bounds_views.specs.Arguments.{bases_by, variables_by}
-use Rattle.ckc_bounds_views.specs.Fresh.{with_types}
-use Rattle.ckc_bounds_views.specs.Judged.{facts_for, arguments_fault}
-use Rattle.ckc_bounds_stores.specs.Values.{Value, holds}
+use Rattle.ckc_bounds.specs.ckc_bounds_points.specs.declared.frame.Bounds.{Bounds}
+use Rattle.ckc_bounds.specs.ckc_bounds_points.specs.declared.frame.Bounds.TheVariants as bounds
+use Rattle.ckc_bounds.specs.ckc_bounds_points.specs.declared.frame.Local.{Local}
+use Rattle.ckc_bounds.specs.ckc_bounds_points.specs.Shown.{Known}
+use Rattle.ckc_bounds.specs.ckc_bounds_points.specs.Frames.{local_at}
+use Rattle.ckc_bounds.specs.ckc_bounds_points.specs.Flow.{State, names_local, in_form, in_bounds}
+use Rattle.ckc_bounds.specs.ckc_bounds_points.specs.Forms.{base_form}
+use Rattle.ckc_bounds.specs.ckc_bounds_ranges.specs.declared.replacements.BaseBy.{BaseBy}
+use Rattle.ckc_bounds.specs.ckc_bounds_ranges.specs.Replaced.{place_for, base_replaced, variable_replaced, replaced_bounds}
+use Rattle.ckc_bounds.specs.ckc_bounds_ranges.specs.Contained.{is_contained}
+use Rattle.ckc_bounds.specs.ckc_bounds_ranges.specs.Rows.{range_by, range_of_bounds}
+use Rattle.ckc_bounds.specs.ckc_bounds_views.specs.Parts.{View, capped}
+use Rattle.ckc_bounds.specs.ckc_bounds_views.specs.Arguments.{bases_by, variables_by}
+use Rattle.ckc_bounds.specs.ckc_bounds_views.specs.Fresh.{with_types}
+use Rattle.ckc_bounds.specs.ckc_bounds_views.specs.Judged.{facts_for, arguments_fault}
+use Rattle.ckc_bounds.specs.ckc_bounds_stores.specs.Values.{Value, holds}
 use Rattle.ckc_source.specs.Eval.{Store}
 use Rattle.ckc_source.specs.Words.{exact}
 use Rattle.ckc_build_values.specs.Kinds.{integer_of, size_behind}

@@ -12,17 +12,17 @@ use Rattle.ckc_linear.specs.Facts.{Satisfies}
 use Rattle.ckc_typed.specs.declared.typed.Range.{Range}
 use Rattle.ckc_typed.specs.declared.typed.Range.TheVariants as range
 use Rattle.ckc_typed.specs.declared.typed.Typed.{Typed}
-use Rattle.ckc_bounds_known.specs.Ranges.{is_small}
-use Rattle.ckc_bounds_points.specs.declared.frame.Bounds.TheVariants as bounds
-use Rattle.ckc_bounds_points.specs.Shown.{Known, is_shown}
-use Rattle.ckc_bounds_points.specs.Flow.{with_fact}
-use Rattle.ckc_bounds_points.specs.Forms.{same_base, at_most, at_less, with_most, with_less}
-use Rattle.ckc_bounds_ranges.specs.declared.replacements.BaseBy.{BaseBy}
-use Rattle.ckc_bounds_ranges.specs.declared.replacements.VariableBy.{VariableBy}
-use Rattle.ckc_bounds_ranges.specs.Replaced.{replaced, both_ends}
-use Rattle.ckc_bounds_ranges.specs.Contained.{is_at_most, at_most_far, with_far, with_element, lies_between, is_contained}
-use Rattle.ckc_bounds_views.specs.Judged.{extended_by}
-use Rattle.ckc_bounds_stores.specs.Values.{Value, holds}
+use Rattle.ckc_bounds.specs.ckc_bounds_known.specs.Ranges.{is_small}
+use Rattle.ckc_bounds.specs.ckc_bounds_points.specs.declared.frame.Bounds.TheVariants as bounds
+use Rattle.ckc_bounds.specs.ckc_bounds_points.specs.Shown.{Known, is_shown}
+use Rattle.ckc_bounds.specs.ckc_bounds_points.specs.Flow.{with_fact}
+use Rattle.ckc_bounds.specs.ckc_bounds_points.specs.Forms.{same_base, at_most, at_less, with_most, with_less}
+use Rattle.ckc_bounds.specs.ckc_bounds_ranges.specs.declared.replacements.BaseBy.{BaseBy}
+use Rattle.ckc_bounds.specs.ckc_bounds_ranges.specs.declared.replacements.VariableBy.{VariableBy}
+use Rattle.ckc_bounds.specs.ckc_bounds_ranges.specs.Replaced.{replaced, both_ends}
+use Rattle.ckc_bounds.specs.ckc_bounds_ranges.specs.Contained.{is_at_most, at_most_far, with_far, with_element, lies_between, is_contained}
+use Rattle.ckc_bounds.specs.ckc_bounds_views.specs.Judged.{extended_by}
+use Rattle.ckc_bounds.specs.ckc_bounds_stores.specs.Values.{Value, holds}
 use Rattle.ckc_source.specs.declared.outcome.Halt.TheVariants.{Stuck}
 use Rattle.ckc_source.specs.Runs.{is_true}
 use Rattle.ckc_source.specs.Eval.{reads, reads_within, plain, ranged}

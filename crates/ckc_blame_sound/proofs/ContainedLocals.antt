@@ -4,13 +4,13 @@ use Rattle.std.specs.Prelude.{Bool, true, false, slice_index, Option, None, Some
 use Rattle.std.specs.List.{All, Contains, find, list_any}
 use Rattle.std.proofs.lemmas.Bool.{eq-eqb}
 use Rattle.ckc_linear.specs.declared.forms.Form.{Form}
-use Rattle.ckc_bounds_points.specs.declared.frame.Bounds.{Bounds}
-use Rattle.ckc_bounds_points.specs.declared.frame.Bounds.TheVariants as bounds
-use Rattle.ckc_bounds_points.specs.declared.frame.Local.{Local}
-use Rattle.ckc_bounds_points.specs.Frames.{local_at}
-use Rattle.ckc_bounds_points.specs.Flow.{State, in_bounds, in_bounds_of, widening_names}
-use Rattle.ckc_bounds_ranges.specs.Rows.{range_by, range_of_bounds}
-use Rattle.ckc_bounds_stores.specs.Stores.{Placed, assigns_local, fault_by_bounds, fault_of_local}
+use Rattle.ckc_bounds.specs.ckc_bounds_points.specs.declared.frame.Bounds.{Bounds}
+use Rattle.ckc_bounds.specs.ckc_bounds_points.specs.declared.frame.Bounds.TheVariants as bounds
+use Rattle.ckc_bounds.specs.ckc_bounds_points.specs.declared.frame.Local.{Local}
+use Rattle.ckc_bounds.specs.ckc_bounds_points.specs.Frames.{local_at}
+use Rattle.ckc_bounds.specs.ckc_bounds_points.specs.Flow.{State, in_bounds, in_bounds_of, widening_names}
+use Rattle.ckc_bounds.specs.ckc_bounds_ranges.specs.Rows.{range_by, range_of_bounds}
+use Rattle.ckc_bounds.specs.ckc_bounds_stores.specs.Stores.{Placed, assigns_local, fault_by_bounds, fault_of_local}
 use Rattle.ckc_source.specs.Eval.{Store}
 use Rattle.ckc_build_values.specs.Kinds.{size_behind}
 use Rattle.ckc_blame_sound.specs.Settings.{Setting}

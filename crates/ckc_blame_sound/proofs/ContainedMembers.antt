@@ -12,15 +12,15 @@ use Rattle.ckc_types.specs.declared.types.MemberBounds.TheVariants as written
 use Rattle.ckc_types.specs.declared.types.MemberShape.{MemberShape}
 use Rattle.ckc_types.specs.declared.types.Structs.{Structs}
 use Rattle.ckc_types.specs.Layout.{members_of}
-use Rattle.ckc_bounds_points.specs.declared.frame.Bounds.{Bounds}
-use Rattle.ckc_bounds_points.specs.declared.frame.Frame.{Frame}
-use Rattle.ckc_bounds_points.specs.Codes.{assigned_alone}
-use Rattle.ckc_bounds_points.specs.Flow.{State}
-use Rattle.ckc_bounds_ranges.specs.Members.{names_member, names_some, is_named, is_declared, names_another, takes_part, is_target, is_covered, is_touched, is_kept}
-use Rattle.ckc_bounds_views.specs.declared.variables.Member.{Member}
-use Rattle.ckc_bounds_views.specs.Views.{view}
-use Rattle.ckc_bounds_stores.specs.Targets.{local_of, memory_bounds}
-use Rattle.ckc_bounds_stores.specs.Stores.{Placed, members_assigned, may_be_assigned, member_fault, memory_fault_by, memory_fault, target_fault_of, store_fault}
+use Rattle.ckc_bounds.specs.ckc_bounds_points.specs.declared.frame.Bounds.{Bounds}
+use Rattle.ckc_bounds.specs.ckc_bounds_points.specs.declared.frame.Frame.{Frame}
+use Rattle.ckc_bounds.specs.ckc_bounds_points.specs.Codes.{assigned_alone}
+use Rattle.ckc_bounds.specs.ckc_bounds_points.specs.Flow.{State}
+use Rattle.ckc_bounds.specs.ckc_bounds_ranges.specs.Members.{names_member, names_some, is_named, is_declared, names_another, takes_part, is_target, is_covered, is_touched, is_kept}
+use Rattle.ckc_bounds.specs.ckc_bounds_views.specs.declared.variables.Member.{Member}
+use Rattle.ckc_bounds.specs.ckc_bounds_views.specs.Views.{view}
+use Rattle.ckc_bounds.specs.ckc_bounds_stores.specs.Targets.{local_of, memory_bounds}
+use Rattle.ckc_bounds.specs.ckc_bounds_stores.specs.Stores.{Placed, members_assigned, may_be_assigned, member_fault, memory_fault_by, memory_fault, target_fault_of, store_fault}
 use Rattle.ckc_blame_sound.proofs.Facts.{one_of}
 use Rattle.ckc_blame_sound.proofs.Tests.{left_of, right_of}
 use Rattle.ckc_blame_sound.proofs.Faults.{unless_none}

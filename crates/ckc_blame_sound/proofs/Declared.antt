@@ -12,17 +12,17 @@ use Rattle.ckc_typed.specs.declared.typed.Range.{Range}
 use Rattle.ckc_typed.specs.declared.typed.Range.TheVariants as range
 use Rattle.ckc_typed.specs.Trees.{NotedExpr, NotedInit}
 use Rattle.ckc_typed.specs.Types.{is_integer}
-use Rattle.ckc_bounds_points.specs.declared.frame.Bounds.{Bounds}
-use Rattle.ckc_bounds_points.specs.declared.frame.Bounds.TheVariants as bounds
-use Rattle.ckc_bounds_points.specs.declared.frame.Local.{Local}
-use Rattle.ckc_bounds_points.specs.Frames.{local_at}
-use Rattle.ckc_bounds_points.specs.Forms.{same_base}
-use Rattle.ckc_bounds_points.specs.Flow.{State, in_bounds, in_bounds_of, widening_names, assigned}
-use Rattle.ckc_bounds_ranges.specs.Rows.{range_by, range_of_bounds}
-use Rattle.ckc_bounds_views.specs.Views.{view}
-use Rattle.ckc_bounds_stores.specs.declared.values.Numbered.{Numbered}
-use Rattle.ckc_bounds_stores.specs.Values.{new_value}
-use Rattle.ckc_bounds_stores.specs.Stores.{own_place, holds_from, initialised_local}
+use Rattle.ckc_bounds.specs.ckc_bounds_points.specs.declared.frame.Bounds.{Bounds}
+use Rattle.ckc_bounds.specs.ckc_bounds_points.specs.declared.frame.Bounds.TheVariants as bounds
+use Rattle.ckc_bounds.specs.ckc_bounds_points.specs.declared.frame.Local.{Local}
+use Rattle.ckc_bounds.specs.ckc_bounds_points.specs.Frames.{local_at}
+use Rattle.ckc_bounds.specs.ckc_bounds_points.specs.Forms.{same_base}
+use Rattle.ckc_bounds.specs.ckc_bounds_points.specs.Flow.{State, in_bounds, in_bounds_of, widening_names, assigned}
+use Rattle.ckc_bounds.specs.ckc_bounds_ranges.specs.Rows.{range_by, range_of_bounds}
+use Rattle.ckc_bounds.specs.ckc_bounds_views.specs.Views.{view}
+use Rattle.ckc_bounds.specs.ckc_bounds_stores.specs.declared.values.Numbered.{Numbered}
+use Rattle.ckc_bounds.specs.ckc_bounds_stores.specs.Values.{new_value}
+use Rattle.ckc_bounds.specs.ckc_bounds_stores.specs.Stores.{own_place, holds_from, initialised_local}
 use Rattle.ckc_source.specs.Eval.{Store}
 use Rattle.ckc_source.specs.Words.{exact}
 use Rattle.ckc_build_values.specs.Kinds.{integer_of, size_behind}

@@ -12,8 +12,8 @@ use Rattle.ckc_syntax.specs.declared.tree.Name.TheVariants as name
 use Rattle.ckc_typed.specs.declared.typed.Range.TheVariants as range
 use Rattle.ckc_typed.specs.Environment.{variable_named}
 use Rattle.ckc_typed.specs.Types.{is_integer}
-use Rattle.ckc_bounds_points.specs.declared.frame.Local.{Local}
-use Rattle.ckc_bounds_points.specs.Frames.{local_at}
+use Rattle.ckc_bounds.specs.ckc_bounds_points.specs.declared.frame.Local.{Local}
+use Rattle.ckc_bounds.specs.ckc_bounds_points.specs.Frames.{local_at}
 use Rattle.ckc_source.specs.declared.expr.Base.TheVariants as end
 use Rattle.ckc_source.specs.Words.{exact}
 use Rattle.ckc_source.specs.Eval.{Store, amount, base_address, end_address, reads}

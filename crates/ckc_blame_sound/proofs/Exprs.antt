@@ -15,12 +15,12 @@ use Rattle.ckc_typed.specs.Conversions.{is_null}
 use Rattle.ckc_typed.specs.Trees.{NotedLimits, NotedNode, NotedExpr, NotedLayer}
 use Rattle.ckc_typed.specs.Types.{type_written}
 use Rattle.ckc_typed_welltyped.specs.Expressions.{AnyLimits, AnyNode}
-use Rattle.ckc_bounds_points.specs.Flow.{State}
-use Rattle.ckc_bounds_views.specs.Parts.{LimitsView, NodeView, View, NodeOfViews}
-use Rattle.ckc_bounds_views.specs.Integers.{number_of_node, variable_of_node, form_of_node, step_of, form_after}
-use Rattle.ckc_bounds_views.specs.Places.{target_of_node}
-use Rattle.ckc_bounds_views.specs.Conditions.{behind_node, side_of_node, binary_side, widening_side}
-use Rattle.ckc_bounds_views.specs.Views.{limits_view, node_view, expr_view, view_of_limits, view_of_node, view}
+use Rattle.ckc_bounds.specs.ckc_bounds_points.specs.Flow.{State}
+use Rattle.ckc_bounds.specs.ckc_bounds_views.specs.Parts.{LimitsView, NodeView, View, NodeOfViews}
+use Rattle.ckc_bounds.specs.ckc_bounds_views.specs.Integers.{number_of_node, variable_of_node, form_of_node, step_of, form_after}
+use Rattle.ckc_bounds.specs.ckc_bounds_views.specs.Places.{target_of_node}
+use Rattle.ckc_bounds.specs.ckc_bounds_views.specs.Conditions.{behind_node, side_of_node, binary_side, widening_side}
+use Rattle.ckc_bounds.specs.ckc_bounds_views.specs.Views.{limits_view, node_view, expr_view, view_of_limits, view_of_node, view}
 use Rattle.ckc_source.specs.Code.{Expr}
 use Rattle.ckc_build_values.specs.Operators.{of_operands}
 use Rattle.ckc_build_values.specs.Expressions.{Part, NodePart, LimitsPart, limits_parts, node_parts, expr_parts, node_value, part_of, part_of_node, part_of_limits}

@@ -9,11 +9,11 @@ use Rattle.ckc_linear.specs.declared.facts.Fact.{Fact}
 use Rattle.ckc_linear.specs.Facts.{Satisfies, names}
 use Rattle.ckc_linear.specs.Chains.{Chain, total}
 use Rattle.ckc_linear.proofs.Values.{walk_holds, other_holds}
-use Rattle.ckc_bounds_known.specs.declared.intervals.Interval.{Interval}
-use Rattle.ckc_bounds_known.specs.Shown.{Known, is_within, reaches, is_shown}
-use Rattle.ckc_bounds_known.specs.Ranges.{fits, with_fact, with_range}
+use Rattle.ckc_bounds.specs.ckc_bounds_known.specs.declared.intervals.Interval.{Interval}
+use Rattle.ckc_bounds.specs.ckc_bounds_known.specs.Shown.{Known, is_within, reaches, is_shown}
+use Rattle.ckc_bounds.specs.ckc_bounds_known.specs.Ranges.{fits, with_fact, with_range}
 use Rattle.ckc_blame_sound.specs.Values.{IsBetween}
-use Rattle.ckc_bounds_known.proofs.Reaching.{and_cases, chain_found}
+use Rattle.ckc_bounds.specs.ckc_bounds_known.proofs.Reaching.{and_cases, chain_found}
 
 pub same : (a b : ℕ) → (a == b) ≡ true → a ≡ b
 same a b e = grind (arith, nat_tests)

@@ -7,14 +7,14 @@ use Rattle.std.proofs.lemmas.List.Elements.{All-nil, All-cons, All-contains}
 use Rattle.ckc_base.specs.declared.places.Pos.{Pos}
 use Rattle.ckc_base.specs.declared.places.Refusal.{Refusal}
 use Rattle.ckc_linear.specs.declared.forms.Form.{Form}
-use Rattle.ckc_bounds_points.specs.declared.frame.Bounds.{Bounds}
-use Rattle.ckc_bounds_points.specs.declared.frame.Local.{Local}
-use Rattle.ckc_bounds_points.specs.declared.frame.Frame.{Frame}
-use Rattle.ckc_bounds_points.specs.Shown.{Known}
-use Rattle.ckc_bounds_points.specs.Frames.{local_at}
-use Rattle.ckc_bounds_points.specs.Flow.{State, in_bounds, widening_names, local_assigned}
-use Rattle.ckc_bounds_stores.specs.Targets.{local_of}
-use Rattle.ckc_bounds_stores.specs.Stores.{Placed, assigns, assigns_local, is_in_bounds, touches, refusal_unless, local_fault, store_fault, decides, earlier, earliest, first_fault, received, assigned_local, after, unless_refused, stored_placed}
+use Rattle.ckc_bounds.specs.ckc_bounds_points.specs.declared.frame.Bounds.{Bounds}
+use Rattle.ckc_bounds.specs.ckc_bounds_points.specs.declared.frame.Local.{Local}
+use Rattle.ckc_bounds.specs.ckc_bounds_points.specs.declared.frame.Frame.{Frame}
+use Rattle.ckc_bounds.specs.ckc_bounds_points.specs.Shown.{Known}
+use Rattle.ckc_bounds.specs.ckc_bounds_points.specs.Frames.{local_at}
+use Rattle.ckc_bounds.specs.ckc_bounds_points.specs.Flow.{State, in_bounds, widening_names, local_assigned}
+use Rattle.ckc_bounds.specs.ckc_bounds_stores.specs.Targets.{local_of}
+use Rattle.ckc_bounds.specs.ckc_bounds_stores.specs.Stores.{Placed, assigns, assigns_local, is_in_bounds, touches, refusal_unless, local_fault, store_fault, decides, earlier, earliest, first_fault, received, assigned_local, after, unless_refused, stored_placed}
 
 -- ---- errors
 

@@ -13,13 +13,13 @@ use Rattle.ckc_linear.specs.declared.forms.Form.{Form}
 use Rattle.ckc_linear.specs.Facts.{Satisfies, shifted}
 use Rattle.ckc_linear.proofs.Values.{shifted_holds}
 use Rattle.ckc_typed.specs.Types.{is_integer, is_integer_form, is_char_form}
-use Rattle.ckc_bounds_known.specs.declared.intervals.Interval.{Interval}
-use Rattle.ckc_bounds_points.specs.declared.frame.Local.{Local}
-use Rattle.ckc_bounds_points.specs.declared.frame.Frame.{Frame}
-use Rattle.ckc_bounds_points.specs.Shown.{Known, is_within}
-use Rattle.ckc_bounds_known.specs.Ranges.{range_in, range_of, with_fact, with_range, forgotten}
-use Rattle.ckc_bounds_points.specs.Frames.{local_at}
-use Rattle.ckc_bounds_points.specs.Flow.{State, stays_small, moved, assigned_facts, local_assigned, assigned, less, same_fact, in_both, ranges_from, ranges}
+use Rattle.ckc_bounds.specs.ckc_bounds_known.specs.declared.intervals.Interval.{Interval}
+use Rattle.ckc_bounds.specs.ckc_bounds_points.specs.declared.frame.Local.{Local}
+use Rattle.ckc_bounds.specs.ckc_bounds_points.specs.declared.frame.Frame.{Frame}
+use Rattle.ckc_bounds.specs.ckc_bounds_points.specs.Shown.{Known, is_within}
+use Rattle.ckc_bounds.specs.ckc_bounds_known.specs.Ranges.{range_in, range_of, with_fact, with_range, forgotten}
+use Rattle.ckc_bounds.specs.ckc_bounds_points.specs.Frames.{local_at}
+use Rattle.ckc_bounds.specs.ckc_bounds_points.specs.Flow.{State, stays_small, moved, assigned_facts, local_assigned, assigned, less, same_fact, in_both, ranges_from, ranges}
 use Rattle.ckc_source.specs.Words.{exact}
 use Rattle.ckc_build_values.specs.Kinds.{integer_in, integer_of}
 use Rattle.ckc_blame_sound.specs.Values.{value_in, value, AreTrue, number_of, IsWordOf, IsBetween, HoldWords}

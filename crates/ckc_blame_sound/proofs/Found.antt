@@ -6,13 +6,13 @@ use Rattle.std.specs.Option.{option_map}
 use Rattle.std.proofs.lemmas.Bool.Decides.{nat_tests}
 use Rattle.ckc_linear.specs.declared.forms.Base.TheVariants as base
 use Rattle.ckc_linear.specs.declared.forms.Form.{Form}
-use Rattle.ckc_bounds_points.specs.declared.frame.Frame.{Frame}
-use Rattle.ckc_bounds_points.specs.Shown.{Known}
-use Rattle.ckc_bounds_points.specs.Forms.{base_form}
-use Rattle.ckc_bounds_ranges.specs.Replaced.{place_for, variable_replaced}
-use Rattle.ckc_bounds_views.specs.Parts.{capped}
-use Rattle.ckc_bounds_stores.specs.Stores.{Placed, received, place_of, bases, variables, assigns, assigns_local}
-use Rattle.ckc_bounds_stores.specs.Targets.{local_of}
+use Rattle.ckc_bounds.specs.ckc_bounds_points.specs.declared.frame.Frame.{Frame}
+use Rattle.ckc_bounds.specs.ckc_bounds_points.specs.Shown.{Known}
+use Rattle.ckc_bounds.specs.ckc_bounds_points.specs.Forms.{base_form}
+use Rattle.ckc_bounds.specs.ckc_bounds_ranges.specs.Replaced.{place_for, variable_replaced}
+use Rattle.ckc_bounds.specs.ckc_bounds_views.specs.Parts.{capped}
+use Rattle.ckc_bounds.specs.ckc_bounds_stores.specs.Stores.{Placed, received, place_of, bases, variables, assigns, assigns_local}
+use Rattle.ckc_bounds.specs.ckc_bounds_stores.specs.Targets.{local_of}
 
 module _ (frame : Frame) (facts : Known) where
   -- what replaces a base

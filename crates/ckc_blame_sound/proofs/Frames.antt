@@ -25,12 +25,12 @@ use Rattle.ckc_typed.specs.Types.{type_written}
 use Rattle.ckc_typed.specs.Environment.{same_name, objects_of, or_variable, object_named, variable_named, variable_declared, variables_of, locals_of, type_of_name}
 use Rattle.ckc_typed_fit.proofs.NamedItems as items
 use Rattle.ckc_typed_fit.proofs.NamedItems.{ItemsNamed, text_is}
-use Rattle.ckc_bounds_points.specs.declared.frame.Local.{Local}
-use Rattle.ckc_bounds_points.specs.declared.frame.Frame.{Frame}
-use Rattle.ckc_bounds_points.specs.Frames.{local_at}
+use Rattle.ckc_bounds.specs.ckc_bounds_points.specs.declared.frame.Local.{Local}
+use Rattle.ckc_bounds.specs.ckc_bounds_points.specs.declared.frame.Frame.{Frame}
+use Rattle.ckc_bounds.specs.ckc_bounds_points.specs.Frames.{local_at}
 use Rattle.ckc_bounds.specs.Declarations.{first_of, few_of, local_made, with_all, types_in, declared_in, head_bounds}
 use Rattle.ckc_bounds.specs.Frames.{all_of, first_fresh, fresh_needed, function_frame, locals_frame, nameless}
-use Rattle.ckc_bounds_statements.specs.Paths.{path}
+use Rattle.ckc_bounds.specs.ckc_bounds_statements.specs.Paths.{path}
 use Rattle.ckc_source.specs.Code.{Function}
 use Rattle.ckc_blame_sound.specs.Settings.{Setting, IsFunction, frame_of_text, setting_of}
 use Rattle.ckc_blame_sound.specs.Typed.{Agrees}

@@ -9,7 +9,7 @@ use Rattle.ckc_typed.specs.declared.typed.Typed.{Typed}
 use Rattle.ckc_typed.specs.Trees.{NotedDecl, NotedHead, NotedStmt, NotedItem, Tree, Item}
 use Rattle.ckc_typed_welltyped.specs.Noteless.{bare_decl, bare_item, without_notes}
 use Rattle.ckc_bounds.specs.Frames.{all_of}
-use Rattle.ckc_bounds_statements.specs.Paths.{path}
+use Rattle.ckc_bounds.specs.ckc_bounds_statements.specs.Paths.{path}
 use Rattle.ckc_blame_sound.specs.JudgedTexts.{IsJudged}
 use Rattle.ckc_blame_sound.specs.Numbered.{AreLocals}
 use Rattle.ckc_blame_sound.proofs.Bares.{same_tree}

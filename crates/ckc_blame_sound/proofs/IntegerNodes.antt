@@ -13,14 +13,14 @@ use Rattle.ckc_typed.specs.declared.environment.Constant.{Constant}
 use Rattle.ckc_typed.specs.Types.{is_integer, is_pointer, is_unsigned}
 use Rattle.ckc_typed.specs.Constants.{value_of}
 use Rattle.ckc_typed.specs.Operands.{binary_type, sum_type, difference_type}
-use Rattle.ckc_bounds_points.specs.declared.frame.Frame.{Frame}
-use Rattle.ckc_bounds_points.specs.Shown.{Known}
-use Rattle.ckc_bounds_points.specs.Flow.{State}
-use Rattle.ckc_bounds_points.specs.Forms.{constant_form, moved_form}
-use Rattle.ckc_bounds_views.specs.declared.forms.Step.{Step}
-use Rattle.ckc_bounds_views.specs.Parts.{View}
-use Rattle.ckc_bounds_views.specs.Integers.{sum_step, difference_step, step_of, form_after, constant_or, integer_form}
-use Rattle.ckc_bounds_views.specs.Conditions.{operand, compares_unsigned, is_comparison, by_operands, binary_side, and_side, or_side, narrowed}
+use Rattle.ckc_bounds.specs.ckc_bounds_points.specs.declared.frame.Frame.{Frame}
+use Rattle.ckc_bounds.specs.ckc_bounds_points.specs.Shown.{Known}
+use Rattle.ckc_bounds.specs.ckc_bounds_points.specs.Flow.{State}
+use Rattle.ckc_bounds.specs.ckc_bounds_points.specs.Forms.{constant_form, moved_form}
+use Rattle.ckc_bounds.specs.ckc_bounds_views.specs.declared.forms.Step.{Step}
+use Rattle.ckc_bounds.specs.ckc_bounds_views.specs.Parts.{View}
+use Rattle.ckc_bounds.specs.ckc_bounds_views.specs.Integers.{sum_step, difference_step, step_of, form_after, constant_or, integer_form}
+use Rattle.ckc_bounds.specs.ckc_bounds_views.specs.Conditions.{operand, compares_unsigned, is_comparison, by_operands, binary_side, and_side, or_side, narrowed}
 use Rattle.ckc_source.specs.declared.outcome.Value.{Value}
 use Rattle.ckc_source.specs.declared.expr.Operation.TheVariants as operation
 use Rattle.ckc_source.specs.Code.{Expr, Binary, And, Or, Moved, Added}

@@ -27,12 +27,12 @@ use Rattle.ckc_typed.specs.Trees.{NotedLimits, NotedNode, NotedExpr, NotedLayer}
 use Rattle.ckc_typed.specs.Types.{type_written, is_integer, is_pointer, is_char, is_object_type, kind_of, element_of}
 use Rattle.ckc_typed_welltyped.specs.Expressions.{AnyLimits, AnyNode, HasType, unary_row, AreArguments, IsAllocation}
 use Rattle.ckc_typed_welltyped.proofs.Nodes.{node_of, node_rolled, limits_of, limits_rolled}
-use Rattle.ckc_bounds_points.specs.Flow.{State}
-use Rattle.ckc_bounds_points.specs.Codes.{bad_limits}
-use Rattle.ckc_bounds_views.specs.Parts.{LimitsView, View, NodeView}
-use Rattle.ckc_bounds_views.specs.Judged.{counts_elements, counts_bytes, limits_judged, all_judged, node_judged, unary_judged, by_fault, noted_range, expr_made}
-use Rattle.ckc_bounds_views.specs.Ranges.{pointer_range}
-use Rattle.ckc_bounds_views.specs.Views.{limits_view, node_view, expr_view, view_of_limits, view_of_node, view}
+use Rattle.ckc_bounds.specs.ckc_bounds_points.specs.Flow.{State}
+use Rattle.ckc_bounds.specs.ckc_bounds_points.specs.Codes.{bad_limits}
+use Rattle.ckc_bounds.specs.ckc_bounds_views.specs.Parts.{LimitsView, View, NodeView}
+use Rattle.ckc_bounds.specs.ckc_bounds_views.specs.Judged.{counts_elements, counts_bytes, limits_judged, all_judged, node_judged, unary_judged, by_fault, noted_range, expr_made}
+use Rattle.ckc_bounds.specs.ckc_bounds_views.specs.Ranges.{pointer_range}
+use Rattle.ckc_bounds.specs.ckc_bounds_views.specs.Views.{limits_view, node_view, expr_view, view_of_limits, view_of_node, view}
 use Rattle.ckc_blame_sound.specs.Settings.{Setting}
 use Rattle.ckc_blame_sound.specs.Typed.{IsWordNode, IsRow, HasRow, IsTyped}
 use Rattle.ckc_blame_sound.proofs.Types.{no_pointer}

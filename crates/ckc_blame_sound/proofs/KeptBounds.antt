@@ -8,13 +8,13 @@ use Rattle.ckc_linear.specs.declared.forms.Base.TheVariants as base
 use Rattle.ckc_linear.specs.declared.forms.Form.{Form}
 use Rattle.ckc_typed.specs.declared.typed.Range.{Range}
 use Rattle.ckc_typed.specs.declared.typed.Range.TheVariants as range
-use Rattle.ckc_bounds_points.specs.declared.frame.Bounds.{Bounds}
-use Rattle.ckc_bounds_points.specs.declared.frame.Bounds.TheVariants as bounds
-use Rattle.ckc_bounds_points.specs.declared.frame.Local.{Local}
-use Rattle.ckc_bounds_points.specs.Frames.{local_at}
-use Rattle.ckc_bounds_points.specs.Flow.{names_local, in_form, in_bounds}
-use Rattle.ckc_bounds_points.specs.Forms.{moved_form, is_small}
-use Rattle.ckc_bounds_ranges.specs.Rows.{range_moved, range_widened, range_of_bounds, range_by}
+use Rattle.ckc_bounds.specs.ckc_bounds_points.specs.declared.frame.Bounds.{Bounds}
+use Rattle.ckc_bounds.specs.ckc_bounds_points.specs.declared.frame.Bounds.TheVariants as bounds
+use Rattle.ckc_bounds.specs.ckc_bounds_points.specs.declared.frame.Local.{Local}
+use Rattle.ckc_bounds.specs.ckc_bounds_points.specs.Frames.{local_at}
+use Rattle.ckc_bounds.specs.ckc_bounds_points.specs.Flow.{names_local, in_form, in_bounds}
+use Rattle.ckc_bounds.specs.ckc_bounds_points.specs.Forms.{moved_form, is_small}
+use Rattle.ckc_bounds.specs.ckc_bounds_ranges.specs.Rows.{range_moved, range_widened, range_of_bounds, range_by}
 use Rattle.ckc_source.specs.declared.expr.Pointee.{Pointee}
 use Rattle.ckc_source.specs.Words.{exact}
 use Rattle.ckc_source.specs.Eval.{Store, reads}

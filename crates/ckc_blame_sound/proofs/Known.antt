@@ -13,17 +13,17 @@ use Rattle.ckc_typed.specs.declared.typed.Note.{Note}
 use Rattle.ckc_typed.specs.Constants.{value_of}
 use Rattle.ckc_typed.specs.Trees.{NotedLimits, NotedNode, NotedExpr, NotedLayer}
 use Rattle.ckc_typed.specs.Types.{is_integer}
-use Rattle.ckc_bounds_known.specs.declared.intervals.Interval.{Interval}
-use Rattle.ckc_bounds_known.specs.Ranges.{range_of}
-use Rattle.ckc_bounds_points.specs.declared.frame.Frame.{Frame}
-use Rattle.ckc_bounds_points.specs.declared.frame.Local.{Local}
-use Rattle.ckc_bounds_points.specs.Shown.{Known, is_shown}
-use Rattle.ckc_bounds_points.specs.Frames.{local_at, variable_of, variable}
-use Rattle.ckc_bounds_points.specs.Forms.{is_small, below, above, constant_form, moved_form, within_interval, in_type}
-use Rattle.ckc_bounds_views.specs.declared.forms.Step.{Step}
-use Rattle.ckc_bounds_views.specs.Parts.{LimitsView, NodeView, View, NodeOfViews}
-use Rattle.ckc_bounds_views.specs.Integers.{step_of, form_after, form_of_node, constant_or}
-use Rattle.ckc_bounds_views.specs.Views.{limits_view, node_view, expr_view, view_of_limits, view_of_node, view}
+use Rattle.ckc_bounds.specs.ckc_bounds_known.specs.declared.intervals.Interval.{Interval}
+use Rattle.ckc_bounds.specs.ckc_bounds_known.specs.Ranges.{range_of}
+use Rattle.ckc_bounds.specs.ckc_bounds_points.specs.declared.frame.Frame.{Frame}
+use Rattle.ckc_bounds.specs.ckc_bounds_points.specs.declared.frame.Local.{Local}
+use Rattle.ckc_bounds.specs.ckc_bounds_points.specs.Shown.{Known, is_shown}
+use Rattle.ckc_bounds.specs.ckc_bounds_points.specs.Frames.{local_at, variable_of, variable}
+use Rattle.ckc_bounds.specs.ckc_bounds_points.specs.Forms.{is_small, below, above, constant_form, moved_form, within_interval, in_type}
+use Rattle.ckc_bounds.specs.ckc_bounds_views.specs.declared.forms.Step.{Step}
+use Rattle.ckc_bounds.specs.ckc_bounds_views.specs.Parts.{LimitsView, NodeView, View, NodeOfViews}
+use Rattle.ckc_bounds.specs.ckc_bounds_views.specs.Integers.{step_of, form_after, form_of_node, constant_or}
+use Rattle.ckc_bounds.specs.ckc_bounds_views.specs.Views.{limits_view, node_view, expr_view, view_of_limits, view_of_node, view}
 use Rattle.ckc_blame_sound.specs.Variables.{IsKnownVariable}
 
 module _ (frame : Frame) where

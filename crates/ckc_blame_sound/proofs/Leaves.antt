@@ -18,12 +18,12 @@ use Rattle.ckc_typed.specs.Constants.{negated}
 use Rattle.ckc_typed.specs.Environment.{type_of_name}
 use Rattle.ckc_typed.specs.Expressions.{number_type}
 use Rattle.ckc_typed.specs.Operands.{sign_type, size_type, same_element}
-use Rattle.ckc_bounds_points.specs.declared.frame.Local.{Local}
-use Rattle.ckc_bounds_points.specs.declared.frame.Frame.{Frame}
-use Rattle.ckc_bounds_points.specs.Shown.{Known}
-use Rattle.ckc_bounds_points.specs.Frames.{local_at, variable_of, variable}
-use Rattle.ckc_bounds_points.specs.Flow.{State}
-use Rattle.ckc_bounds_points.specs.Forms.{in_type}
+use Rattle.ckc_bounds.specs.ckc_bounds_points.specs.declared.frame.Local.{Local}
+use Rattle.ckc_bounds.specs.ckc_bounds_points.specs.declared.frame.Frame.{Frame}
+use Rattle.ckc_bounds.specs.ckc_bounds_points.specs.Shown.{Known}
+use Rattle.ckc_bounds.specs.ckc_bounds_points.specs.Frames.{local_at, variable_of, variable}
+use Rattle.ckc_bounds.specs.ckc_bounds_points.specs.Flow.{State}
+use Rattle.ckc_bounds.specs.ckc_bounds_points.specs.Forms.{in_type}
 use Rattle.ckc_source.specs.declared.outcome.Value.{Value}
 use Rattle.ckc_source.specs.declared.expr.Operation.TheVariants as operation
 use Rattle.ckc_source.specs.Code.{Expr, Number, Binary, Narrow, Bare}

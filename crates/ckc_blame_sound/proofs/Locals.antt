@@ -14,7 +14,7 @@ use Rattle.ckc_typed.specs.declared.typed.Note.{Note}
 use Rattle.ckc_typed.specs.Trees.{NotedAct, NotedStmt, NotedExpr, NotedDecl}
 use Rattle.ckc_typed.specs.Environment.{variable_declared, act_variables, stmt_variables, locals_of, locals_of_act}
 use Rattle.ckc_typed_welltyped.specs.Noteless.{BareAct, BareStmt, act_bared, stmt_bared, bare_expr, bare_act, bare_stmt}
-use Rattle.ckc_bounds_statements.specs.Paths.{Path, ActPath, act_declared, act_path, stmt_path, path_of_act, path}
+use Rattle.ckc_bounds.specs.ckc_bounds_statements.specs.Paths.{Path, ActPath, act_declared, act_path, stmt_path, path_of_act, path}
 use Rattle.ckc_blame_sound.proofs.Bares.{Layer, BareLayer, bared, rolled, placed}
 use Rattle.ckc_blame_sound.proofs.KeptTrees.{two}
 use Rattle.ckc_blame_sound.proofs.Numbers.{act_names, names_in, stmt_names, names_of_act}

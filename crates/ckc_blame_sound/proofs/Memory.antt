@@ -17,20 +17,20 @@ use Rattle.ckc_linear.specs.declared.forms.Base.TheVariants as base
 use Rattle.ckc_linear.specs.declared.forms.Form.{Form}
 use Rattle.ckc_syntax.specs.declared.tree.Name.TheVariants as name
 use Rattle.ckc_typed.specs.Types.{kind_of}
-use Rattle.ckc_bounds_points.specs.declared.frame.Bounds.{Bounds}
-use Rattle.ckc_bounds_points.specs.declared.frame.Bounds.TheVariants as bounds
-use Rattle.ckc_bounds_points.specs.Codes.{not_contained}
-use Rattle.ckc_bounds_points.specs.Shown.{Known}
-use Rattle.ckc_bounds_points.specs.Flow.{State}
-use Rattle.ckc_bounds_points.specs.Forms.{same_base, base_form}
-use Rattle.ckc_bounds_ranges.specs.declared.replacements.VariableBy.{VariableBy}
-use Rattle.ckc_bounds_ranges.specs.Replaced.{variable_replaced}
-use Rattle.ckc_bounds_declared.specs.Written.{bounds_of_kind}
-use Rattle.ckc_bounds_views.specs.declared.variables.Member.{Member}
-use Rattle.ckc_bounds_views.specs.Views.{view}
-use Rattle.ckc_bounds_stores.specs.Targets.{local_of, member_variable, memory_bounds, bounds_by_member}
-use Rattle.ckc_bounds_stores.specs.Values.{new_value}
-use Rattle.ckc_bounds_stores.specs.Stores.{Placed, received, place_of, member_by, unassigned, members, own_place, holds_in_memory, memory_fault_by, member_fault, memory_fault, target_fault_of, store_fault}
+use Rattle.ckc_bounds.specs.ckc_bounds_points.specs.declared.frame.Bounds.{Bounds}
+use Rattle.ckc_bounds.specs.ckc_bounds_points.specs.declared.frame.Bounds.TheVariants as bounds
+use Rattle.ckc_bounds.specs.ckc_bounds_points.specs.Codes.{not_contained}
+use Rattle.ckc_bounds.specs.ckc_bounds_points.specs.Shown.{Known}
+use Rattle.ckc_bounds.specs.ckc_bounds_points.specs.Flow.{State}
+use Rattle.ckc_bounds.specs.ckc_bounds_points.specs.Forms.{same_base, base_form}
+use Rattle.ckc_bounds.specs.ckc_bounds_ranges.specs.declared.replacements.VariableBy.{VariableBy}
+use Rattle.ckc_bounds.specs.ckc_bounds_ranges.specs.Replaced.{variable_replaced}
+use Rattle.ckc_bounds.specs.ckc_bounds_declared.specs.Written.{bounds_of_kind}
+use Rattle.ckc_bounds.specs.ckc_bounds_views.specs.declared.variables.Member.{Member}
+use Rattle.ckc_bounds.specs.ckc_bounds_views.specs.Views.{view}
+use Rattle.ckc_bounds.specs.ckc_bounds_stores.specs.Targets.{local_of, member_variable, memory_bounds, bounds_by_member}
+use Rattle.ckc_bounds.specs.ckc_bounds_stores.specs.Values.{new_value}
+use Rattle.ckc_bounds.specs.ckc_bounds_stores.specs.Stores.{Placed, received, place_of, member_by, unassigned, members, own_place, holds_in_memory, memory_fault_by, member_fault, memory_fault, target_fault_of, store_fault}
 use Rattle.ckc_source.specs.declared.expr.Count.{Count}
 use Rattle.ckc_source.specs.declared.expr.Count.TheVariants as count
 use Rattle.ckc_source.specs.Eval.{Store, reads}

@@ -4,11 +4,11 @@ use Rattle.std.specs.Prelude.{Bool, true, false, ◌==◌, ◌&&◌, pos, ◌*�
 use Rattle.std.proofs.lemmas.Int.{ints}
 use Rattle.std.proofs.lemmas.Bool.{eqb-true}
 use Rattle.ckc_linear.specs.declared.forms.Form.{Form}
-use Rattle.ckc_bounds_known.specs.Ranges.{is_small}
-use Rattle.ckc_bounds_points.specs.Forms.{moved_form, sum_of_forms}
-use Rattle.ckc_bounds_ranges.specs.declared.replacements.BaseBy.{BaseBy}
-use Rattle.ckc_bounds_ranges.specs.declared.replacements.VariableBy.{VariableBy}
-use Rattle.ckc_bounds_ranges.specs.Replaced.{base_replaced, variable_replaced, replaced}
+use Rattle.ckc_bounds.specs.ckc_bounds_known.specs.Ranges.{is_small}
+use Rattle.ckc_bounds.specs.ckc_bounds_points.specs.Forms.{moved_form, sum_of_forms}
+use Rattle.ckc_bounds.specs.ckc_bounds_ranges.specs.declared.replacements.BaseBy.{BaseBy}
+use Rattle.ckc_bounds.specs.ckc_bounds_ranges.specs.declared.replacements.VariableBy.{VariableBy}
+use Rattle.ckc_bounds.specs.ckc_bounds_ranges.specs.Replaced.{base_replaced, variable_replaced, replaced}
 use Rattle.ckc_blame_sound.specs.Values.{number_of}
 use Rattle.ckc_blame_sound.specs.Valuations.{Valuation, form_address}
 use Rattle.ckc_blame_sound.specs.Agreeing.{IsReplaced}

@@ -7,20 +7,20 @@ use Rattle.ckc_linear.specs.declared.forms.Form.{Form}
 use Rattle.ckc_typed.specs.declared.typed.Range.TheVariants as range
 use Rattle.ckc_typed.specs.declared.typed.Typed.{Typed}
 use Rattle.ckc_typed.specs.Trees.{NotedExpr}
-use Rattle.ckc_bounds_points.specs.declared.frame.Bounds.{Bounds}
-use Rattle.ckc_bounds_points.specs.declared.frame.Bounds.TheVariants as bounds
-use Rattle.ckc_bounds_points.specs.declared.frame.Local.{Local}
-use Rattle.ckc_bounds_points.specs.declared.frame.Frame.{Frame}
-use Rattle.ckc_bounds_points.specs.Shown.{Known}
-use Rattle.ckc_bounds_points.specs.Frames.{local_at}
-use Rattle.ckc_bounds_points.specs.Flow.{State, range_of, with_range}
-use Rattle.ckc_bounds_points.specs.Forms.{moved_form, is_small}
-use Rattle.ckc_bounds_ranges.specs.Rows.{range_moved, range_widened, range_of_bounds, range_by, range_of_local}
-use Rattle.ckc_bounds_views.specs.Parts.{capped}
-use Rattle.ckc_bounds_views.specs.Fresh.{with_types}
-use Rattle.ckc_bounds_views.specs.Views.{view}
-use Rattle.ckc_bounds_stores.specs.declared.values.Numbered.{Numbered}
-use Rattle.ckc_bounds_stores.specs.Values.{narrow, has_element, range_received, new_value, same_value}
+use Rattle.ckc_bounds.specs.ckc_bounds_points.specs.declared.frame.Bounds.{Bounds}
+use Rattle.ckc_bounds.specs.ckc_bounds_points.specs.declared.frame.Bounds.TheVariants as bounds
+use Rattle.ckc_bounds.specs.ckc_bounds_points.specs.declared.frame.Local.{Local}
+use Rattle.ckc_bounds.specs.ckc_bounds_points.specs.declared.frame.Frame.{Frame}
+use Rattle.ckc_bounds.specs.ckc_bounds_points.specs.Shown.{Known}
+use Rattle.ckc_bounds.specs.ckc_bounds_points.specs.Frames.{local_at}
+use Rattle.ckc_bounds.specs.ckc_bounds_points.specs.Flow.{State, range_of, with_range}
+use Rattle.ckc_bounds.specs.ckc_bounds_points.specs.Forms.{moved_form, is_small}
+use Rattle.ckc_bounds.specs.ckc_bounds_ranges.specs.Rows.{range_moved, range_widened, range_of_bounds, range_by, range_of_local}
+use Rattle.ckc_bounds.specs.ckc_bounds_views.specs.Parts.{capped}
+use Rattle.ckc_bounds.specs.ckc_bounds_views.specs.Fresh.{with_types}
+use Rattle.ckc_bounds.specs.ckc_bounds_views.specs.Views.{view}
+use Rattle.ckc_bounds.specs.ckc_bounds_stores.specs.declared.values.Numbered.{Numbered}
+use Rattle.ckc_bounds.specs.ckc_bounds_stores.specs.Values.{narrow, has_element, range_received, new_value, same_value}
 use Rattle.ckc_blame_sound.specs.Sound.{IsPlaced}
 use Rattle.ckc_blame_sound.specs.Valuations.{Valuation, AreFacts, AreNumbersOf}
 use Rattle.ckc_blame_sound.proofs.Facts.{range_added}

@@ -7,7 +7,7 @@ use Rattle.ckc_syntax.specs.declared.tree.Stmt.{fold-roll-Stmt}
 use Rattle.ckc_syntax_limits.specs.Marks.{Mark, node as mark, is_node, act_marks, stmt_marks, marks_of_act, marks_of_stmt}
 use Rattle.ckc_typed.specs.declared.typed.Note.{Note}
 use Rattle.ckc_typed.specs.Trees.{NotedAct, NotedStmt}
-use Rattle.ckc_bounds_statements.specs.Paths.{stated}
+use Rattle.ckc_bounds.specs.ckc_bounds_statements.specs.Paths.{stated}
 use Rattle.ckc_blame_sound.specs.Few.{nodes_in}
 use Rattle.ckc_blame_sound.proofs.Tallies.{tally, is_tally}
 

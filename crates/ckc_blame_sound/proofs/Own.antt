@@ -6,10 +6,10 @@ use Rattle.std.proofs.Math.IntN.{*ℤ-zero}
 use Rattle.ckc_linear.specs.declared.forms.Base.{Base}
 use Rattle.ckc_linear.specs.declared.forms.Base.TheVariants as base
 use Rattle.ckc_linear.specs.declared.forms.Form.{Form}
-use Rattle.ckc_bounds_points.specs.Forms.{same_base, base_form}
-use Rattle.ckc_bounds_ranges.specs.declared.replacements.VariableBy.{VariableBy}
-use Rattle.ckc_bounds_ranges.specs.Replaced.{base_replaced, variable_replaced}
-use Rattle.ckc_bounds_stores.specs.Stores.{own_place}
+use Rattle.ckc_bounds.specs.ckc_bounds_points.specs.Forms.{same_base, base_form}
+use Rattle.ckc_bounds.specs.ckc_bounds_ranges.specs.declared.replacements.VariableBy.{VariableBy}
+use Rattle.ckc_bounds.specs.ckc_bounds_ranges.specs.Replaced.{base_replaced, variable_replaced}
+use Rattle.ckc_bounds.specs.ckc_bounds_stores.specs.Stores.{own_place}
 use Rattle.ckc_blame_sound.specs.Values.{number_of}
 use Rattle.ckc_blame_sound.specs.Valuations.{Valuation, form_address}
 use Rattle.ckc_blame_sound.specs.Agreeing.{IsReplaced}

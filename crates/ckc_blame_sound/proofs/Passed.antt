@@ -10,17 +10,17 @@ use Rattle.ckc_linear.specs.declared.forms.Base.{Base}
 use Rattle.ckc_linear.specs.declared.forms.Base.TheVariants as base
 use Rattle.ckc_linear.specs.declared.forms.Form.{Form}
 use Rattle.ckc_typed.specs.Types.{is_integer, is_pointer, is_integer_form, is_pointer_form}
-use Rattle.ckc_bounds_points.specs.declared.frame.Local.{Local}
-use Rattle.ckc_bounds_points.specs.Shown.{Known}
-use Rattle.ckc_bounds_points.specs.Flow.{State}
-use Rattle.ckc_bounds_points.specs.Forms.{in_type, same_base}
-use Rattle.ckc_bounds_points.specs.Codes.{not_contained}
-use Rattle.ckc_bounds_ranges.specs.declared.replacements.BaseBy.{BaseBy}
-use Rattle.ckc_bounds_ranges.specs.declared.replacements.VariableBy.{VariableBy}
-use Rattle.ckc_bounds_ranges.specs.Replaced.{place_for, variable_replaced}
-use Rattle.ckc_bounds_views.specs.Parts.{View, capped, fresh_behind, with_first}
-use Rattle.ckc_bounds_views.specs.Arguments.{base_by, bases_by, variable_by, variables_by}
-use Rattle.ckc_bounds_views.specs.Judged.{facts_for, contained_in, is_argument, arguments_fault}
+use Rattle.ckc_bounds.specs.ckc_bounds_points.specs.declared.frame.Local.{Local}
+use Rattle.ckc_bounds.specs.ckc_bounds_points.specs.Shown.{Known}
+use Rattle.ckc_bounds.specs.ckc_bounds_points.specs.Flow.{State}
+use Rattle.ckc_bounds.specs.ckc_bounds_points.specs.Forms.{in_type, same_base}
+use Rattle.ckc_bounds.specs.ckc_bounds_points.specs.Codes.{not_contained}
+use Rattle.ckc_bounds.specs.ckc_bounds_ranges.specs.declared.replacements.BaseBy.{BaseBy}
+use Rattle.ckc_bounds.specs.ckc_bounds_ranges.specs.declared.replacements.VariableBy.{VariableBy}
+use Rattle.ckc_bounds.specs.ckc_bounds_ranges.specs.Replaced.{place_for, variable_replaced}
+use Rattle.ckc_bounds.specs.ckc_bounds_views.specs.Parts.{View, capped, fresh_behind, with_first}
+use Rattle.ckc_bounds.specs.ckc_bounds_views.specs.Arguments.{base_by, bases_by, variable_by, variables_by}
+use Rattle.ckc_bounds.specs.ckc_bounds_views.specs.Judged.{facts_for, contained_in, is_argument, arguments_fault}
 use Rattle.ckc_source.specs.Eval.{Store}
 use Rattle.ckc_source.specs.Words.{exact}
 use Rattle.ckc_build_values.specs.Kinds.{integer_of, size_behind}

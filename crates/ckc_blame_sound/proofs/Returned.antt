@@ -9,21 +9,21 @@ use Rattle.ckc_linear.specs.declared.forms.Base.TheVariants as base
 use Rattle.ckc_linear.specs.declared.forms.Form.{Form}
 use Rattle.ckc_typed.specs.Trees.{NotedExpr}
 use Rattle.ckc_typed.specs.Types.{is_integer}
-use Rattle.ckc_bounds_points.specs.declared.frame.Bounds.TheVariants as bounds
-use Rattle.ckc_bounds_points.specs.declared.frame.Local.{Local}
-use Rattle.ckc_bounds_points.specs.declared.frame.HeadBounds.{HeadBounds}
-use Rattle.ckc_bounds_points.specs.Shown.{Known}
-use Rattle.ckc_bounds_points.specs.Flow.{State, names_local, in_form, in_bounds}
-use Rattle.ckc_bounds_points.specs.Forms.{same_base, base_form}
-use Rattle.ckc_bounds_ranges.specs.Replaced.{place_for, base_replaced, replaced, both_ends, replaced_bounds}
-use Rattle.ckc_bounds_ranges.specs.Rows.{range_of_ends}
-use Rattle.ckc_bounds_views.specs.Parts.{View}
-use Rattle.ckc_bounds_views.specs.Arguments.{bases_by, variables_by, own_by}
-use Rattle.ckc_bounds_views.specs.Ranges.{range_of_result}
-use Rattle.ckc_bounds_views.specs.Views.{view}
-use Rattle.ckc_bounds_stores.specs.declared.values.Numbered.{Numbered}
-use Rattle.ckc_bounds_stores.specs.Values.{new_value, holds}
-use Rattle.ckc_bounds_stores.specs.Stores.{own_place, holds_from}
+use Rattle.ckc_bounds.specs.ckc_bounds_points.specs.declared.frame.Bounds.TheVariants as bounds
+use Rattle.ckc_bounds.specs.ckc_bounds_points.specs.declared.frame.Local.{Local}
+use Rattle.ckc_bounds.specs.ckc_bounds_points.specs.declared.frame.HeadBounds.{HeadBounds}
+use Rattle.ckc_bounds.specs.ckc_bounds_points.specs.Shown.{Known}
+use Rattle.ckc_bounds.specs.ckc_bounds_points.specs.Flow.{State, names_local, in_form, in_bounds}
+use Rattle.ckc_bounds.specs.ckc_bounds_points.specs.Forms.{same_base, base_form}
+use Rattle.ckc_bounds.specs.ckc_bounds_ranges.specs.Replaced.{place_for, base_replaced, replaced, both_ends, replaced_bounds}
+use Rattle.ckc_bounds.specs.ckc_bounds_ranges.specs.Rows.{range_of_ends}
+use Rattle.ckc_bounds.specs.ckc_bounds_views.specs.Parts.{View}
+use Rattle.ckc_bounds.specs.ckc_bounds_views.specs.Arguments.{bases_by, variables_by, own_by}
+use Rattle.ckc_bounds.specs.ckc_bounds_views.specs.Ranges.{range_of_result}
+use Rattle.ckc_bounds.specs.ckc_bounds_views.specs.Views.{view}
+use Rattle.ckc_bounds.specs.ckc_bounds_stores.specs.declared.values.Numbered.{Numbered}
+use Rattle.ckc_bounds.specs.ckc_bounds_stores.specs.Values.{new_value, holds}
+use Rattle.ckc_bounds.specs.ckc_bounds_stores.specs.Stores.{own_place, holds_from}
 use Rattle.ckc_source.specs.Eval.{Store, amount, base_address, end_address, reads, reads_limited}
 use Rattle.ckc_source.specs.Words.{exact}
 use Rattle.ckc_build_values.specs.Kinds.{integer_of, size_behind, pointee_of}

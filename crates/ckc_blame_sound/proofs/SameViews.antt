@@ -7,12 +7,12 @@ use Rattle.ckc_typed.specs.declared.typed.Note.{Note}
 use Rattle.ckc_typed.specs.declared.typed.Range.{Range}
 use Rattle.ckc_typed.specs.Trees.{NotedExpr}
 use Rattle.ckc_typed.specs.Types.{is_pointer}
-use Rattle.ckc_bounds_points.specs.declared.frame.Frame.{Frame}
-use Rattle.ckc_bounds_points.specs.Flow.{State}
-use Rattle.ckc_bounds_views.specs.Parts.{LimitsView, View, NodeView}
-use Rattle.ckc_bounds_views.specs.Judged.{by_fault, noted_range}
-use Rattle.ckc_bounds_views.specs.Ranges.{pointer_range}
-use Rattle.ckc_bounds_views.specs.Views.{limits_view, node_view, expr_view, view}
+use Rattle.ckc_bounds.specs.ckc_bounds_points.specs.declared.frame.Frame.{Frame}
+use Rattle.ckc_bounds.specs.ckc_bounds_points.specs.Flow.{State}
+use Rattle.ckc_bounds.specs.ckc_bounds_views.specs.Parts.{LimitsView, View, NodeView}
+use Rattle.ckc_bounds.specs.ckc_bounds_views.specs.Judged.{by_fault, noted_range}
+use Rattle.ckc_bounds.specs.ckc_bounds_views.specs.Ranges.{pointer_range}
+use Rattle.ckc_bounds.specs.ckc_bounds_views.specs.Views.{limits_view, node_view, expr_view, view}
 use Rattle.ckc_blame_sound.proofs.KeptTrees.{same_fold}
 
 -- the note that a range is noted in has a range perhaps

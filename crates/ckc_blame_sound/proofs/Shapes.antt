@@ -18,11 +18,11 @@ use Rattle.ckc_linear.specs.declared.forms.Base.TheVariants as base
 use Rattle.ckc_linear.specs.declared.forms.Form.{Form}
 use Rattle.ckc_syntax.specs.declared.tree.Name.TheVariants as name
 use Rattle.ckc_typed.specs.Types.{kind_of, is_integer, is_char_form}
-use Rattle.ckc_bounds_points.specs.declared.frame.Bounds.{Bounds}
-use Rattle.ckc_bounds_points.specs.declared.frame.Bounds.TheVariants as bounds
-use Rattle.ckc_bounds_points.specs.Forms.{base_form}
-use Rattle.ckc_bounds_declared.specs.Written.{bounds_of_kind, is_integer_member}
-use Rattle.ckc_bounds_stores.specs.Targets.{member_variable, bounds_by_member}
+use Rattle.ckc_bounds.specs.ckc_bounds_points.specs.declared.frame.Bounds.{Bounds}
+use Rattle.ckc_bounds.specs.ckc_bounds_points.specs.declared.frame.Bounds.TheVariants as bounds
+use Rattle.ckc_bounds.specs.ckc_bounds_points.specs.Forms.{base_form}
+use Rattle.ckc_bounds.specs.ckc_bounds_declared.specs.Written.{bounds_of_kind, is_integer_member}
+use Rattle.ckc_bounds.specs.ckc_bounds_stores.specs.Targets.{member_variable, bounds_by_member}
 use Rattle.ckc_source.specs.declared.expr.Count.{Count}
 use Rattle.ckc_source.specs.Words as words
 use Rattle.ckc_build_values.specs.Kinds.{integer_of, integer_in, width_of, count_of_kind, pointee_of}

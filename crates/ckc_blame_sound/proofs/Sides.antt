@@ -11,13 +11,13 @@ use Rattle.ckc_syntax.specs.declared.tree.TreeOp.TheVariants as op
 use Rattle.ckc_typed.specs.declared.environment.Constant.{Constant}
 use Rattle.ckc_typed.specs.Types.{is_integer, is_unsigned, is_char}
 use Rattle.ckc_typed.specs.Constants.{value_of}
-use Rattle.ckc_bounds_known.specs.Ranges.{is_small, with_fact}
-use Rattle.ckc_bounds_points.specs.declared.frame.Frame.{Frame}
-use Rattle.ckc_bounds_points.specs.Shown.{Known}
-use Rattle.ckc_bounds_points.specs.Flow.{State}
-use Rattle.ckc_bounds_points.specs.Forms.{constant_form, at_most, at_less, with_most, with_less}
-use Rattle.ckc_bounds_views.specs.Parts.{View}
-use Rattle.ckc_bounds_views.specs.Conditions.{wider, widened_by, read_place, widening_side, said, opposite, holding, is_comparison, constant_operand, operand_of, operand, nonzero_side, by_operands}
+use Rattle.ckc_bounds.specs.ckc_bounds_known.specs.Ranges.{is_small, with_fact}
+use Rattle.ckc_bounds.specs.ckc_bounds_points.specs.declared.frame.Frame.{Frame}
+use Rattle.ckc_bounds.specs.ckc_bounds_points.specs.Shown.{Known}
+use Rattle.ckc_bounds.specs.ckc_bounds_points.specs.Flow.{State}
+use Rattle.ckc_bounds.specs.ckc_bounds_points.specs.Forms.{constant_form, at_most, at_less, with_most, with_less}
+use Rattle.ckc_bounds.specs.ckc_bounds_views.specs.Parts.{View}
+use Rattle.ckc_bounds.specs.ckc_bounds_views.specs.Conditions.{wider, widened_by, read_place, widening_side, said, opposite, holding, is_comparison, constant_operand, operand_of, operand, nonzero_side, by_operands}
 use Rattle.ckc_source.specs.declared.expr.Operation.{Operation}
 use Rattle.ckc_source.specs.declared.expr.Operation.TheVariants as operation
 use Rattle.ckc_source.specs.Code.{Expr}

@@ -34,7 +34,7 @@ use Rattle.ckc_typed_fit.specs.Numbers.{CountsFrom, static_in, static_numbers}
 use Rattle.ckc_typed_fit.proofs.Numbered.{statics_count}
 use Rattle.ckc_typed_fit.proofs.NamedItems as items
 use Rattle.ckc_typed_fit.proofs.NamedItems.{ItemsNamed, text_is}
-use Rattle.ckc_bounds_declared.specs.Written.{takes_bounds}
+use Rattle.ckc_bounds.specs.ckc_bounds_declared.specs.Written.{takes_bounds}
 use Rattle.ckc_source.specs.declared.expr.Count.{Count}
 use Rattle.ckc_build_values.specs.Kinds.{width_of, count_of_kind, pointee_of}
 use Rattle.ckc_build_values.specs.Members.{offset_of, count_by}

@@ -20,16 +20,16 @@ use Rattle.ckc_typed.specs.Environment.{type_of_name}
 use Rattle.ckc_typed.specs.Trees.{NotedAct, NotedDecl, NotedExpr, NotedInit, NotedLayer, NotedStmt}
 use Rattle.ckc_typed.specs.Types.{is_char, type_written}
 use Rattle.ckc_typed_welltyped.specs.Expressions.{AnyLimits, AnyNode, HasType}
-use Rattle.ckc_bounds_points.specs.declared.frame.Local.{Local}
-use Rattle.ckc_bounds_points.specs.Frames.{local_at}
-use Rattle.ckc_bounds_points.specs.Flow.{State, assigned}
-use Rattle.ckc_bounds_points.specs.Forms.{constant_form, in_type}
-use Rattle.ckc_bounds_points.specs.Codes.{not_contained}
-use Rattle.ckc_bounds_stores.specs.Targets.{local_named, local_in, local_of}
-use Rattle.ckc_bounds_stores.specs.Stores.{with_store, stores_of, numbered, assigned_local, after, first_fault, unless_refused, stored_placed}
-use Rattle.ckc_bounds_views.specs.Parts.{fresh_behind}
-use Rattle.ckc_bounds_views.specs.Views.{view}
-use Rattle.ckc_bounds_statements.specs.Paths.{Here, value_judged, values_judged, maybe_judged, init_judged, starts_within, started, start_form, declared_here, bounds_judged, decl_judged, stated, sides_judged, stores_judged, behind_stores, assign_judged, local_judged, value_form}
+use Rattle.ckc_bounds.specs.ckc_bounds_points.specs.declared.frame.Local.{Local}
+use Rattle.ckc_bounds.specs.ckc_bounds_points.specs.Frames.{local_at}
+use Rattle.ckc_bounds.specs.ckc_bounds_points.specs.Flow.{State, assigned}
+use Rattle.ckc_bounds.specs.ckc_bounds_points.specs.Forms.{constant_form, in_type}
+use Rattle.ckc_bounds.specs.ckc_bounds_points.specs.Codes.{not_contained}
+use Rattle.ckc_bounds.specs.ckc_bounds_stores.specs.Targets.{local_named, local_in, local_of}
+use Rattle.ckc_bounds.specs.ckc_bounds_stores.specs.Stores.{with_store, stores_of, numbered, assigned_local, after, first_fault, unless_refused, stored_placed}
+use Rattle.ckc_bounds.specs.ckc_bounds_views.specs.Parts.{fresh_behind}
+use Rattle.ckc_bounds.specs.ckc_bounds_views.specs.Views.{view}
+use Rattle.ckc_bounds.specs.ckc_bounds_statements.specs.Paths.{Here, value_judged, values_judged, maybe_judged, init_judged, starts_within, started, start_form, declared_here, bounds_judged, decl_judged, stated, sides_judged, stores_judged, behind_stores, assign_judged, local_judged, value_form}
 use Rattle.ckc_base.specs.declared.arithmetic.Width.TheVariants.{Byte, Word}
 use Rattle.ckc_source.specs.declared.expr.Integer.{Integer}
 use Rattle.ckc_source.specs.declared.expr.Integer.TheVariants.{Int, Unsigned, Char}

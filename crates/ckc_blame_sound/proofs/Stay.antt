@@ -17,15 +17,15 @@ use Rattle.ckc_types.specs.declared.types.Structs.{Structs}
 use Rattle.ckc_types.specs.Layout.{members_of}
 use Rattle.ckc_syntax.specs.declared.tree.Name.TheVariants as name
 use Rattle.ckc_typed.specs.Types.{kind_of}
-use Rattle.ckc_bounds_points.specs.declared.frame.Bounds.{Bounds}
-use Rattle.ckc_bounds_points.specs.declared.frame.Bounds.TheVariants as bounds
-use Rattle.ckc_bounds_points.specs.Flow.{State}
-use Rattle.ckc_bounds_declared.specs.Written.{is_integer_member}
-use Rattle.ckc_bounds_ranges.specs.Members.{names_member, is_target, is_covered, is_touched}
-use Rattle.ckc_bounds_views.specs.Fresh.{shape_of, bounds_of_shape, member_bounds}
-use Rattle.ckc_bounds_views.specs.Views.{view}
-use Rattle.ckc_bounds_stores.specs.Targets.{member_variable, memory_bounds, bounds_by, bounds_by_member}
-use Rattle.ckc_bounds_stores.specs.Stores.{Placed, members_assigned, stored_placed}
+use Rattle.ckc_bounds.specs.ckc_bounds_points.specs.declared.frame.Bounds.{Bounds}
+use Rattle.ckc_bounds.specs.ckc_bounds_points.specs.declared.frame.Bounds.TheVariants as bounds
+use Rattle.ckc_bounds.specs.ckc_bounds_points.specs.Flow.{State}
+use Rattle.ckc_bounds.specs.ckc_bounds_declared.specs.Written.{is_integer_member}
+use Rattle.ckc_bounds.specs.ckc_bounds_ranges.specs.Members.{names_member, is_target, is_covered, is_touched}
+use Rattle.ckc_bounds.specs.ckc_bounds_views.specs.Fresh.{shape_of, bounds_of_shape, member_bounds}
+use Rattle.ckc_bounds.specs.ckc_bounds_views.specs.Views.{view}
+use Rattle.ckc_bounds.specs.ckc_bounds_stores.specs.Targets.{member_variable, memory_bounds, bounds_by, bounds_by_member}
+use Rattle.ckc_bounds.specs.ckc_bounds_stores.specs.Stores.{Placed, members_assigned, stored_placed}
 use Rattle.ckc_source.specs.declared.expr.Count.{Count}
 use Rattle.ckc_source.specs.declared.expr.Count.TheVariants as count
 use Rattle.ckc_source.specs.declared.outcome.Place.TheVariants as place

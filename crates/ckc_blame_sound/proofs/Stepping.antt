@@ -22,14 +22,14 @@ use Rattle.ckc_typed.specs.declared.environment.Globals.{Globals}
 use Rattle.ckc_typed.specs.declared.typed.Note.{Note}
 use Rattle.ckc_typed.specs.Trees.{NotedAct, NotedDecl, NotedExpr, NotedInit, NotedLayer, NotedLimits, NotedNode, NotedStmt}
 use Rattle.ckc_typed.specs.Types.{is_char, type_written}
-use Rattle.ckc_bounds_points.specs.declared.frame.HeadBounds.{HeadBounds}
-use Rattle.ckc_bounds_points.specs.declared.frame.Frame.{Frame}
-use Rattle.ckc_bounds_points.specs.declared.frame.Local.{Local}
-use Rattle.ckc_bounds_points.specs.Frames.{local_at}
-use Rattle.ckc_bounds_points.specs.Codes.{not_contained, bad_bundle}
-use Rattle.ckc_bounds_points.specs.Flow.{State, local_assigned, assigned as assigned_point}
-use Rattle.ckc_bounds_stores.specs.Targets.{local_in, local_of}
-use Rattle.ckc_bounds_statements.specs.Paths.{Here, Path, ActPath, parts_judged, is_good, bundle_judged, start_form, value_form, value_judged, maybe_judged, side_of, is_returned, gone, call_judged, return_judged, check_judged, act_judged, act_path, stmt_path, path_of_act, path, stated, behind_stores, assign_judged, local_judged}
+use Rattle.ckc_bounds.specs.ckc_bounds_points.specs.declared.frame.HeadBounds.{HeadBounds}
+use Rattle.ckc_bounds.specs.ckc_bounds_points.specs.declared.frame.Frame.{Frame}
+use Rattle.ckc_bounds.specs.ckc_bounds_points.specs.declared.frame.Local.{Local}
+use Rattle.ckc_bounds.specs.ckc_bounds_points.specs.Frames.{local_at}
+use Rattle.ckc_bounds.specs.ckc_bounds_points.specs.Codes.{not_contained, bad_bundle}
+use Rattle.ckc_bounds.specs.ckc_bounds_points.specs.Flow.{State, local_assigned, assigned as assigned_point}
+use Rattle.ckc_bounds.specs.ckc_bounds_stores.specs.Targets.{local_in, local_of}
+use Rattle.ckc_bounds.specs.ckc_bounds_statements.specs.Paths.{Here, Path, ActPath, parts_judged, is_good, bundle_judged, start_form, value_form, value_judged, maybe_judged, side_of, is_returned, gone, call_judged, return_judged, check_judged, act_judged, act_path, stmt_path, path_of_act, path, stated, behind_stores, assign_judged, local_judged}
 use Rattle.ckc_source.specs.declared.stmt.Spot.{Spot}
 use Rattle.ckc_source.specs.declared.outcome.Value.{Value as Drawn}
 use Rattle.ckc_source.specs.declared.outcome.Halt.{Halt}

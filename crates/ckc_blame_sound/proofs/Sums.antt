@@ -8,8 +8,8 @@ use Rattle.ckc_linear.specs.declared.forms.Form.{Form}
 use Rattle.ckc_typed.specs.declared.environment.Constant.{Constant}
 use Rattle.ckc_typed.specs.Types.{is_integer, is_char, is_unsigned}
 use Rattle.ckc_typed.specs.Constants.{value_of}
-use Rattle.ckc_bounds_known.specs.Ranges.{is_small}
-use Rattle.ckc_bounds_points.specs.Forms.{constant_form, moved_form}
+use Rattle.ckc_bounds.specs.ckc_bounds_known.specs.Ranges.{is_small}
+use Rattle.ckc_bounds.specs.ckc_bounds_points.specs.Forms.{constant_form, moved_form}
 use Rattle.ckc_source.specs.declared.expr.Integer.TheVariants.{Int, Char}
 use Rattle.ckc_source.specs.Words.{exact}
 use Rattle.ckc_build_values.specs.Kinds.{integer_of}

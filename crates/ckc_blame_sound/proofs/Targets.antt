@@ -6,11 +6,11 @@ use Rattle.std.specs.Option.{option_map}
 use Rattle.std.proofs.lemmas.Bool.{eq-eqb, eqb-true}
 use Rattle.ckc_types.specs.declared.types.MemberShape.{MemberShape}
 use Rattle.ckc_types.specs.Layout.{members_of}
-use Rattle.ckc_bounds_points.specs.Flow.{State}
-use Rattle.ckc_bounds_ranges.specs.Members.{is_target}
-use Rattle.ckc_bounds_views.specs.declared.variables.Member.{Member}
-use Rattle.ckc_bounds_views.specs.Views.{view}
-use Rattle.ckc_bounds_stores.specs.Stores.{Placed, members_assigned}
+use Rattle.ckc_bounds.specs.ckc_bounds_points.specs.Flow.{State}
+use Rattle.ckc_bounds.specs.ckc_bounds_ranges.specs.Members.{is_target}
+use Rattle.ckc_bounds.specs.ckc_bounds_views.specs.declared.variables.Member.{Member}
+use Rattle.ckc_bounds.specs.ckc_bounds_views.specs.Views.{view}
+use Rattle.ckc_bounds.specs.ckc_bounds_stores.specs.Stores.{Placed, members_assigned}
 use Rattle.ckc_source.specs.declared.outcome.Place.{Place}
 use Rattle.ckc_source.specs.Eval.{Store}
 use Rattle.ckc_source.specs.Steps.{Write}

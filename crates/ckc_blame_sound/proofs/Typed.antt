@@ -5,11 +5,11 @@ use Rattle.std.proofs.lemmas.Int.{ints}
 use Rattle.ckc_types.specs.declared.types.CType.{CType}
 use Rattle.ckc_linear.specs.declared.forms.Form.{Form}
 use Rattle.ckc_linear.specs.Facts.{Satisfies}
-use Rattle.ckc_bounds_known.specs.declared.intervals.Interval.{Interval}
-use Rattle.ckc_bounds_known.specs.Shown.{Known, is_shown}
-use Rattle.ckc_bounds_known.specs.Ranges.{range_of, is_small, below, above}
-use Rattle.ckc_bounds_known.proofs.Reaching.{and_cases}
-use Rattle.ckc_bounds_points.specs.Forms.{in_type, within_interval}
+use Rattle.ckc_bounds.specs.ckc_bounds_known.specs.declared.intervals.Interval.{Interval}
+use Rattle.ckc_bounds.specs.ckc_bounds_known.specs.Shown.{Known, is_shown}
+use Rattle.ckc_bounds.specs.ckc_bounds_known.specs.Ranges.{range_of, is_small, below, above}
+use Rattle.ckc_bounds.specs.ckc_bounds_known.proofs.Reaching.{and_cases}
+use Rattle.ckc_bounds.specs.ckc_bounds_points.specs.Forms.{in_type, within_interval}
 use Rattle.ckc_blame_sound.specs.Values.{number_of, IsBetween, IsNumberOf}
 use Rattle.ckc_blame_sound.proofs.Facts.{Hold, shown_true}
 

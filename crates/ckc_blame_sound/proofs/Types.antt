@@ -6,10 +6,10 @@ use Rattle.ckc_types.specs.declared.types.CType.TheVariants as ctype
 use Rattle.ckc_typed.specs.Types.{is_integer, is_integer_form, is_pointer, is_pointer_form, is_unsigned, is_unsigned_form, is_char, is_char_form, kind_in, is_void, element_of, same_type, is_object_type}
 use Rattle.ckc_typed.specs.Expressions.{number_type}
 use Rattle.ckc_typed.specs.Operands.{promoted, common, is_moved, is_moved_kind, sign_type, arithmetic_type, sum_type, distance_type, difference_type, size_type, same_element}
-use Rattle.ckc_bounds_known.specs.Ranges.{range_in}
+use Rattle.ckc_bounds.specs.ckc_bounds_known.specs.Ranges.{range_in}
 use Rattle.ckc_linear.specs.declared.forms.Form.{Form}
-use Rattle.ckc_bounds_known.specs.Shown.{Known}
-use Rattle.ckc_bounds_points.specs.Forms.{in_type, within_interval}
+use Rattle.ckc_bounds.specs.ckc_bounds_known.specs.Shown.{Known}
+use Rattle.ckc_bounds.specs.ckc_bounds_points.specs.Forms.{in_type, within_interval}
 use Rattle.ckc_source.specs.declared.expr.Integer.TheVariants.{Int, Unsigned, Char}
 use Rattle.ckc_build_values.specs.Kinds.{integer_in, integer_of}
 use Rattle.ckc_blame_sound.specs.Values.{IsBetween, IsNumberOf, IsWordOf}

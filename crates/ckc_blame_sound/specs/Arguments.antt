@@ -3,10 +3,10 @@ use Rattle.std.specs.Prelude.{◌≡◌, ℕ, true, pos, List, [], ◌∷◌, sl
 use Rattle.ckc_linear.specs.declared.forms.Form.{Form}
 use Rattle.ckc_types.specs.declared.types.Structs.{Structs}
 use Rattle.ckc_typed.specs.Types.{is_pointer}
-use Rattle.ckc_bounds_points.specs.declared.frame.Local.{Local}
-use Rattle.ckc_bounds_points.specs.Shown.{Known}
-use Rattle.ckc_bounds_points.specs.Forms.{in_type}
-use Rattle.ckc_bounds_views.specs.Parts.{View, capped}
+use Rattle.ckc_bounds.specs.ckc_bounds_points.specs.declared.frame.Local.{Local}
+use Rattle.ckc_bounds.specs.ckc_bounds_points.specs.Shown.{Known}
+use Rattle.ckc_bounds.specs.ckc_bounds_points.specs.Forms.{in_type}
+use Rattle.ckc_bounds.specs.ckc_bounds_views.specs.Parts.{View, capped}
 use Rattle.ckc_source.specs.Words.{exact}
 use Rattle.ckc_build_values.specs.Kinds.{integer_of, size_behind}
 use Rattle.ckc_blame_sound.specs.Values.{number_of}

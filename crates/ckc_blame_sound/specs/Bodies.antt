@@ -13,10 +13,10 @@ use Rattle.ckc_typed_welltyped.specs.Noteless.{without_notes}
 use Rattle.ckc_typed_welltyped.specs.Productions.{given_stmt, callless_value}
 use Rattle.ckc_typed_welltyped.specs.Statements as rows
 use Rattle.ckc_typed_welltyped.specs.Statements.{WellTypedStmt}
-use Rattle.ckc_bounds_points.specs.declared.frame.Frame.{Frame}
-use Rattle.ckc_bounds_points.specs.declared.frame.Local.{Local}
-use Rattle.ckc_bounds_points.specs.Frames.{local_at}
-use Rattle.ckc_bounds_statements.specs.Paths.{path}
+use Rattle.ckc_bounds.specs.ckc_bounds_points.specs.declared.frame.Frame.{Frame}
+use Rattle.ckc_bounds.specs.ckc_bounds_points.specs.declared.frame.Local.{Local}
+use Rattle.ckc_bounds.specs.ckc_bounds_points.specs.Frames.{local_at}
+use Rattle.ckc_bounds.specs.ckc_bounds_statements.specs.Paths.{path}
 use Rattle.ckc_blame_sound.specs.Settings.{Setting}
 use Rattle.ckc_blame_sound.specs.Words.{HasWords, HasOnlyWords, HaveWords}
 use Rattle.ckc_blame_sound.specs.Safe.{IsSafe, HasOnlySafe, AreSafe}

@@ -9,13 +9,13 @@ use Rattle.ckc_syntax.specs.declared.tree.Act.{Act-F, out-Act}
 use Rattle.ckc_typed.specs.declared.typed.Note.{Note}
 use Rattle.ckc_typed.specs.declared.typed.Typed.{Typed}
 use Rattle.ckc_typed.specs.Trees.{NotedAct, NotedExpr, NotedInit, NotedLayer, NotedStmt}
-use Rattle.ckc_bounds_points.specs.declared.frame.Frame.{Frame}
-use Rattle.ckc_bounds_points.specs.declared.frame.HeadBounds.{HeadBounds}
-use Rattle.ckc_bounds_views.specs.Fresh.{all_fresh}
-use Rattle.ckc_bounds_views.specs.Parts.{View, capped}
-use Rattle.ckc_bounds_views.specs.Places.{values_after}
-use Rattle.ckc_bounds_views.specs.Views.{view}
-use Rattle.ckc_bounds_statements.specs.Paths.{Here}
+use Rattle.ckc_bounds.specs.ckc_bounds_points.specs.declared.frame.Frame.{Frame}
+use Rattle.ckc_bounds.specs.ckc_bounds_points.specs.declared.frame.HeadBounds.{HeadBounds}
+use Rattle.ckc_bounds.specs.ckc_bounds_views.specs.Fresh.{all_fresh}
+use Rattle.ckc_bounds.specs.ckc_bounds_views.specs.Parts.{View, capped}
+use Rattle.ckc_bounds.specs.ckc_bounds_views.specs.Places.{values_after}
+use Rattle.ckc_bounds.specs.ckc_bounds_views.specs.Views.{view}
+use Rattle.ckc_bounds.specs.ckc_bounds_statements.specs.Paths.{Here}
 use Rattle.ckc_source.specs.declared.stmt.Spot.{Spot}
 use Rattle.ckc_source.specs.Blocks.{Block}
 use Rattle.ckc_source.specs.Code.{Expr, Call, Function}

@@ -7,7 +7,7 @@ use Rattle.ckc_source.specs.declared.expr.Pointee.{Pointee}
 use Rattle.ckc_source.specs.declared.program.Shape.{Shape}
 use Rattle.ckc_source.specs.Blocks.{Block}
 use Rattle.ckc_source.specs.Eval.{reads}
-use Rattle.ckc_bounds_stores.specs.Values.{Value}
+use Rattle.ckc_bounds.specs.ckc_bounds_stores.specs.Values.{Value}
 use Rattle.ckc_blame_sound.specs.Values.{number_of}
 use Rattle.ckc_blame_sound.specs.Valuations.{Valuation, form_address, AreFacts}
 

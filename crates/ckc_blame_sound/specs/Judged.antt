@@ -2,7 +2,7 @@
 -- leaves them for.
 use Rattle.std.specs.Prelude.{List, [], ◌∷◌}
 use Rattle.ckc_base.specs.declared.arithmetic.Mode.{Mode}
-use Rattle.ckc_bounds_statements.specs.Paths.{Here}
+use Rattle.ckc_bounds.specs.ckc_bounds_statements.specs.Paths.{Here}
 use Rattle.ckc_source.specs.Code.{Expr, Code, End, Assign, Bundle, Get, Put, Call, If, Loop, Break, Continue, Return, Check}
 use Rattle.ckc_source.specs.States.{Work, Rest, Turn}
 use Rattle.ckc_blame_sound.specs.Settings.{Setting}

@@ -32,3 +32,11 @@ pub mod GivenValues
 pub mod Passed
 pub mod Memory
 pub mod Elements
+pub use Rattle.ckc_bounds
+pub use Rattle.ckc_bounds.specs.ckc_bounds_declared
+pub use Rattle.ckc_bounds.specs.ckc_bounds_known
+pub use Rattle.ckc_bounds.specs.ckc_bounds_points
+pub use Rattle.ckc_bounds.specs.ckc_bounds_ranges
+pub use Rattle.ckc_bounds.specs.ckc_bounds_statements
+pub use Rattle.ckc_bounds.specs.ckc_bounds_stores
+pub use Rattle.ckc_bounds.specs.ckc_bounds_views

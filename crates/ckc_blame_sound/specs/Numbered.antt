@@ -8,9 +8,9 @@ use Rattle.ckc_typed.specs.declared.environment.Variable.{Variable}
 use Rattle.ckc_typed.specs.declared.typed.Note.{Note}
 use Rattle.ckc_typed.specs.Environment.{variable_declared}
 use Rattle.ckc_typed.specs.Trees.{NotedAct, NotedStmt}
-use Rattle.ckc_bounds_points.specs.declared.frame.Frame.{Frame}
-use Rattle.ckc_bounds_points.specs.declared.frame.Local.{Local}
-use Rattle.ckc_bounds_points.specs.Frames.{local_at}
+use Rattle.ckc_bounds.specs.ckc_bounds_points.specs.declared.frame.Frame.{Frame}
+use Rattle.ckc_bounds.specs.ckc_bounds_points.specs.declared.frame.Local.{Local}
+use Rattle.ckc_bounds.specs.ckc_bounds_points.specs.Frames.{local_at}
 
 -- the names are those of the locals with the numbers from one on
 abbrev pub AreLocals : ℕ → List Name → Type 0

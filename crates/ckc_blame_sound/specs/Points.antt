@@ -4,12 +4,12 @@ use Rattle.std.specs.List.{Contains}
 use Rattle.ckc_types.specs.declared.types.CType.{CType}
 use Rattle.ckc_typed.specs.declared.typed.Range.{Range}
 use Rattle.ckc_typed.specs.declared.typed.Range.TheVariants as range
-use Rattle.ckc_bounds_points.specs.declared.frame.Local.{Local}
-use Rattle.ckc_bounds_points.specs.declared.frame.Frame.{Frame}
-use Rattle.ckc_bounds_points.specs.Frames.{local_at}
-use Rattle.ckc_bounds_points.specs.Flow.{State, in_bounds}
-use Rattle.ckc_bounds_ranges.specs.Rows.{range_of_local}
-use Rattle.ckc_bounds_statements.specs.Paths.{Here}
+use Rattle.ckc_bounds.specs.ckc_bounds_points.specs.declared.frame.Local.{Local}
+use Rattle.ckc_bounds.specs.ckc_bounds_points.specs.declared.frame.Frame.{Frame}
+use Rattle.ckc_bounds.specs.ckc_bounds_points.specs.Frames.{local_at}
+use Rattle.ckc_bounds.specs.ckc_bounds_points.specs.Flow.{State, in_bounds}
+use Rattle.ckc_bounds.specs.ckc_bounds_ranges.specs.Rows.{range_of_local}
+use Rattle.ckc_bounds.specs.ckc_bounds_statements.specs.Paths.{Here}
 use Rattle.ckc_source.specs.Eval.{Store, reads_limited}
 use Rattle.ckc_build_values.specs.Ends.{limits_at}
 use Rattle.ckc_blame_sound.specs.Settings.{Setting}

@@ -7,7 +7,7 @@ use Rattle.ckc_syntax.specs.declared.tree.Act.{Act-F, out-Act}
 use Rattle.ckc_typed.specs.declared.typed.Note.{Note}
 use Rattle.ckc_typed.specs.Statics.{strings_of_stmt, strings_of_value}
 use Rattle.ckc_typed.specs.Trees.{NotedAct, NotedExpr, NotedStmt}
-use Rattle.ckc_bounds_statements.specs.Paths.{Here, path, maybe_judged, maybe_side}
+use Rattle.ckc_bounds.specs.ckc_bounds_statements.specs.Paths.{Here, path, maybe_judged, maybe_side}
 use Rattle.ckc_source.specs.Code.{Expr, Code}
 use Rattle.ckc_build_elaborate.specs.Statements.{stmt_elaborated}
 use Rattle.ckc_build_elaborate.specs.Steps.{condition}

@@ -18,8 +18,8 @@ use Rattle.ckc_typed.specs.Environment.{type_of_name}
 use Rattle.ckc_typed.specs.Trees.{NotedLimits, NotedNode, NotedExpr, NotedLayer, NotedInit, NotedAct, NotedStmt}
 use Rattle.ckc_typed.specs.Types.{type_written, is_integer}
 use Rattle.ckc_typed_welltyped.specs.Expressions.{AnyLimits, AnyNode, HasType}
-use Rattle.ckc_bounds_points.specs.declared.frame.Local.{Local}
-use Rattle.ckc_bounds_points.specs.Frames.{local_at}
+use Rattle.ckc_bounds.specs.ckc_bounds_points.specs.declared.frame.Local.{Local}
+use Rattle.ckc_bounds.specs.ckc_bounds_points.specs.Frames.{local_at}
 use Rattle.ckc_blame_sound.specs.Settings.{Setting}
 
 -- The number of a literal, and the size of a type, is a word.

@@ -7,10 +7,10 @@ use Rattle.ckc_linear.specs.declared.forms.Base.TheVariants as base
 use Rattle.ckc_linear.specs.declared.forms.Form.{Form}
 use Rattle.ckc_linear.specs.Facts.{Satisfies}
 use Rattle.ckc_typed.specs.Types.{is_integer}
-use Rattle.ckc_bounds_points.specs.declared.frame.Local.{Local}
-use Rattle.ckc_bounds_points.specs.Shown.{Known}
-use Rattle.ckc_bounds_points.specs.Frames.{local_at}
-use Rattle.ckc_bounds_views.specs.Parts.{capped}
+use Rattle.ckc_bounds.specs.ckc_bounds_points.specs.declared.frame.Local.{Local}
+use Rattle.ckc_bounds.specs.ckc_bounds_points.specs.Shown.{Known}
+use Rattle.ckc_bounds.specs.ckc_bounds_points.specs.Frames.{local_at}
+use Rattle.ckc_bounds.specs.ckc_bounds_views.specs.Parts.{capped}
 use Rattle.ckc_source.specs.Words.{exact}
 use Rattle.ckc_build_values.specs.Kinds.{integer_of}
 use Rattle.ckc_build_values.specs.Names.{address_of}

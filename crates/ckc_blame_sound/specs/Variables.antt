@@ -3,10 +3,10 @@ use Rattle.std.specs.Prelude.{◌≡◌, ◌⊎◌, ℕ, ◌+◌, true, List, �
 use Rattle.std.specs.List.{All}
 use Rattle.ckc_linear.specs.Facts.{Satisfies}
 use Rattle.ckc_typed.specs.Types.{is_integer}
-use Rattle.ckc_bounds_points.specs.declared.frame.Local.{Local}
-use Rattle.ckc_bounds_points.specs.declared.frame.Frame.{Frame}
-use Rattle.ckc_bounds_points.specs.Shown.{Known}
-use Rattle.ckc_bounds_points.specs.Frames.{local_at}
+use Rattle.ckc_bounds.specs.ckc_bounds_points.specs.declared.frame.Local.{Local}
+use Rattle.ckc_bounds.specs.ckc_bounds_points.specs.declared.frame.Frame.{Frame}
+use Rattle.ckc_bounds.specs.ckc_bounds_points.specs.Shown.{Known}
+use Rattle.ckc_bounds.specs.ckc_bounds_points.specs.Frames.{local_at}
 use Rattle.ckc_blame_sound.specs.Values.{value}
 
 -- the variable 0, or that of an integer local; no other variable stands in facts and in forms of integers

@@ -24,10 +24,10 @@ use Rattle.ckc_typed_welltyped.specs.Productions.{callless_value, given_tree}
 use Rattle.ckc_typed_fit.proofs.FormKept.{form_kept}
 use Rattle.ckc_typed_fit.proofs.SmallKept.{small_kept}
 use Rattle.ckc_typed_wellformed.proofs.Derived.{tree_given}
-use Rattle.ckc_bounds.specs.Phase.{bounding}
-use Rattle.ckc_bounds_views.specs.Views.{view}
-use Rattle.ckc_bounds_stores.specs.declared.values.Numbered.{Numbered}
-use Rattle.ckc_bounds_statements.specs.Paths.{Here, maybe_judged}
+use Rattle.ckc_blame_sound.specs.ckc_bounds.specs.Phase.{bounding}
+use Rattle.ckc_blame_sound.specs.ckc_bounds_views.specs.Views.{view}
+use Rattle.ckc_blame_sound.specs.ckc_bounds_stores.specs.declared.values.Numbered.{Numbered}
+use Rattle.ckc_blame_sound.specs.ckc_bounds_statements.specs.Paths.{Here, maybe_judged}
 use Rattle.ckc_source.specs.declared.stmt.Kept.{Kept}
 use Rattle.ckc_source.specs.declared.stmt.Spot.{Spot}
 use Rattle.ckc_source.specs.Code.{Code, Expr, Function, Call, Return}
@@ -56,14 +56,14 @@ use Rattle.ckc_blame_sound.specs.Typed.{IsTypedIf}
 use Rattle.ckc_blame_sound.proofs.Statements.{pair_same}
 use Rattle.ckc_blame_sound.specs.JudgedTexts.{IsJudged, globals_in}
 use Rattle.ckc_blame_sound.proofs.Members.{have_own_names}
-use Rattle.ckc_blame_pointers.specs.Covered.{DeclareOnes, IsSoundStore, IsCovered, IsInScope}
+use Rattle.ckc_blame_given.specs.ckc_blame_pointers.specs.Covered.{DeclareOnes, IsSoundStore, IsCovered, IsInScope}
 use Rattle.ckc_blame_given.specs.Targets.{KeepRunsFree}
-use Rattle.ckc_blame_nested.proofs.Whole.{typed_nested}
+use Rattle.ckc_blame_walk.specs.ckc_blame_nested.proofs.Whole.{typed_nested}
 use Rattle.ckc_blame_words.proofs.Whole.{literals_are_words}
 use Rattle.ckc_blame_walk.proofs.Allocated.{texts_allocate_sizes}
 use Rattle.ckc_blame_walk.proofs.Counts.{slot_parts}
 use Rattle.ckc_blame_walk.proofs.NamedStatics.{members_named}
-use Rattle.ckc_blame_declared.proofs.Integers.{members_count_integers}
+use Rattle.ckc_blame_walk.specs.ckc_blame_declared.proofs.Integers.{members_count_integers}
 use Rattle.ckc_blame_control.specs.Ready.{Faces}
 use Rattle.ckc_blame_control.proofs.Typed.{condition_typed, point_known}
 use Rattle.ckc_blame_steps.specs.Checked.{IsOfMode}

@@ -13,14 +13,14 @@ use Rattle.ckc_typed.specs.declared.typed.Note.{Note}
 use Rattle.ckc_typed.specs.Trees.{NotedLimits, NotedNode, NotedExpr, NotedLayer}
 use Rattle.ckc_typed_welltyped.specs.Expressions.{AnyLimits, AnyNode}
 use Rattle.ckc_typed_welltyped.proofs.Nodes.{node_of, limits_of}
-use Rattle.ckc_bounds_points.specs.declared.frame.Frame.{Frame}
-use Rattle.ckc_bounds_points.specs.Codes.{bad_limits, bounds_address}
-use Rattle.ckc_bounds_points.specs.Flow.{State}
-use Rattle.ckc_bounds_views.specs.Judged.{fault_if, fault_of_node, limits_judged, node_judged, operand_fault_of_node, unary_judged}
-use Rattle.ckc_bounds_views.specs.Parts.{LimitsOfViews, LimitsView, NodeView, View, fresh_behind}
-use Rattle.ckc_bounds_views.specs.Views.{limits_view, node_view, expr_view, view_of_limits, view_of_node, view}
+use Rattle.ckc_blame_sound.specs.ckc_bounds_points.specs.declared.frame.Frame.{Frame}
+use Rattle.ckc_blame_sound.specs.ckc_bounds_points.specs.Codes.{bad_limits, bounds_address}
+use Rattle.ckc_blame_sound.specs.ckc_bounds_points.specs.Flow.{State}
+use Rattle.ckc_blame_sound.specs.ckc_bounds_views.specs.Judged.{fault_if, fault_of_node, limits_judged, node_judged, operand_fault_of_node, unary_judged}
+use Rattle.ckc_blame_sound.specs.ckc_bounds_views.specs.Parts.{LimitsOfViews, LimitsView, NodeView, View, fresh_behind}
+use Rattle.ckc_blame_sound.specs.ckc_bounds_views.specs.Views.{limits_view, node_view, expr_view, view_of_limits, view_of_node, view}
 use Rattle.ckc_blame_sound.proofs.Every.{LimitsLayer, ExprLayer, EachLimits, EachExpr}
-use Rattle.ckc_blame_pointers.proofs.Inside.{judged_is, limits_layer, limits_part, no_ends, one_part, operand_is, some_there, tested_parts, three_parts, trusted_parts, two_parts}
+use Rattle.ckc_blame_given.specs.ckc_blame_pointers.proofs.Inside.{judged_is, limits_layer, limits_part, no_ends, one_part, operand_is, some_there, tested_parts, three_parts, trusted_parts, two_parts}
 use Rattle.ckc_blame_given.proofs.Layers.{view_is, viewed}
 use Rattle.ckc_blame_given.proofs.Pointers.{node_is}
 use Rattle.ckc_blame_steps.proofs.Callless.{IsCallless, HasNoCall}

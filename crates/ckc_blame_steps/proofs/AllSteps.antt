@@ -24,7 +24,7 @@ use Rattle.ckc_blame_control.specs.Decided.{IsDecided}
 use Rattle.ckc_blame_control.proofs.Settled.{ready_begins, ready_turns}
 use Rattle.ckc_blame_control.proofs.Moved.{stands_ready}
 use Rattle.ckc_blame_control.proofs.Conditions.{if_sound, loop_sound, check_sound}
-use Rattle.ckc_blame_pointers.specs.Owed.{Owed, Runs}
+use Rattle.ckc_blame_given.specs.ckc_blame_pointers.specs.Owed.{Owed, Runs}
 use Rattle.ckc_blame_steps.specs.Known.{IsKnown}
 use Rattle.ckc_blame_steps.specs.Unchecked.{stores_raw, stores_next, stores_unchecked, StoresSafely, MovesSoundly}
 use Rattle.ckc_blame_steps.proofs.KeptSound.{test_decided, act_keeps, fall_keeps}

@@ -17,9 +17,9 @@ use Rattle.ckc_typed.specs.Operands.{same_element}
 use Rattle.ckc_typed.specs.Statics.{strings_of_expr}
 use Rattle.ckc_typed.specs.Trees.{NotedExpr, NotedLayer, TypeTree}
 use Rattle.ckc_typed.specs.Types.{is_integer, is_pointer, is_pointer_form, element_of, kind_in, same_type, type_written}
-use Rattle.ckc_bounds_views.specs.Parts.{fresh_behind}
-use Rattle.ckc_bounds_views.specs.Views.{view}
-use Rattle.ckc_bounds_statements.specs.Paths.{Here}
+use Rattle.ckc_blame_sound.specs.ckc_bounds_views.specs.Parts.{fresh_behind}
+use Rattle.ckc_blame_sound.specs.ckc_bounds_views.specs.Views.{view}
+use Rattle.ckc_blame_sound.specs.ckc_bounds_statements.specs.Paths.{Here}
 use Rattle.ckc_source.specs.declared.outcome.Halt.{Halt}
 use Rattle.ckc_source.specs.declared.outcome.Halt.TheVariants as halt
 use Rattle.ckc_source.specs.declared.outcome.Place.TheVariants as place
@@ -45,10 +45,10 @@ use Rattle.ckc_blame_sound.specs.JudgedTexts.{globals_in}
 use Rattle.ckc_blame_control.specs.Kept.{KeepRanges, IsSameCall}
 use Rattle.ckc_blame_control.specs.Ready.{Faces}
 use Rattle.ckc_blame_control.proofs.Kept.{faced_sound, blocks_keep_ranges}
-use Rattle.ckc_blame_pointers.specs.Covered.{IsCovered}
-use Rattle.ckc_blame_pointers.specs.Owed.{Comes}
-use Rattle.ckc_blame_pointers.proofs.Arrays.{type_same}
-use Rattle.ckc_blame_pointers.proofs.Strings.{strings_in_node}
+use Rattle.ckc_blame_given.specs.ckc_blame_pointers.specs.Covered.{IsCovered}
+use Rattle.ckc_blame_given.specs.ckc_blame_pointers.specs.Owed.{Comes}
+use Rattle.ckc_blame_given.specs.ckc_blame_pointers.proofs.Arrays.{type_same}
+use Rattle.ckc_blame_given.specs.ckc_blame_pointers.proofs.Strings.{strings_in_node}
 use Rattle.ckc_blame_given.proofs.Layers.{strings_are}
 use Rattle.ckc_blame_given.proofs.Points.{same_point}
 use Rattle.ckc_blame_steps.specs.Granted.{IsGranted, HasPlaces, IsCoveredAlone, IsCoveredAct, HasRoom, HasRoomAct}

@@ -24,14 +24,14 @@ use Rattle.ckc_typed.specs.Operands.{same_element}
 use Rattle.ckc_typed.specs.Statics.{strings_of_expr}
 use Rattle.ckc_typed.specs.Trees.{NotedExpr}
 use Rattle.ckc_typed.specs.Types.{element_in, element_of, is_char, is_char_form, is_integer, is_integer_form, is_pointer, is_pointer_form, kind_of, same_type, type_written}
-use Rattle.ckc_bounds_points.specs.Forms.{base_form, in_type}
-use Rattle.ckc_bounds_ranges.specs.Rows.{range_from}
-use Rattle.ckc_bounds_views.specs.Parts.{View, capped, next_behind, fresh_behind}
-use Rattle.ckc_bounds_views.specs.Ranges.{form_or_fresh}
-use Rattle.ckc_bounds_views.specs.Views.{view}
-use Rattle.ckc_bounds_statements.specs.Paths.{Here}
-use Rattle.ckc_bounds_stores.specs.declared.values.Numbered.{Numbered}
-use Rattle.ckc_bounds_stores.specs.Values.{narrow, has_element, received_range}
+use Rattle.ckc_blame_sound.specs.ckc_bounds_points.specs.Forms.{base_form, in_type}
+use Rattle.ckc_blame_sound.specs.ckc_bounds_ranges.specs.Rows.{range_from}
+use Rattle.ckc_blame_sound.specs.ckc_bounds_views.specs.Parts.{View, capped, next_behind, fresh_behind}
+use Rattle.ckc_blame_sound.specs.ckc_bounds_views.specs.Ranges.{form_or_fresh}
+use Rattle.ckc_blame_sound.specs.ckc_bounds_views.specs.Views.{view}
+use Rattle.ckc_blame_sound.specs.ckc_bounds_statements.specs.Paths.{Here}
+use Rattle.ckc_blame_sound.specs.ckc_bounds_stores.specs.declared.values.Numbered.{Numbered}
+use Rattle.ckc_blame_sound.specs.ckc_bounds_stores.specs.Values.{narrow, has_element, received_range}
 use Rattle.ckc_source.specs.declared.expr.Integer.TheVariants.{Int}
 use Rattle.ckc_source.specs.declared.expr.Pointee.{Pointee}
 use Rattle.ckc_source.specs.declared.program.Shape.{Shape}
@@ -66,10 +66,10 @@ use Rattle.ckc_blame_sound.specs.Elements.{number_kept}
 use Rattle.ckc_blame_sound.specs.GivenValues.{memory_of}
 use Rattle.ckc_blame_sound.proofs.Agree.{facts_agree}
 use Rattle.ckc_blame_control.proofs.Kept.{holds_kept, blocks_keep_ranges}
-use Rattle.ckc_blame_pointers.specs.Covered.{DeclareLocals, IsCovered}
-use Rattle.ckc_blame_pointers.specs.Owed.{Comes}
-use Rattle.ckc_blame_pointers.proofs.Later.{parts_room}
-use Rattle.ckc_blame_pointers.proofs.Unwidened.{fresh_same}
+use Rattle.ckc_blame_given.specs.ckc_blame_pointers.specs.Covered.{DeclareLocals, IsCovered}
+use Rattle.ckc_blame_given.specs.ckc_blame_pointers.specs.Owed.{Comes}
+use Rattle.ckc_blame_given.specs.ckc_blame_pointers.proofs.Later.{parts_room}
+use Rattle.ckc_blame_given.specs.ckc_blame_pointers.proofs.Unwidened.{fresh_same}
 use Rattle.ckc_blame_given.proofs.Comes.{comes_on}
 use Rattle.ckc_blame_given.specs.At.{GivesAt}
 use Rattle.ckc_blame_given.specs.Gives.{Continues, Gives, GivesOn}

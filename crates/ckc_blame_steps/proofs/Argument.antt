@@ -15,11 +15,11 @@ use Rattle.ckc_typed.specs.declared.typed.Note.{Note}
 use Rattle.ckc_typed.specs.Statics.{strings_of_expr}
 use Rattle.ckc_typed.specs.Trees.{NotedLimits, NotedNode, NotedExpr, NotedLayer}
 use Rattle.ckc_typed_welltyped.specs.Expressions.{AnyLimits, AnyNode}
-use Rattle.ckc_bounds_views.specs.Judged.{all_judged}
-use Rattle.ckc_bounds_views.specs.Fresh.{all_fresh}
-use Rattle.ckc_bounds_views.specs.Parts.{View, fresh_behind}
-use Rattle.ckc_bounds_views.specs.Views.{view}
-use Rattle.ckc_bounds_statements.specs.Paths.{Here}
+use Rattle.ckc_blame_sound.specs.ckc_bounds_views.specs.Judged.{all_judged}
+use Rattle.ckc_blame_sound.specs.ckc_bounds_views.specs.Fresh.{all_fresh}
+use Rattle.ckc_blame_sound.specs.ckc_bounds_views.specs.Parts.{View, fresh_behind}
+use Rattle.ckc_blame_sound.specs.ckc_bounds_views.specs.Views.{view}
+use Rattle.ckc_blame_sound.specs.ckc_bounds_statements.specs.Paths.{Here}
 use Rattle.ckc_source.specs.declared.stmt.Spot.{Spot}
 use Rattle.ckc_source.specs.Code.{Code, End, Expr, Put}
 use Rattle.ckc_source.specs.Eval.{Store, evaluated}
@@ -33,14 +33,14 @@ use Rattle.ckc_blame_sound.specs.Typed.{HasRow, IsTyped, Agrees}
 use Rattle.ckc_blame_sound.proofs.Judging.{judged_typed}
 use Rattle.ckc_blame_sound.proofs.Statements.{made_of}
 use Rattle.ckc_blame_sound.proofs.SameViews.{same_view}
-use Rattle.ckc_blame_pointers.specs.Covered.{DeclareLocals, IsSoundStore, IsCovered}
-use Rattle.ckc_blame_pointers.proofs.Inside.{Every, EveryNode, node_every}
-use Rattle.ckc_blame_pointers.proofs.Later.{left_room}
-use Rattle.ckc_blame_pointers.specs.Owed.{Comes}
+use Rattle.ckc_blame_given.specs.ckc_blame_pointers.specs.Covered.{DeclareLocals, IsSoundStore, IsCovered}
+use Rattle.ckc_blame_given.specs.ckc_blame_pointers.proofs.Inside.{Every, EveryNode, node_every}
+use Rattle.ckc_blame_given.specs.ckc_blame_pointers.proofs.Later.{left_room}
+use Rattle.ckc_blame_given.specs.ckc_blame_pointers.specs.Owed.{Comes}
 use Rattle.ckc_blame_given.proofs.Comes.{comes_as}
 use Rattle.ckc_blame_given.specs.At.{GivesAt}
 use Rattle.ckc_blame_given.proofs.Bridge.{judged_gives}
-use Rattle.ckc_blame_pointers.proofs.Strings.{strings_in_node}
+use Rattle.ckc_blame_given.specs.ckc_blame_pointers.proofs.Strings.{strings_in_node}
 use Rattle.ckc_blame_given.proofs.Layers.{strings_are}
 use Rattle.ckc_blame_given.proofs.Pointers.{node_judged_at, node_room}
 use Rattle.ckc_blame_steps.specs.Granted.{IsCoveredFirst}

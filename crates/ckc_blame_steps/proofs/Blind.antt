@@ -15,7 +15,7 @@ use Rattle.ckc_blame_sound.specs.Safe.{is_assumed}
 use Rattle.ckc_blame_sound.specs.Scopes.{IsAmong, NamesAmong, HasAmong}
 use Rattle.ckc_blame_sound.proofs.Judging.{outline}
 use Rattle.ckc_blame_sound.proofs.Every.{ExprLayer}
-use Rattle.ckc_blame_pointers.specs.Covered.{IsRawAddress}
+use Rattle.ckc_blame_given.specs.ckc_blame_pointers.specs.Covered.{IsRawAddress}
 use Rattle.ckc_blame_steps.specs.Checked.{IsPartOfMode}
 use Rattle.ckc_blame_steps.proofs.Callless.{IsCallless, HasNoCall}
 

@@ -18,10 +18,10 @@ use Rattle.ckc_typed.specs.Statics.{strings_of_expr, strings_of_stmt}
 use Rattle.ckc_typed.specs.Trees.{NotedDecl, NotedExpr, NotedInit, NotedLayer, NotedStmt}
 use Rattle.ckc_typed.specs.Types.{type_written}
 use Rattle.ckc_typed_welltyped.specs.Statements.{act_rows, WellTypedStmt}
-use Rattle.ckc_bounds_points.specs.Flow as flow
-use Rattle.ckc_bounds_stores.specs.Stores as stores
-use Rattle.ckc_bounds_stores.specs.Stores.{with_store, stores_of, numbered}
-use Rattle.ckc_bounds_statements.specs.Paths.{Here}
+use Rattle.ckc_blame_sound.specs.ckc_bounds_points.specs.Flow as flow
+use Rattle.ckc_blame_sound.specs.ckc_bounds_stores.specs.Stores as stores
+use Rattle.ckc_blame_sound.specs.ckc_bounds_stores.specs.Stores.{with_store, stores_of, numbered}
+use Rattle.ckc_blame_sound.specs.ckc_bounds_statements.specs.Paths.{Here}
 use Rattle.ckc_source.specs.declared.program.Shape.{Shape}
 use Rattle.ckc_source.specs.declared.stmt.Spot.{Spot}
 use Rattle.ckc_source.specs.Code.{Target, Right, Code, End, Assign, Bundle, Get, Put, Call}

@@ -17,9 +17,9 @@ use Rattle.ckc_typed.specs.Environment.{signature_named, getchar, putchar}
 use Rattle.ckc_typed.specs.Trees.{NotedExpr, NotedLayer}
 use Rattle.ckc_typed.specs.Types.{is_integer, is_pointer}
 use Rattle.ckc_typed_welltyped.specs.Expressions.{AnyLimits, AnyNode, IsCall, HasType}
-use Rattle.ckc_bounds_points.specs.declared.frame.Local.{Local}
-use Rattle.ckc_bounds_points.specs.Frames.{local_at}
-use Rattle.ckc_bounds_views.specs.Parts.{capped}
+use Rattle.ckc_blame_sound.specs.ckc_bounds_points.specs.declared.frame.Local.{Local}
+use Rattle.ckc_blame_sound.specs.ckc_bounds_points.specs.Frames.{local_at}
+use Rattle.ckc_blame_sound.specs.ckc_bounds_views.specs.Parts.{capped}
 use Rattle.ckc_source.specs.declared.stmt.Spot.{Spot}
 use Rattle.ckc_source.specs.Code.{Target, Code, End, Get, Put}
 use Rattle.ckc_build_elaborate.specs.Steps.{Destination, called, assigned, assigned_form}
@@ -29,7 +29,7 @@ use Rattle.ckc_blame_sound.specs.Values.{value, IsNumberOf}
 use Rattle.ckc_blame_sound.specs.Valuations.{Valuation, IsValuationOf, AreNumbersOf}
 use Rattle.ckc_blame_sound.specs.Typed.{IsRow, HasRow, IsTyped}
 use Rattle.ckc_blame_sound.specs.JudgedTexts.{globals_in}
-use Rattle.ckc_blame_pointers.proofs.Later.{zero_typed}
+use Rattle.ckc_blame_given.specs.ckc_blame_pointers.proofs.Later.{zero_typed}
 use Rattle.ckc_blame_steps.proofs.Origins.{is_bundled, is_ending}
 use Rattle.ckc_blame_steps.proofs.Own.{own_valuation, own_values}
 

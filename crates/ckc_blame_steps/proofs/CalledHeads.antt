@@ -18,10 +18,10 @@ use Rattle.ckc_typed_fit.specs.Numbers.{function_in, function_numbers, CountsUp}
 use Rattle.ckc_typed_fit.proofs.BodiesKept.{bodies_kept}
 use Rattle.ckc_typed_fit.proofs.Numbered.{functions_count}
 use Rattle.ckc_typed_welltyped.specs.Noteless.{bare_head, bare_item}
-use Rattle.ckc_bounds_points.specs.declared.frame.Frame.{Frame}
-use Rattle.ckc_bounds_points.specs.declared.frame.HeadBounds.{HeadBounds}
-use Rattle.ckc_bounds.specs.Declarations.{is_function_at, head_bounds, with_head, heads_from}
-use Rattle.ckc_bounds.specs.Frames.{structs_frame}
+use Rattle.ckc_blame_sound.specs.ckc_bounds_points.specs.declared.frame.Frame.{Frame}
+use Rattle.ckc_blame_sound.specs.ckc_bounds_points.specs.declared.frame.HeadBounds.{HeadBounds}
+use Rattle.ckc_blame_sound.specs.ckc_bounds.specs.Declarations.{is_function_at, head_bounds, with_head, heads_from}
+use Rattle.ckc_blame_sound.specs.ckc_bounds.specs.Frames.{structs_frame}
 use Rattle.ckc_source.specs.Code.{Function}
 use Rattle.ckc_build_elaborate.specs.Bodies as elaborated
 use Rattle.ckc_build_elaborate.specs.Functions.{function_elaborated, functions_in, functions_elaborated, literals_of_item}

@@ -17,14 +17,14 @@ use Rattle.ckc_typed.specs.Conversions.{is_allocation, is_allocation_form}
 use Rattle.ckc_typed.specs.Trees.{NotedExpr, NotedLayer, TypeTree}
 use Rattle.ckc_typed.specs.Types.{is_integer, is_pointer, type_written}
 use Rattle.ckc_typed_welltyped.specs.Expressions.{AnyLimits, AnyNode, HasType, IsAllocation}
-use Rattle.ckc_bounds_points.specs.declared.frame.Frame.{Frame}
-use Rattle.ckc_bounds_points.specs.Flow.{State}
-use Rattle.ckc_bounds_points.specs.Forms.{base_form, in_type}
-use Rattle.ckc_bounds_points.specs.Shown.{Known}
-use Rattle.ckc_bounds_views.specs.Judged.{expr_made, expr_judged}
-use Rattle.ckc_bounds_views.specs.Parts.{View, capped, next_behind, with_last}
-use Rattle.ckc_bounds_views.specs.Ranges.{pointer_range, range_of_allocation}
-use Rattle.ckc_bounds_views.specs.Views.{node_view, expr_view, view}
+use Rattle.ckc_blame_sound.specs.ckc_bounds_points.specs.declared.frame.Frame.{Frame}
+use Rattle.ckc_blame_sound.specs.ckc_bounds_points.specs.Flow.{State}
+use Rattle.ckc_blame_sound.specs.ckc_bounds_points.specs.Forms.{base_form, in_type}
+use Rattle.ckc_blame_sound.specs.ckc_bounds_points.specs.Shown.{Known}
+use Rattle.ckc_blame_sound.specs.ckc_bounds_views.specs.Judged.{expr_made, expr_judged}
+use Rattle.ckc_blame_sound.specs.ckc_bounds_views.specs.Parts.{View, capped, next_behind, with_last}
+use Rattle.ckc_blame_sound.specs.ckc_bounds_views.specs.Ranges.{pointer_range, range_of_allocation}
+use Rattle.ckc_blame_sound.specs.ckc_bounds_views.specs.Views.{node_view, expr_view, view}
 use Rattle.ckc_blame_sound.specs.Settings.{Setting}
 use Rattle.ckc_blame_sound.specs.Typed.{IsRow, HasRow, IsTyped}
 use Rattle.ckc_blame_sound.proofs.SameViews.{same_view}

@@ -11,14 +11,14 @@ use Rattle.ckc_syntax.specs.declared.tree.Limits.{fold-Limits}
 use Rattle.ckc_syntax.specs.declared.tree.Expr.{fold-Expr, fold-roll-Expr}
 use Rattle.ckc_typed.specs.declared.typed.Note.{Note}
 use Rattle.ckc_typed.specs.Trees.{NotedLimits, NotedNode, NotedExpr, NotedLayer}
-use Rattle.ckc_bounds_points.specs.declared.frame.Frame.{Frame}
-use Rattle.ckc_bounds_points.specs.Flow.{State}
-use Rattle.ckc_bounds_views.specs.Judged.{all_judged, head_fault, by_fault, expr_made}
-use Rattle.ckc_bounds_views.specs.Parts.{View, NodeView}
-use Rattle.ckc_bounds_views.specs.Ranges.{pointer_range}
-use Rattle.ckc_bounds_views.specs.Views.{node_view, view}
-use Rattle.ckc_bounds_statements.specs.Paths.{Here, value_judged}
-use Rattle.ckc_bounds_views.specs.Parts.{fresh_behind}
+use Rattle.ckc_blame_sound.specs.ckc_bounds_points.specs.declared.frame.Frame.{Frame}
+use Rattle.ckc_blame_sound.specs.ckc_bounds_points.specs.Flow.{State}
+use Rattle.ckc_blame_sound.specs.ckc_bounds_views.specs.Judged.{all_judged, head_fault, by_fault, expr_made}
+use Rattle.ckc_blame_sound.specs.ckc_bounds_views.specs.Parts.{View, NodeView}
+use Rattle.ckc_blame_sound.specs.ckc_bounds_views.specs.Ranges.{pointer_range}
+use Rattle.ckc_blame_sound.specs.ckc_bounds_views.specs.Views.{node_view, view}
+use Rattle.ckc_blame_sound.specs.ckc_bounds_statements.specs.Paths.{Here, value_judged}
+use Rattle.ckc_blame_sound.specs.ckc_bounds_views.specs.Parts.{fresh_behind}
 use Rattle.ckc_blame_sound.proofs.Statements.{made_of, pair_same}
 use Rattle.ckc_blame_sound.proofs.KeptTrees.{same_fold}
 use Rattle.ckc_blame_given.proofs.Views.{node_back, viewed_layer, node_in, view_is}

@@ -7,12 +7,12 @@ use Rattle.ckc_syntax.specs.declared.tree.Node.{Node-F, out-Node, the_lemmas as 
 use Rattle.ckc_syntax.specs.declared.tree.Node.TheVariants as node
 use Rattle.ckc_typed.specs.declared.typed.Note.{Note}
 use Rattle.ckc_typed.specs.Trees.{NotedNode, NotedExpr, NotedLayer, TypeTree}
-use Rattle.ckc_bounds_points.specs.declared.frame.Frame.{Frame}
-use Rattle.ckc_bounds_points.specs.Flow.{State}
-use Rattle.ckc_bounds_views.specs.Judged.{all_judged, by_fault, expr_made}
-use Rattle.ckc_bounds_views.specs.Parts.{View, NodeView}
-use Rattle.ckc_bounds_views.specs.Ranges.{pointer_range}
-use Rattle.ckc_bounds_views.specs.Views.{node_view, view}
+use Rattle.ckc_blame_sound.specs.ckc_bounds_points.specs.declared.frame.Frame.{Frame}
+use Rattle.ckc_blame_sound.specs.ckc_bounds_points.specs.Flow.{State}
+use Rattle.ckc_blame_sound.specs.ckc_bounds_views.specs.Judged.{all_judged, by_fault, expr_made}
+use Rattle.ckc_blame_sound.specs.ckc_bounds_views.specs.Parts.{View, NodeView}
+use Rattle.ckc_blame_sound.specs.ckc_bounds_views.specs.Ranges.{pointer_range}
+use Rattle.ckc_blame_sound.specs.ckc_bounds_views.specs.Views.{node_view, view}
 use Rattle.ckc_blame_sound.proofs.Statements.{made_of}
 use Rattle.ckc_blame_given.proofs.Views.{node_in, viewed_layer, view_is}
 use Rattle.ckc_blame_steps.proofs.Calls.{no_refusal}

@@ -27,7 +27,7 @@ use Rattle.ckc_typed_welltyped.specs.Expressions.{HasType, WellTypedExpr, IsNote
 use Rattle.ckc_typed_welltyped.specs.Parts.{StmtByParts}
 use Rattle.ckc_typed_welltyped.specs.Statements.{act_rows, WellTypedStmt}
 use Rattle.ckc_typed_welltyped.proofs.ByParts.{stmt_by_parts}
-use Rattle.ckc_bounds_statements.specs.Paths.{Here}
+use Rattle.ckc_blame_sound.specs.ckc_bounds_statements.specs.Paths.{Here}
 use Rattle.ckc_source.specs.Code.{Code, End, Expr}
 use Rattle.ckc_blame_sound.specs.Settings.{Setting}
 use Rattle.ckc_blame_sound.specs.Words.{exprs_of_act, exprs_in}
@@ -38,7 +38,7 @@ use Rattle.ckc_blame_sound.proofs.Words.{exprs_inside, exprs_are}
 use Rattle.ckc_blame_sound.proofs.Stepping.{ActLayer}
 use Rattle.ckc_blame_sound.proofs.Every.{each_follows}
 use Rattle.ckc_blame_control.proofs.Typed.{by_parts}
-use Rattle.ckc_blame_pointers.specs.Covered.{IsRawAddress}
+use Rattle.ckc_blame_given.specs.ckc_blame_pointers.specs.Covered.{IsRawAddress}
 use Rattle.ckc_blame_steps.specs.Checked.{IsPartOfMode, IsOfMode, IsInitOfMode, AreSidesOfMode, IsActOfMode, IsStmtOfMode, mode_of}
 use Rattle.ckc_blame_steps.proofs.Modes.{step_mode, inside_mode}
 use Rattle.ckc_blame_steps.proofs.Pointees.{pointer_out}

@@ -16,7 +16,7 @@ use Rattle.ckc_source.specs.Code.{Code}
 use Rattle.ckc_source.specs.States.{State}
 use Rattle.ckc_source.specs.Steps.{refuses, allowed}
 use Rattle.ckc_blame_control.proofs.Moved.{stopped}
-use Rattle.ckc_blame_pointers.specs.Owed.{Owed, Comes}
+use Rattle.ckc_blame_given.specs.ckc_blame_pointers.specs.Owed.{Owed, Comes}
 use Rattle.ckc_blame_steps.specs.Plans.{HasMore}
 use Rattle.ckc_blame_steps.specs.Unchecked.{stores_raw, StoresSafely}
 

@@ -22,14 +22,14 @@ use Rattle.ckc_typed.specs.Raw.{has_raw, raw_in_form}
 use Rattle.ckc_typed.specs.Trees.{NotedExpr, NotedLayer}
 use Rattle.ckc_typed.specs.Types.{is_integer, is_pointer, is_pointer_form, is_void, kind_of, kind_in, element_of, element_in}
 use Rattle.ckc_typed_welltyped.specs.Expressions.{AnyLimits, AnyNode, HasType, unary_row}
-use Rattle.ckc_bounds_views.specs.Judged.{is_counted_kind}
-use Rattle.ckc_bounds_views.specs.Views.{view}
+use Rattle.ckc_blame_sound.specs.ckc_bounds_views.specs.Judged.{is_counted_kind}
+use Rattle.ckc_blame_sound.specs.ckc_bounds_views.specs.Views.{view}
 use Rattle.ckc_source.specs.Eval.{Store}
 use Rattle.ckc_blame_sound.specs.Settings.{Setting}
 use Rattle.ckc_blame_sound.specs.Safe.{is_assumed}
 use Rattle.ckc_blame_sound.specs.Scopes.{NamesAmong, HasAmong, NamesSeen}
 use Rattle.ckc_blame_sound.specs.Typed.{HasRow, IsTyped}
-use Rattle.ckc_blame_pointers.specs.Covered.{IsElement, IsSingle, IsThrough, IsStructureTarget, IsStructureElement, IsPointerTarget, IsArrow, IsPointerArrow, IsStructureNode, IsDot, IsCoveredNode, IsRaw, IsUncheckedNode, IsCoveredExpr, AreCovered}
+use Rattle.ckc_blame_given.specs.ckc_blame_pointers.specs.Covered.{IsElement, IsSingle, IsThrough, IsStructureTarget, IsStructureElement, IsPointerTarget, IsArrow, IsPointerArrow, IsStructureNode, IsDot, IsCoveredNode, IsRaw, IsUncheckedNode, IsCoveredExpr, AreCovered}
 use Rattle.ckc_blame_sound.proofs.Every.{ExprLayer, EachExpr, EachLimits, each_follows}
 use Rattle.ckc_blame_sound.proofs.Sizes.{sizes_are_words}
 use Rattle.ckc_blame_steps.specs.Checked.{IsPartOfMode, IsOfMode}

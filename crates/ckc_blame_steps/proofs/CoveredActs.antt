@@ -21,10 +21,10 @@ use Rattle.ckc_typed_welltyped.specs.Declarations.{StartsLocal}
 use Rattle.ckc_typed_welltyped.specs.Productions.{callless_expr, is_call, is_right}
 use Rattle.ckc_typed_welltyped.specs.Statements as rows
 use Rattle.ckc_typed_welltyped.specs.Statements.{IsAssignment, IsTarget, act_rows, WellTypedStmt}
-use Rattle.ckc_bounds_points.specs.Codes.{not_contained}
-use Rattle.ckc_bounds_views.specs.Parts.{fresh_behind}
-use Rattle.ckc_bounds_views.specs.Views.{view}
-use Rattle.ckc_bounds_statements.specs.Paths.{Here, value_judged, maybe_judged, side_of, is_returned, gone, act_judged, stated}
+use Rattle.ckc_blame_sound.specs.ckc_bounds_points.specs.Codes.{not_contained}
+use Rattle.ckc_blame_sound.specs.ckc_bounds_views.specs.Parts.{fresh_behind}
+use Rattle.ckc_blame_sound.specs.ckc_bounds_views.specs.Views.{view}
+use Rattle.ckc_blame_sound.specs.ckc_bounds_statements.specs.Paths.{Here, value_judged, maybe_judged, side_of, is_returned, gone, act_judged, stated}
 use Rattle.ckc_source.specs.Code.{Code, End, Bundle, Function}
 use Rattle.ckc_source.specs.Eval.{Store}
 use Rattle.ckc_build_values.specs.Expressions.{literals_of}

@@ -18,10 +18,10 @@ use Rattle.ckc_typed.specs.Trees.{NotedExpr, NotedLayer, NotedStmt}
 use Rattle.ckc_typed_welltyped.specs.Productions.{callless_expr, is_right}
 use Rattle.ckc_typed_welltyped.specs.Statements.{IsAssignment, act_rows, WellTypedStmt}
 use Rattle.ckc_typed_welltyped.proofs.ByParts.{stmt_by_parts}
-use Rattle.ckc_bounds_ranges.specs.Bundles.{is_call, is_call_node, target_behind, target_in, may_follow, names_earlier, and_rest, all_follow, is_bundle, mention}
-use Rattle.ckc_bounds_views.specs.Parts.{fresh_behind}
-use Rattle.ckc_bounds_views.specs.Views.{view}
-use Rattle.ckc_bounds_statements.specs.Paths.{Here}
+use Rattle.ckc_blame_sound.specs.ckc_bounds_ranges.specs.Bundles.{is_call, is_call_node, target_behind, target_in, may_follow, names_earlier, and_rest, all_follow, is_bundle, mention}
+use Rattle.ckc_blame_sound.specs.ckc_bounds_views.specs.Parts.{fresh_behind}
+use Rattle.ckc_blame_sound.specs.ckc_bounds_views.specs.Views.{view}
+use Rattle.ckc_blame_sound.specs.ckc_bounds_statements.specs.Paths.{Here}
 use Rattle.ckc_source.specs.Code.{Function}
 use Rattle.ckc_source.specs.Eval.{Store}
 use Rattle.ckc_blame_sound.specs.Settings.{Setting, IsFunction}

@@ -28,10 +28,10 @@ use Rattle.ckc_typed.specs.Types.{is_char, is_integer, is_integer_form, is_point
 use Rattle.ckc_typed_welltyped.specs.Expressions.{AnyLimits, AnyNode, HasType, AreArguments, IsAllocation, IsCall}
 use Rattle.ckc_typed_welltyped.specs.Productions.{call_form, callless_expr, callless_limits, limits_callless, node_callless, expr_callless, is_call, is_right}
 use Rattle.ckc_typed_welltyped.specs.Statements as rows
-use Rattle.ckc_bounds_views.specs.Judged.{all_judged}
-use Rattle.ckc_bounds_views.specs.Parts.{fresh_behind}
-use Rattle.ckc_bounds_views.specs.Views.{view}
-use Rattle.ckc_bounds_statements.specs.Paths.{Here}
+use Rattle.ckc_blame_sound.specs.ckc_bounds_views.specs.Judged.{all_judged}
+use Rattle.ckc_blame_sound.specs.ckc_bounds_views.specs.Parts.{fresh_behind}
+use Rattle.ckc_blame_sound.specs.ckc_bounds_views.specs.Views.{view}
+use Rattle.ckc_blame_sound.specs.ckc_bounds_statements.specs.Paths.{Here}
 use Rattle.ckc_source.specs.Code.{Function}
 use Rattle.ckc_source.specs.Eval.{Store}
 use Rattle.ckc_blame_sound.specs.Sized.{IsSizedNode, IsSizedPart, IsSized}
@@ -42,7 +42,7 @@ use Rattle.ckc_blame_sound.proofs.Same.{same_equal}
 use Rattle.ckc_blame_sound.specs.Typed.{IsRow, HasRow, IsTyped}
 use Rattle.ckc_blame_sound.proofs.Judging.{IsGood, Gives, expr_judged, outline}
 use Rattle.ckc_blame_sound.proofs.Statements.{made_of}
-use Rattle.ckc_blame_pointers.specs.Covered.{IsCoveredNode, IsUncheckedNode, IsCoveredExpr, IsCovered}
+use Rattle.ckc_blame_given.specs.ckc_blame_pointers.specs.Covered.{IsCoveredNode, IsUncheckedNode, IsCoveredExpr, IsCovered}
 use Rattle.ckc_blame_sound.specs.JudgedTexts.{IsJudged, globals_in}
 use Rattle.ckc_blame_sound.proofs.Every.{ExprLayer, EachLimits, EachExpr}
 use Rattle.ckc_blame_steps.specs.Checked.{IsPartOfMode, IsOfMode}

@@ -27,8 +27,8 @@ use Rattle.ckc_typed_welltyped.specs.Noteless.{bare_item, without_notes}
 use Rattle.ckc_typed_welltyped.specs.Texts.{WellTypedItem, WellTypedItems}
 use Rattle.ckc_typed.specs.declared.environment.Amount.{Amount}
 use Rattle.ckc_typed.specs.Amounts.{amount_of_limits}
-use Rattle.ckc_bounds_declared.specs.Written.{takes_bounds_kind}
-use Rattle.ckc_bounds_views.specs.Ranges.{range_of_object}
+use Rattle.ckc_blame_sound.specs.ckc_bounds_declared.specs.Written.{takes_bounds_kind}
+use Rattle.ckc_blame_sound.specs.ckc_bounds_views.specs.Ranges.{range_of_object}
 use Rattle.ckc_source.specs.declared.expr.Count.{Count}
 use Rattle.ckc_source.specs.declared.expr.Count.TheVariants as count
 use Rattle.ckc_source.specs.Code.{Function}
@@ -38,7 +38,7 @@ use Rattle.ckc_build_values.specs.Names.{fixed_by, fixed_count, count_declared, 
 use Rattle.ckc_build_elaborate.specs.Objects.{object_elaborated}
 use Rattle.ckc_blame_sound.specs.Settings.{Setting, IsFunction, setting_of}
 use Rattle.ckc_blame_sound.specs.Slots.{AreFilled}
-use Rattle.ckc_blame_pointers.specs.Covered.{IsCountedAs}
+use Rattle.ckc_blame_given.specs.ckc_blame_pointers.specs.Covered.{IsCountedAs}
 use Rattle.ckc_blame_sound.specs.JudgedTexts.{IsJudged, globals_in}
 use Rattle.ckc_blame_sound.proofs.Bares.{same_tree}
 use Rattle.ckc_blame_steps.specs.Statics.{IsStatic, range_counted}

@@ -24,13 +24,13 @@ use Rattle.ckc_typed.specs.Statements.{is_variable_form}
 use Rattle.ckc_typed.specs.Trees.{NotedExpr, NotedLayer}
 use Rattle.ckc_typed.specs.Types.{is_integer, is_pointer, is_pointer_form, is_scalar, is_void, element_of, kind_in, kind_of}
 use Rattle.ckc_typed_welltyped.specs.Expressions.{AnyLimits, AnyNode, HasType}
-use Rattle.ckc_bounds_views.specs.Judged.{is_counted_kind}
+use Rattle.ckc_blame_sound.specs.ckc_bounds_views.specs.Judged.{is_counted_kind}
 use Rattle.ckc_source.specs.Code.{Function}
 use Rattle.ckc_source.specs.Eval.{Store}
 use Rattle.ckc_build_values.specs.Kinds.{through_kind}
 use Rattle.ckc_blame_sound.specs.Settings.{Setting, IsFunction}
 use Rattle.ckc_blame_sound.specs.Typed.{IsRow, HasRow, IsTyped}
-use Rattle.ckc_blame_pointers.specs.Covered.{IsIntegerMember, IsPointerMember, IsStructureNode, IsDot, IsRawPlace, IsCoveredNode, IsUncheckedNode, IsCoveredExpr, AreCovered}
+use Rattle.ckc_blame_given.specs.ckc_blame_pointers.specs.Covered.{IsIntegerMember, IsPointerMember, IsStructureNode, IsDot, IsRawPlace, IsCoveredNode, IsUncheckedNode, IsCoveredExpr, AreCovered}
 use Rattle.ckc_blame_sound.specs.JudgedTexts.{IsJudged, globals_in}
 use Rattle.ckc_blame_sound.proofs.Every.{EachLimits}
 use Rattle.ckc_blame_steps.specs.Statics.{IsStatic}

@@ -6,8 +6,8 @@ use Rattle.ckc_base.specs.declared.arithmetic.Mode.TheVariants.{Checked, Uncheck
 use Rattle.ckc_typed.specs.declared.typed.Typed.{Typed}
 use Rattle.ckc_typed.specs.Statics.{strings_of_expr, strings_of_value}
 use Rattle.ckc_typed.specs.Trees.{NotedExpr}
-use Rattle.ckc_bounds_views.specs.Views.{view}
-use Rattle.ckc_bounds_statements.specs.Paths.{Here}
+use Rattle.ckc_blame_sound.specs.ckc_bounds_views.specs.Views.{view}
+use Rattle.ckc_blame_sound.specs.ckc_bounds_statements.specs.Paths.{Here}
 use Rattle.ckc_source.specs.declared.outcome.Halt.{Halt}
 use Rattle.ckc_source.specs.declared.outcome.Halt.TheVariants as halt
 use Rattle.ckc_source.specs.declared.outcome.Value.{Value}
@@ -28,10 +28,10 @@ use Rattle.ckc_blame_sound.specs.Cells.{AreSound, HaveOwnNames}
 use Rattle.ckc_blame_sound.specs.JudgedTexts.{IsJudged, globals_in}
 use Rattle.ckc_blame_sound.proofs.Members.{have_own_names}
 use Rattle.ckc_blame_sound.specs.Typed.{IsTyped, IsTypedIf}
-use Rattle.ckc_blame_pointers.specs.Covered.{DeclareLocals, IsSoundStore, IsCovered}
-use Rattle.ckc_blame_pointers.specs.Meant.{IsMeant}
-use Rattle.ckc_blame_pointers.specs.Owed.{Comes, Runs}
-use Rattle.ckc_blame_pointers.proofs.Whole.{judged_meant}
+use Rattle.ckc_blame_given.specs.ckc_blame_pointers.specs.Covered.{DeclareLocals, IsSoundStore, IsCovered}
+use Rattle.ckc_blame_given.specs.ckc_blame_pointers.specs.Meant.{IsMeant}
+use Rattle.ckc_blame_given.specs.ckc_blame_pointers.specs.Owed.{Comes, Runs}
+use Rattle.ckc_blame_given.specs.ckc_blame_pointers.proofs.Whole.{judged_meant}
 use Rattle.ckc_blame_control.specs.Decided.{LeadsTo, HasSides}
 use Rattle.ckc_blame_control.specs.Known.{IsKnownPoint}
 use Rattle.ckc_blame_control.proofs.Sides.{Judges, judges, some_leads, none_leads}

@@ -18,11 +18,11 @@ use Rattle.ckc_typed.specs.Trees.{NotedDecl, NotedExpr, NotedInit, NotedStmt}
 use Rattle.ckc_typed.specs.Types.{type_written}
 use Rattle.ckc_typed_welltyped.specs.Declarations.{StartsLocal, WellTypedLocal}
 use Rattle.ckc_typed_welltyped.specs.Statements.{act_rows, WellTypedStmt}
-use Rattle.ckc_bounds_points.specs.declared.frame.Local.{Local}
-use Rattle.ckc_bounds_points.specs.Codes.{not_contained}
-use Rattle.ckc_bounds_views.specs.Parts.{fresh_behind}
-use Rattle.ckc_bounds_views.specs.Views.{view}
-use Rattle.ckc_bounds_statements.specs.Paths.{Here, expr_judged, value_judged, values_judged, init_judged, bounds_judged, decl_judged, starts_within, declared_here, local_judged, act_judged, path, stated}
+use Rattle.ckc_blame_sound.specs.ckc_bounds_points.specs.declared.frame.Local.{Local}
+use Rattle.ckc_blame_sound.specs.ckc_bounds_points.specs.Codes.{not_contained}
+use Rattle.ckc_blame_sound.specs.ckc_bounds_views.specs.Parts.{fresh_behind}
+use Rattle.ckc_blame_sound.specs.ckc_bounds_views.specs.Views.{view}
+use Rattle.ckc_blame_sound.specs.ckc_bounds_statements.specs.Paths.{Here, expr_judged, value_judged, values_judged, init_judged, bounds_judged, decl_judged, starts_within, declared_here, local_judged, act_judged, path, stated}
 use Rattle.ckc_source.specs.declared.outcome.Halt.{Halt}
 use Rattle.ckc_source.specs.declared.outcome.Halt.TheVariants as halt
 use Rattle.ckc_source.specs.declared.outcome.Place.TheVariants as place
@@ -60,11 +60,11 @@ use Rattle.ckc_blame_sound.proofs.Stepping.{ActLayer as Layer, viewed, judged_is
 use Rattle.ckc_blame_sound.specs.JudgedTexts.{globals_in}
 use Rattle.ckc_blame_sound.proofs.Frames.{frames_agree}
 use Rattle.ckc_blame_sound.proofs.Agree.{facts_agree}
-use Rattle.ckc_blame_declared.proofs.HaveEnds.{locals_have_ends}
+use Rattle.ckc_blame_walk.specs.ckc_blame_declared.proofs.HaveEnds.{locals_have_ends}
 use Rattle.ckc_blame_control.specs.Kept.{KeepRanges, IsSameCall}
 use Rattle.ckc_blame_control.specs.Ready.{Faces}
 use Rattle.ckc_blame_control.proofs.Kept.{faced_sound, blocks_keep_ranges}
-use Rattle.ckc_blame_pointers.specs.Owed.{Comes}
+use Rattle.ckc_blame_given.specs.ckc_blame_pointers.specs.Owed.{Comes}
 use Rattle.ckc_blame_given.proofs.Comes.{comes_as}
 use Rattle.ckc_blame_given.specs.Written.{IsStart, IsDeclared}
 use Rattle.ckc_blame_given.proofs.Declared.{declared_after}

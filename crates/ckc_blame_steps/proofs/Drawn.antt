@@ -8,13 +8,13 @@ use Rattle.ckc_typed.specs.Conversions.{converts, is_allocation}
 use Rattle.ckc_typed.specs.Statics.{strings_of_expr}
 use Rattle.ckc_typed.specs.Trees.{NotedExpr}
 use Rattle.ckc_typed.specs.Types.{is_char, is_pointer}
-use Rattle.ckc_bounds_points.specs.Flow as flow
-use Rattle.ckc_bounds_points.specs.Forms.{in_type}
-use Rattle.ckc_bounds_views.specs.Parts.{View, capped, fresh_behind}
-use Rattle.ckc_bounds_views.specs.Views.{view}
-use Rattle.ckc_bounds_statements.specs.Paths.{Here}
-use Rattle.ckc_bounds_stores.specs.declared.values.Numbered.{Numbered}
-use Rattle.ckc_bounds_stores.specs.Values.{narrow, has_element, received_range}
+use Rattle.ckc_blame_sound.specs.ckc_bounds_points.specs.Flow as flow
+use Rattle.ckc_blame_sound.specs.ckc_bounds_points.specs.Forms.{in_type}
+use Rattle.ckc_blame_sound.specs.ckc_bounds_views.specs.Parts.{View, capped, fresh_behind}
+use Rattle.ckc_blame_sound.specs.ckc_bounds_views.specs.Views.{view}
+use Rattle.ckc_blame_sound.specs.ckc_bounds_statements.specs.Paths.{Here}
+use Rattle.ckc_blame_sound.specs.ckc_bounds_stores.specs.declared.values.Numbered.{Numbered}
+use Rattle.ckc_blame_sound.specs.ckc_bounds_stores.specs.Values.{narrow, has_element, received_range}
 use Rattle.ckc_source.specs.declared.program.Shape.{Shape}
 use Rattle.ckc_source.specs.Code.{Value}
 use Rattle.ckc_source.specs.Eval.{Store, evaluated}
@@ -29,8 +29,8 @@ use Rattle.ckc_blame_sound.proofs.SameViews.{same_view}
 use Rattle.ckc_blame_sound.specs.Containment.{Memory, IsRanged}
 use Rattle.ckc_blame_sound.specs.Valuations.{Valuation, IsValuationOf, AreNumbersOf}
 use Rattle.ckc_blame_sound.specs.GivenValues.{IsFrom}
-use Rattle.ckc_blame_pointers.specs.Covered.{DeclareLocals, IsCovered}
-use Rattle.ckc_blame_pointers.specs.Owed.{Comes}
+use Rattle.ckc_blame_given.specs.ckc_blame_pointers.specs.Covered.{DeclareLocals, IsCovered}
+use Rattle.ckc_blame_given.specs.ckc_blame_pointers.specs.Owed.{Comes}
 use Rattle.ckc_blame_given.proofs.Comes.{comes_on}
 use Rattle.ckc_blame_given.specs.At.{GivesAt}
 use Rattle.ckc_blame_given.specs.Gives.{Continues, Gives}

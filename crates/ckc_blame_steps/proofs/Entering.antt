@@ -24,18 +24,18 @@ use Rattle.ckc_typed_welltyped.specs.Expressions as typing
 use Rattle.ckc_typed_welltyped.specs.Expressions.{WellTypedExpr, HasType}
 use Rattle.ckc_typed_welltyped.specs.Parts.{NodeParts}
 use Rattle.ckc_typed_welltyped.proofs.ByParts.{expr_by_parts}
-use Rattle.ckc_bounds_points.specs.declared.frame.Local.{Local}
-use Rattle.ckc_bounds_points.specs.Flow.{State as Point}
-use Rattle.ckc_bounds_points.specs.Frames.{local_at}
-use Rattle.ckc_bounds_points.specs.Shown.{Known}
-use Rattle.ckc_bounds_views.specs.Judged.{head_fault}
-use Rattle.ckc_bounds_views.specs.Parts.{View}
-use Rattle.ckc_bounds_views.specs.Places.{values_after}
-use Rattle.ckc_bounds_views.specs.Views.{view}
-use Rattle.ckc_bounds_statements.specs.Paths.{path}
-use Rattle.ckc_bounds.specs.Declarations.{declared_in}
-use Rattle.ckc_bounds.specs.Frames.{name_seen, first_fresh}
-use Rattle.ckc_bounds_stores.specs.declared.values.Numbered.{Numbered}
+use Rattle.ckc_blame_sound.specs.ckc_bounds_points.specs.declared.frame.Local.{Local}
+use Rattle.ckc_blame_sound.specs.ckc_bounds_points.specs.Flow.{State as Point}
+use Rattle.ckc_blame_sound.specs.ckc_bounds_points.specs.Frames.{local_at}
+use Rattle.ckc_blame_sound.specs.ckc_bounds_points.specs.Shown.{Known}
+use Rattle.ckc_blame_sound.specs.ckc_bounds_views.specs.Judged.{head_fault}
+use Rattle.ckc_blame_sound.specs.ckc_bounds_views.specs.Parts.{View}
+use Rattle.ckc_blame_sound.specs.ckc_bounds_views.specs.Places.{values_after}
+use Rattle.ckc_blame_sound.specs.ckc_bounds_views.specs.Views.{view}
+use Rattle.ckc_blame_sound.specs.ckc_bounds_statements.specs.Paths.{path}
+use Rattle.ckc_blame_sound.specs.ckc_bounds.specs.Declarations.{declared_in}
+use Rattle.ckc_blame_sound.specs.ckc_bounds.specs.Frames.{name_seen, first_fresh}
+use Rattle.ckc_blame_sound.specs.ckc_bounds_stores.specs.declared.values.Numbered.{Numbered}
 use Rattle.ckc_source.specs.declared.outcome.Halt.{Halt}
 use Rattle.ckc_source.specs.declared.outcome.Halt.TheVariants as halt
 use Rattle.ckc_source.specs.declared.stmt.Kept.{Kept}
@@ -61,20 +61,20 @@ use Rattle.ckc_blame_sound.specs.JudgedTexts.{IsJudged}
 use Rattle.ckc_blame_sound.specs.Numbered.{AreLocals}
 use Rattle.ckc_blame_sound.proofs.Frames.{types_declared, declared_types}
 use Rattle.ckc_blame_sound.proofs.Functions.{numbered}
-use Rattle.ckc_blame_nested.specs.Nested.{AreNested}
+use Rattle.ckc_blame_walk.specs.ckc_blame_nested.specs.Nested.{AreNested}
 use Rattle.ckc_blame_walk.specs.Walks.{leaving}
 use Rattle.ckc_blame_walk.proofs.Frames.{text_goes}
 use Rattle.ckc_blame_sound.specs.Passed.{AreParameters}
 use Rattle.ckc_blame_sound.proofs.Agree.{facts_agree}
 use Rattle.ckc_blame_sound.proofs.Called.{parameters_bounded}
-use Rattle.ckc_blame_declared.proofs.HaveEnds.{locals_have_ends}
-use Rattle.ckc_blame_declared.proofs.Locals.{some_at, from_zero}
-use Rattle.ckc_blame_declared.proofs.Parameters.{parameters_are_locals}
+use Rattle.ckc_blame_walk.specs.ckc_blame_declared.proofs.HaveEnds.{locals_have_ends}
+use Rattle.ckc_blame_walk.specs.ckc_blame_declared.proofs.Locals.{some_at, from_zero}
+use Rattle.ckc_blame_walk.specs.ckc_blame_declared.proofs.Parameters.{parameters_are_locals}
 use Rattle.ckc_blame_walk.specs.Entries.{params_seen, MayEnter}
 use Rattle.ckc_blame_walk.proofs.Entered.{filled_at, params_many, entered_stands}
 use Rattle.ckc_blame_control.specs.Ready.{Faces}
 use Rattle.ckc_blame_control.proofs.Called.{entered_sound}
-use Rattle.ckc_blame_pointers.specs.Owed.{Comes}
+use Rattle.ckc_blame_given.specs.ckc_blame_pointers.specs.Owed.{Comes}
 use Rattle.ckc_blame_given.specs.Gives.{Continues}
 use Rattle.ckc_blame_steps.specs.Arguments.{GiveWords, literals_before}
 use Rattle.ckc_blame_steps.specs.Callees.{IsCallee, HaveCallees, HaveFewVariables}

@@ -5,8 +5,8 @@ use Rattle.ckc_base.specs.declared.arithmetic.Mode.{Mode}
 use Rattle.ckc_types.specs.declared.types.CType.{CType}
 use Rattle.ckc_typed.specs.Trees.{NotedDecl, NotedExpr}
 use Rattle.ckc_typed.specs.Types.{type_written}
-use Rattle.ckc_bounds_points.specs.Flow.{State}
-use Rattle.ckc_bounds_stores.specs.declared.values.Numbered.{Numbered}
+use Rattle.ckc_blame_sound.specs.ckc_bounds_points.specs.Flow.{State}
+use Rattle.ckc_blame_sound.specs.ckc_bounds_stores.specs.declared.values.Numbered.{Numbered}
 use Rattle.ckc_source.specs.declared.outcome.Halt.{Halt}
 use Rattle.ckc_source.specs.declared.outcome.Halt.TheVariants as halt
 use Rattle.ckc_source.specs.declared.outcome.Value.{Value}
@@ -18,7 +18,7 @@ use Rattle.ckc_build_elaborate.specs.Steps.{arguments}
 use Rattle.ckc_blame_sound.specs.Settings.{Setting}
 use Rattle.ckc_blame_sound.specs.Valuations.{Valuation, IsValuationOf}
 use Rattle.ckc_blame_sound.proofs.Frames.{types_declared}
-use Rattle.ckc_blame_pointers.specs.Owed.{Comes}
+use Rattle.ckc_blame_given.specs.ckc_blame_pointers.specs.Owed.{Comes}
 use Rattle.ckc_blame_given.specs.Gives.{Continues, GivesOn}
 use Rattle.ckc_blame_steps.specs.Arguments.{GivesWord, GiveWords, numbers_behind}
 use Rattle.ckc_blame_given.proofs.Converted.{Becomes}

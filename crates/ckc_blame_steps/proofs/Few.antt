@@ -11,8 +11,8 @@ use Rattle.ckc_syntax_limits.specs.Small.{how_many}
 use Rattle.ckc_typed.specs.declared.typed.Note.{Note}
 use Rattle.ckc_typed.specs.Trees.{NotedLimits, NotedNode, NotedExpr, NotedLayer}
 use Rattle.ckc_typed_welltyped.specs.Expressions.{AnyLimits, AnyNode}
-use Rattle.ckc_bounds_points.specs.declared.frame.Frame.{Frame}
-use Rattle.ckc_bounds_views.specs.Views.{view}
+use Rattle.ckc_blame_sound.specs.ckc_bounds_points.specs.declared.frame.Frame.{Frame}
+use Rattle.ckc_blame_sound.specs.ckc_bounds_views.specs.Views.{view}
 use Rattle.ckc_blame_sound.proofs.Every.{EachLimits, EachNode, EachExpr}
 use Rattle.ckc_blame_steps.specs.Values.{HasFewValues}
 use Rattle.ckc_blame_sound.proofs.Tallies.{tally, is_tally, tally-append}

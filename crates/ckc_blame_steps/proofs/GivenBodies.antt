@@ -8,8 +8,8 @@ use Rattle.ckc_typed.specs.declared.typed.Typed.{Typed}
 use Rattle.ckc_typed.specs.Trees.{NotedItem}
 use Rattle.ckc_typed_welltyped.specs.Productions.{given_head, given_item, given_stmt, given_tree}
 use Rattle.ckc_typed_welltyped.proofs.FormKept.{of_tree}
-use Rattle.ckc_bounds.specs.Phase.{bounding}
-use Rattle.ckc_bounds_known.proofs.Reaching.{and_cases}
+use Rattle.ckc_blame_sound.specs.ckc_bounds.specs.Phase.{bounding}
+use Rattle.ckc_blame_sound.specs.ckc_bounds_known.proofs.Reaching.{and_cases}
 use Rattle.ckc_blame_sound.specs.Given.{AreGiven}
 use Rattle.ckc_blame_sound.specs.JudgedTexts.{IsJudged}
 use Rattle.ckc_blame_sound.proofs.Bares.{same_tree}

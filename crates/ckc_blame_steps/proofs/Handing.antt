@@ -13,13 +13,13 @@ use Rattle.ckc_typed.specs.Trees.{NotedDecl, NotedLayer}
 use Rattle.ckc_typed.specs.Types.{type_written}
 use Rattle.ckc_typed_welltyped.specs.Expressions.{HasType}
 use Rattle.ckc_typed_welltyped.proofs.ByParts.{expr_by_parts}
-use Rattle.ckc_bounds_points.specs.declared.frame.Bounds.{Bounds}
-use Rattle.ckc_bounds_points.specs.declared.frame.Bounds.TheVariants as bounds
-use Rattle.ckc_bounds_points.specs.declared.frame.HeadBounds.{HeadBounds}
-use Rattle.ckc_bounds_views.specs.Parts.{View}
-use Rattle.ckc_bounds_views.specs.Places.{values_after}
-use Rattle.ckc_bounds_views.specs.Ranges.{range_of_result}
-use Rattle.ckc_bounds_views.specs.Views.{view}
+use Rattle.ckc_blame_sound.specs.ckc_bounds_points.specs.declared.frame.Bounds.{Bounds}
+use Rattle.ckc_blame_sound.specs.ckc_bounds_points.specs.declared.frame.Bounds.TheVariants as bounds
+use Rattle.ckc_blame_sound.specs.ckc_bounds_points.specs.declared.frame.HeadBounds.{HeadBounds}
+use Rattle.ckc_blame_sound.specs.ckc_bounds_views.specs.Parts.{View}
+use Rattle.ckc_blame_sound.specs.ckc_bounds_views.specs.Places.{values_after}
+use Rattle.ckc_blame_sound.specs.ckc_bounds_views.specs.Ranges.{range_of_result}
+use Rattle.ckc_blame_sound.specs.ckc_bounds_views.specs.Views.{view}
 use Rattle.ckc_source.specs.declared.expr.Limits.{Limits}
 use Rattle.ckc_source.specs.declared.expr.Pointee.{Pointee}
 use Rattle.ckc_source.specs.declared.outcome.Halt.{Halt}
@@ -49,9 +49,9 @@ use Rattle.ckc_blame_sound.specs.Containment.{IsReadBetween, IsReadWithin}
 use Rattle.ckc_blame_sound.specs.GivenValues.{memory_of}
 use Rattle.ckc_blame_sound.specs.Passed.{IsResult, result_between}
 use Rattle.ckc_blame_sound.proofs.Returned.{result_reads, call_read}
-use Rattle.ckc_blame_declared.proofs.Heads.{results_have_ends}
-use Rattle.ckc_blame_declared.proofs.Parameters.{parameters_are_locals}
-use Rattle.ckc_blame_declared.proofs.Results.{results_are_told}
+use Rattle.ckc_blame_walk.specs.ckc_blame_declared.proofs.Heads.{results_have_ends}
+use Rattle.ckc_blame_walk.specs.ckc_blame_declared.proofs.Parameters.{parameters_are_locals}
+use Rattle.ckc_blame_walk.specs.ckc_blame_declared.proofs.Results.{results_are_told}
 use Rattle.ckc_blame_walk.proofs.Entered.{params_many}
 use Rattle.ckc_blame_control.proofs.Called.{front_waits, back_sound}
 use Rattle.ckc_blame_control.proofs.Kept.{holds_kept}

@@ -8,10 +8,10 @@ use Rattle.ckc_typed.specs.declared.typed.Typed.{Typed}
 use Rattle.ckc_typed.specs.Trees.{NotedExpr}
 use Rattle.ckc_typed.specs.Types.{is_scalar}
 use Rattle.ckc_typed_welltyped.specs.Statements as rows
-use Rattle.ckc_bounds_statements.specs.Paths.{Here, expr_judged, value_judged, maybe_judged}
-use Rattle.ckc_bounds_points.specs.declared.frame.Frame.{Frame}
-use Rattle.ckc_bounds_views.specs.Parts.{View, fresh_behind}
-use Rattle.ckc_bounds_views.specs.Views.{view}
+use Rattle.ckc_blame_sound.specs.ckc_bounds_statements.specs.Paths.{Here, expr_judged, value_judged, maybe_judged}
+use Rattle.ckc_blame_sound.specs.ckc_bounds_points.specs.declared.frame.Frame.{Frame}
+use Rattle.ckc_blame_sound.specs.ckc_bounds_views.specs.Parts.{View, fresh_behind}
+use Rattle.ckc_blame_sound.specs.ckc_bounds_views.specs.Views.{view}
 use Rattle.ckc_source.specs.Code.{Expr, Function}
 use Rattle.ckc_source.specs.Eval.{Store}
 use Rattle.ckc_blame_sound.specs.Settings.{Setting, IsFunction}
@@ -23,7 +23,7 @@ use Rattle.ckc_blame_sound.specs.Words.{HaveWords}
 use Rattle.ckc_blame_sound.specs.Typed.{IsTyped, IsTypedIf}
 use Rattle.ckc_blame_sound.proofs.Statements.{made_of, pair_same}
 use Rattle.ckc_blame_sound.proofs.Judging.{judged_typed}
-use Rattle.ckc_blame_pointers.specs.Covered.{IsCovered}
+use Rattle.ckc_blame_given.specs.ckc_blame_pointers.specs.Covered.{IsCovered}
 use Rattle.ckc_blame_sound.specs.JudgedTexts.{globals_in}
 use Rattle.ckc_blame_sound.proofs.SameViews.{same_view}
 use Rattle.ckc_blame_control.proofs.Typed.{condition_typed}

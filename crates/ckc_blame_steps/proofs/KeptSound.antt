@@ -18,7 +18,7 @@ use Rattle.ckc_blame_control.specs.Decided.{IsDecided}
 use Rattle.ckc_blame_control.specs.Whole.{KeepSound, assigns_or_calls}
 use Rattle.ckc_blame_control.proofs.Faced.{faces_call, faces_return}
 use Rattle.ckc_blame_control.proofs.Moved.{stands_ready}
-use Rattle.ckc_blame_pointers.specs.Owed.{Runs}
+use Rattle.ckc_blame_given.specs.ckc_blame_pointers.specs.Owed.{Runs}
 use Rattle.ckc_blame_steps.proofs.Decided.{decided}
 use Rattle.ckc_blame_steps.proofs.Known.{results_known}
 use Rattle.ckc_blame_steps.proofs.Entering.{call_keeps}

@@ -19,13 +19,13 @@ use Rattle.ckc_typed.specs.declared.typed.Typed.{Typed}
 use Rattle.ckc_typed.specs.Environment.{variables_of}
 use Rattle.ckc_typed.specs.Trees.{NotedExpr, NotedHead, NotedLimits, NotedNode, NotedStmt}
 use Rattle.ckc_typed.specs.Types.{kind_of, type_written}
-use Rattle.ckc_bounds_points.specs.Codes.{bad_limits}
-use Rattle.ckc_bounds_points.specs.declared.frame.Bounds.{Bounds}
-use Rattle.ckc_bounds_points.specs.declared.frame.Bounds.TheVariants as bounds
-use Rattle.ckc_bounds_points.specs.declared.frame.Frame.{Frame}
-use Rattle.ckc_bounds_declared.specs.declared.limits.Holder.TheVariants as holder
-use Rattle.ckc_bounds_declared.specs.Written.{counted, known_between, bounds_written, bounds_of_kind, takes_bounds, place_of_limits, bounds_taken, bounds_declared}
-use Rattle.ckc_bounds.specs.Declarations.{known_or_not, result_bounds, types_in}
+use Rattle.ckc_blame_sound.specs.ckc_bounds_points.specs.Codes.{bad_limits}
+use Rattle.ckc_blame_sound.specs.ckc_bounds_points.specs.declared.frame.Bounds.{Bounds}
+use Rattle.ckc_blame_sound.specs.ckc_bounds_points.specs.declared.frame.Bounds.TheVariants as bounds
+use Rattle.ckc_blame_sound.specs.ckc_bounds_points.specs.declared.frame.Frame.{Frame}
+use Rattle.ckc_blame_sound.specs.ckc_bounds_declared.specs.declared.limits.Holder.TheVariants as holder
+use Rattle.ckc_blame_sound.specs.ckc_bounds_declared.specs.Written.{counted, known_between, bounds_written, bounds_of_kind, takes_bounds, place_of_limits, bounds_taken, bounds_declared}
+use Rattle.ckc_blame_sound.specs.ckc_bounds.specs.Declarations.{known_or_not, result_bounds, types_in}
 use Rattle.ckc_source.specs.declared.expr.Limits as program
 use Rattle.ckc_source.specs.Code.{Function}
 use Rattle.ckc_build_elaborate.specs.Functions.{function_elaborated}
@@ -34,7 +34,7 @@ use Rattle.ckc_build_values.specs.Kinds.{count_of_kind}
 use Rattle.ckc_blame_sound.specs.Settings.{Setting, IsFunction, frame_of_text, setting_of}
 use Rattle.ckc_blame_sound.specs.JudgedTexts.{IsJudged}
 use Rattle.ckc_blame_walk.proofs.Texts.{text_same}
-use Rattle.ckc_blame_declared.proofs.Parameters.{function_well}
+use Rattle.ckc_blame_walk.specs.ckc_blame_declared.proofs.Parameters.{function_well}
 
 -- bounds that are known
 abbrev pub AreKnown : Bounds → Type 0

@@ -35,8 +35,8 @@ use Rattle.ckc_typed_welltyped.specs.Noteless.{without_notes}
 use Rattle.ckc_typed_welltyped.specs.Texts.{WellTyped, TypedAs}
 use Rattle.ckc_typing.specs.Objects.{LieApart, HasRoom, HaveRoom}
 use Rattle.ckc_typing.proofs.Placed.{eighths, apart, within, first_at}
-use Rattle.ckc_bounds.specs.Phase.{bounding}
-use Rattle.ckc_bounds.specs.Texts.{text_judged}
+use Rattle.ckc_blame_sound.specs.ckc_bounds.specs.Phase.{bounding}
+use Rattle.ckc_blame_sound.specs.ckc_bounds.specs.Texts.{text_judged}
 use Rattle.ckc_source.specs.Blocks.{block_of, first_place}
 use Rattle.ckc_source.specs.LaidOut.{HoldBytes, IsLaidOut}
 use Rattle.ckc_build_elaborate.specs.Elaborated.{elaborated}

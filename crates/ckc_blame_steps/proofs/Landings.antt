@@ -5,9 +5,9 @@ use Rattle.ckc_base.specs.declared.arithmetic.Mode.{Mode}
 use Rattle.ckc_base.specs.Traces.{Event}
 use Rattle.ckc_typed.specs.declared.typed.Typed.{Typed}
 use Rattle.ckc_typed.specs.Trees.{NotedExpr}
-use Rattle.ckc_bounds_views.specs.Parts.{fresh_behind}
-use Rattle.ckc_bounds_views.specs.Views.{view}
-use Rattle.ckc_bounds_statements.specs.Paths.{Here, value_judged}
+use Rattle.ckc_blame_sound.specs.ckc_bounds_views.specs.Parts.{fresh_behind}
+use Rattle.ckc_blame_sound.specs.ckc_bounds_views.specs.Views.{view}
+use Rattle.ckc_blame_sound.specs.ckc_bounds_statements.specs.Paths.{Here, value_judged}
 use Rattle.ckc_source.specs.declared.outcome.Halt.{Halt}
 use Rattle.ckc_source.specs.declared.outcome.Halt.TheVariants as halt
 use Rattle.ckc_source.specs.declared.outcome.Place.{Place}
@@ -23,7 +23,7 @@ use Rattle.ckc_blame_sound.proofs.Kept.{point_kept}
 use Rattle.ckc_blame_sound.proofs.Statements.{made_of, pair_same}
 use Rattle.ckc_blame_control.specs.Ready.{Faces}
 use Rattle.ckc_blame_control.proofs.Moved.{sound_at}
-use Rattle.ckc_blame_pointers.specs.Owed.{Comes}
+use Rattle.ckc_blame_given.specs.ckc_blame_pointers.specs.Owed.{Comes}
 use Rattle.ckc_blame_given.proofs.Points.{same_point}
 use Rattle.ckc_blame_steps.proofs.Bytes.{IsByteStep, byte_call}
 use Rattle.ckc_blame_steps.proofs.Comes.{stops_soundly}

@@ -12,9 +12,9 @@ use Rattle.ckc_linear.specs.declared.forms.Form.{Form}
 use Rattle.ckc_typed.specs.declared.typed.Range.{Range}
 use Rattle.ckc_typed.specs.declared.typed.Range.TheVariants as range
 use Rattle.ckc_typed.specs.Types.{same_type}
-use Rattle.ckc_bounds_points.specs.Forms.{base_form, is_small}
-use Rattle.ckc_bounds_ranges.specs.Rows.{range_from, range_moved}
-use Rattle.ckc_bounds_stores.specs.Values.{one_less}
+use Rattle.ckc_blame_sound.specs.ckc_bounds_points.specs.Forms.{base_form, is_small}
+use Rattle.ckc_blame_sound.specs.ckc_bounds_ranges.specs.Rows.{range_from, range_moved}
+use Rattle.ckc_blame_sound.specs.ckc_bounds_stores.specs.Values.{one_less}
 use Rattle.ckc_source.specs.declared.expr.Pointee.{Pointee}
 use Rattle.ckc_source.specs.declared.outcome.Halt.TheVariants as halt
 use Rattle.ckc_source.specs.declared.program.Shape.{Shape}
@@ -26,8 +26,8 @@ use Rattle.ckc_blame_sound.specs.Valuations.{Valuation, form_address}
 use Rattle.ckc_blame_sound.proofs.Fresh.{fresh_length}
 use Rattle.ckc_blame_sound.proofs.Places.{element_between}
 use Rattle.ckc_blame_sound.specs.Containment.{Memory, IsReadBetween, IsReadWithin, HasElement}
-use Rattle.ckc_blame_pointers.proofs.Arrays.{type_same}
-use Rattle.ckc_blame_pointers.proofs.Widening.{within_tests}
+use Rattle.ckc_blame_given.specs.ckc_blame_pointers.proofs.Arrays.{type_same}
+use Rattle.ckc_blame_given.specs.ckc_blame_pointers.proofs.Widening.{within_tests}
 
 -- ---- counts
 

@@ -29,8 +29,8 @@ use Rattle.ckc_typed.specs.Walk.{pragma_after}
 use Rattle.ckc_typed_welltyped.specs.Declarations.{WellTypedBare}
 use Rattle.ckc_typed_welltyped.specs.Noteless.{bare_decl, bare_item, without_notes}
 use Rattle.ckc_typed_welltyped.specs.Texts.{WellTypedItem, WellTypedItems, members_seen}
-use Rattle.ckc_bounds_declared.specs.Written.{takes_bounds_kind, takes_bounds}
-use Rattle.ckc_bounds_views.specs.Fresh.{bounds_of_shape, type_of_shape, member_bounds, named_type}
+use Rattle.ckc_blame_sound.specs.ckc_bounds_declared.specs.Written.{takes_bounds_kind, takes_bounds}
+use Rattle.ckc_blame_sound.specs.ckc_bounds_views.specs.Fresh.{bounds_of_shape, type_of_shape, member_bounds, named_type}
 use Rattle.ckc_source.specs.Code.{Function}
 use Rattle.ckc_source.specs.Eval.{Store}
 use Rattle.ckc_build_values.specs.Kinds.{count_of_kind, tag_in}
@@ -40,7 +40,7 @@ use Rattle.ckc_blame_sound.specs.Slots.{AreFilled}
 use Rattle.ckc_blame_sound.specs.Cells.{HaveOwnNames}
 use Rattle.ckc_blame_sound.specs.Elements.{NameIntegerMembers}
 use Rattle.ckc_blame_sound.proofs.Shapes.{member_there, found_shape, found_member}
-use Rattle.ckc_blame_pointers.specs.Covered.{NamesInteger, IsIntegerMember, IsPointerMember}
+use Rattle.ckc_blame_given.specs.ckc_blame_pointers.specs.Covered.{NamesInteger, IsIntegerMember, IsPointerMember}
 use Rattle.ckc_blame_sound.specs.JudgedTexts.{IsJudged}
 use Rattle.ckc_blame_sound.proofs.Bares.{same_tree}
 use Rattle.ckc_blame_sound.proofs.Bounds.{text_boundable, items_bare, members_boundable}

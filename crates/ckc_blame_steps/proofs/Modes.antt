@@ -16,10 +16,10 @@ use Rattle.ckc_typed.specs.declared.typed.Note.{Note}
 use Rattle.ckc_typed.specs.declared.typed.Typed.{Typed}
 use Rattle.ckc_typed.specs.Trees.{NotedAct, NotedDecl, NotedExpr, NotedInit, NotedLayer, NotedStmt}
 use Rattle.ckc_typed_welltyped.specs.Statements.{mode_in_form}
-use Rattle.ckc_bounds_points.specs.declared.frame.HeadBounds.{HeadBounds}
-use Rattle.ckc_bounds_points.specs.declared.frame.Frame.{Frame}
-use Rattle.ckc_bounds_points.specs.Codes.{bad_bundle, not_contained}
-use Rattle.ckc_bounds_statements.specs.Paths.{Here, path, value_judged, maybe_judged, side_of, is_returned, gone, parts_judged, is_good, bundle_judged, sides_judged, behind_stores, decl_judged, stated, act_judged}
+use Rattle.ckc_blame_sound.specs.ckc_bounds_points.specs.declared.frame.HeadBounds.{HeadBounds}
+use Rattle.ckc_blame_sound.specs.ckc_bounds_points.specs.declared.frame.Frame.{Frame}
+use Rattle.ckc_blame_sound.specs.ckc_bounds_points.specs.Codes.{bad_bundle, not_contained}
+use Rattle.ckc_blame_sound.specs.ckc_bounds_statements.specs.Paths.{Here, path, value_judged, maybe_judged, side_of, is_returned, gone, parts_judged, is_good, bundle_judged, sides_judged, behind_stores, decl_judged, stated, act_judged}
 use Rattle.ckc_source.specs.declared.stmt.Spot.{Spot}
 use Rattle.ckc_source.specs.Code.{Code, End, Assign, Bundle, Get, Put, Call, If, Loop, Return, Check}
 use Rattle.ckc_source.specs.Steps.{spot_in}

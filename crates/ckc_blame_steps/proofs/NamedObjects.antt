@@ -19,11 +19,11 @@ use Rattle.ckc_typed.specs.Expressions.{is_no_array}
 use Rattle.ckc_typed.specs.Statics.{is_terminated}
 use Rattle.ckc_typed.specs.Trees.{NotedDecl}
 use Rattle.ckc_typed.specs.Types.{is_scalar}
-use Rattle.ckc_bounds_views.specs.Judged.{is_declared_object}
+use Rattle.ckc_blame_sound.specs.ckc_bounds_views.specs.Judged.{is_declared_object}
 use Rattle.ckc_build_elaborate.specs.Objects.{object_elaborated}
 use Rattle.ckc_source.specs.Code.{Function}
 use Rattle.ckc_blame_sound.specs.Settings.{Setting, IsFunction, setting_of}
-use Rattle.ckc_blame_pointers.specs.Covered.{IsFreeObject}
+use Rattle.ckc_blame_given.specs.ckc_blame_pointers.specs.Covered.{IsFreeObject}
 use Rattle.ckc_blame_sound.specs.JudgedTexts.{IsJudged, globals_in}
 use Rattle.ckc_blame_sound.proofs.Lists.{found}
 use Rattle.ckc_blame_steps.specs.Statics.{IsStatic}

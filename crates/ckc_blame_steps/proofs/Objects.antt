@@ -13,10 +13,10 @@ use Rattle.ckc_typed.specs.declared.typed.Typed.{Typed}
 use Rattle.ckc_typed.specs.Environment.{used, object_named}
 use Rattle.ckc_typed.specs.Expressions.{is_no_array}
 use Rattle.ckc_typed.specs.Types.{is_scalar}
-use Rattle.ckc_bounds_points.specs.declared.frame.Bounds.{Bounds}
-use Rattle.ckc_bounds_points.specs.Flow.{State}
-use Rattle.ckc_bounds_stores.specs.Stores.{Placed, stored_placed}
-use Rattle.ckc_bounds_stores.specs.Targets.{local_in}
+use Rattle.ckc_blame_sound.specs.ckc_bounds_points.specs.declared.frame.Bounds.{Bounds}
+use Rattle.ckc_blame_sound.specs.ckc_bounds_points.specs.Flow.{State}
+use Rattle.ckc_blame_sound.specs.ckc_bounds_stores.specs.Stores.{Placed, stored_placed}
+use Rattle.ckc_blame_sound.specs.ckc_bounds_stores.specs.Targets.{local_in}
 use Rattle.ckc_source.specs.declared.outcome.Place.TheVariants as place
 use Rattle.ckc_source.specs.Blocks.{Block, stored}
 use Rattle.ckc_source.specs.Eval.{Store, given}
@@ -48,7 +48,7 @@ use Rattle.ckc_blame_steps.proofs.StaticTargets.{no_member, statics_counts}
 use Rattle.ckc_blame_steps.proofs.Told.{are_statics, from_zero, has_object}
 use Rattle.ckc_blame_walk.proofs.Counts.{slot_parts}
 use Rattle.ckc_blame_walk.proofs.NamedStatics.{members_named}
-use Rattle.ckc_blame_pointers.specs.Covered.{IsSoundStore}
+use Rattle.ckc_blame_given.specs.ckc_blame_pointers.specs.Covered.{IsSoundStore}
 use Rattle.ckc_blame_given.specs.Targets.{IsStaticObject}
 use Rattle.ckc_blame_given.proofs.Kept.{from_kept}
 use Rattle.ckc_blame_given.proofs.Statics.{IsObjectBlock, object_block, cell_of}

@@ -21,28 +21,28 @@ use Rattle.ckc_typed.specs.declared.typed.Typed.{Typed}
 use Rattle.ckc_typed.specs.Environment.{kind_of_array}
 use Rattle.ckc_typed.specs.Trees.{NotedAct, NotedDecl, NotedExpr, NotedHead, NotedLimits, NotedStmt}
 use Rattle.ckc_typed.specs.Types.{kind_of, type_written}
-use Rattle.ckc_bounds_points.specs.declared.frame.Bounds.{Bounds}
-use Rattle.ckc_bounds_points.specs.declared.frame.Bounds.TheVariants as bounds
-use Rattle.ckc_bounds_points.specs.declared.frame.Frame.{Frame}
-use Rattle.ckc_bounds_points.specs.declared.frame.HeadBounds.{HeadBounds}
-use Rattle.ckc_bounds_points.specs.declared.frame.Local.{Local}
-use Rattle.ckc_bounds_points.specs.Codes.{not_contained, bad_bundle}
-use Rattle.ckc_bounds_points.specs.Flow.{joined}
-use Rattle.ckc_bounds_declared.specs.declared.limits.Holder.TheVariants as holder
-use Rattle.ckc_bounds_declared.specs.Written.{bounds_declared, bounds_of_kind, takes_bounds_kind}
-use Rattle.ckc_bounds_statements.specs.DeclBounds.{bounds_there, holder_of}
-use Rattle.ckc_bounds_statements.specs.Paths.{Here, Path, ActPath, ActOfPaths, value_judged, maybe_judged, init_judged, bounds_judged, starts_within, declared_here, stated, sides_judged, behind_stores, side_of, maybe_side, maybe_other, other_side, loop_head, closed, gone, is_good, is_returned, parts_judged, bundle_judged, all_judged, part_judged, if_judged, for_judged, to_step, maybe_point, act_path, stmt_path, path_of_act, path}
-use Rattle.ckc_bounds.specs.Declarations.{declared_in, head_bounds, known_or_not, types_in}
-use Rattle.ckc_bounds.specs.Frames.{all_of, begin_of, function_frame, nameless}
-use Rattle.ckc_bounds.specs.Texts.{body_judged}
+use Rattle.ckc_blame_sound.specs.ckc_bounds_points.specs.declared.frame.Bounds.{Bounds}
+use Rattle.ckc_blame_sound.specs.ckc_bounds_points.specs.declared.frame.Bounds.TheVariants as bounds
+use Rattle.ckc_blame_sound.specs.ckc_bounds_points.specs.declared.frame.Frame.{Frame}
+use Rattle.ckc_blame_sound.specs.ckc_bounds_points.specs.declared.frame.HeadBounds.{HeadBounds}
+use Rattle.ckc_blame_sound.specs.ckc_bounds_points.specs.declared.frame.Local.{Local}
+use Rattle.ckc_blame_sound.specs.ckc_bounds_points.specs.Codes.{not_contained, bad_bundle}
+use Rattle.ckc_blame_sound.specs.ckc_bounds_points.specs.Flow.{joined}
+use Rattle.ckc_blame_sound.specs.ckc_bounds_declared.specs.declared.limits.Holder.TheVariants as holder
+use Rattle.ckc_blame_sound.specs.ckc_bounds_declared.specs.Written.{bounds_declared, bounds_of_kind, takes_bounds_kind}
+use Rattle.ckc_blame_sound.specs.ckc_bounds_statements.specs.DeclBounds.{bounds_there, holder_of}
+use Rattle.ckc_blame_sound.specs.ckc_bounds_statements.specs.Paths.{Here, Path, ActPath, ActOfPaths, value_judged, maybe_judged, init_judged, bounds_judged, starts_within, declared_here, stated, sides_judged, behind_stores, side_of, maybe_side, maybe_other, other_side, loop_head, closed, gone, is_good, is_returned, parts_judged, bundle_judged, all_judged, part_judged, if_judged, for_judged, to_step, maybe_point, act_path, stmt_path, path_of_act, path}
+use Rattle.ckc_blame_sound.specs.ckc_bounds.specs.Declarations.{declared_in, head_bounds, known_or_not, types_in}
+use Rattle.ckc_blame_sound.specs.ckc_bounds.specs.Frames.{all_of, begin_of, function_frame, nameless}
+use Rattle.ckc_blame_sound.specs.ckc_bounds.specs.Texts.{body_judged}
 use Rattle.ckc_source.specs.Code.{Function}
 use Rattle.ckc_blame_sound.specs.Settings.{Setting, IsFunction, frame_of_text, setting_of}
 use Rattle.ckc_blame_sound.specs.JudgedTexts.{IsJudged, IsBodyJudged, globals_in}
 use Rattle.ckc_blame_sound.proofs.Bodies.{bodies_are_typed}
 use Rattle.ckc_blame_sound.proofs.Bounds.{IsBoundable, decl_fits}
-use Rattle.ckc_blame_declared.proofs.Locals.{contains_at, local_is}
-use Rattle.ckc_blame_declared.proofs.Parameters.{IsJudgedWell, declaration_at, function_well}
-use Rattle.ckc_blame_pointers.specs.Covered.{DeclareOnes}
+use Rattle.ckc_blame_walk.specs.ckc_blame_declared.proofs.Locals.{contains_at, local_is}
+use Rattle.ckc_blame_walk.specs.ckc_blame_declared.proofs.Parameters.{IsJudgedWell, declaration_at, function_well}
+use Rattle.ckc_blame_given.specs.ckc_blame_pointers.specs.Covered.{DeclareOnes}
 use Rattle.ckc_blame_walk.proofs.Frames.{body_twin}
 use Rattle.ckc_blame_walk.proofs.Pieces.{Gives, through, nested, given, unless_gives, value_moves, maybe_moves, init_moves}
 use Rattle.ckc_blame_walk.proofs.Twins.{bare}

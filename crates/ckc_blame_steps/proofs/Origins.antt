@@ -7,8 +7,8 @@ use Rattle.ckc_syntax.specs.declared.tree.Act.{Act-F, out-Act}
 use Rattle.ckc_syntax.specs.declared.tree.Act.TheVariants as act
 use Rattle.ckc_typed.specs.declared.typed.Note.{Note}
 use Rattle.ckc_typed.specs.Trees.{NotedAct, NotedDecl, NotedExpr, NotedStmt}
-use Rattle.ckc_bounds_points.specs.Codes.{not_contained, bad_bundle}
-use Rattle.ckc_bounds_statements.specs.Paths.{Here, value_judged, maybe_judged, side_of, is_returned, gone, act_judged, parts_judged, is_good, bundle_judged, behind_stores, path, stated}
+use Rattle.ckc_blame_sound.specs.ckc_bounds_points.specs.Codes.{not_contained, bad_bundle}
+use Rattle.ckc_blame_sound.specs.ckc_bounds_statements.specs.Paths.{Here, value_judged, maybe_judged, side_of, is_returned, gone, act_judged, parts_judged, is_good, bundle_judged, behind_stores, path, stated}
 use Rattle.ckc_source.specs.Code as code
 use Rattle.ckc_source.specs.Code.{Code, End, Bundle, Return, Check}
 use Rattle.ckc_build_values.specs.Expressions.{expr_elaborated}

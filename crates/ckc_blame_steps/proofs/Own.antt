@@ -3,7 +3,7 @@ use Rattle.std.proofs.Common.{refl, ap, ◌∙◌, ℕ, Bool, List, ℤ}
 use Rattle.std.specs.Prelude.{pos, if◌then◌else◌, slice_index, Option, Some}
 use Rattle.ckc_linear.specs.declared.forms.Base.{Base}
 use Rattle.ckc_linear.specs.declared.forms.Base.TheVariants as base
-use Rattle.ckc_bounds_points.specs.declared.frame.Local.{Local}
+use Rattle.ckc_blame_sound.specs.ckc_bounds_points.specs.declared.frame.Local.{Local}
 use Rattle.ckc_source.specs.Words.{exact}
 use Rattle.ckc_build_values.specs.Kinds.{integer_of}
 use Rattle.ckc_build_values.specs.Names.{address_of}

@@ -24,12 +24,12 @@ use Rattle.ckc_typed.specs.Constants.{size_of, negated, limits_constant, node_co
 use Rattle.ckc_typed.specs.Trees.{TypeTree, Limits, Node, Expr, NotedLimits, NotedNode, NotedExpr, NotedLayer}
 use Rattle.ckc_typed.specs.Types.{written_parts, type_written, element_of}
 use Rattle.ckc_typed_welltyped.specs.Noteless.{limits_noteless, node_noteless, limits_bared, node_bared, expr_bared, bare_limits, bare_node, bare_expr}
-use Rattle.ckc_bounds_points.specs.declared.frame.Bounds.{Bounds}
-use Rattle.ckc_bounds_points.specs.declared.frame.Bounds.TheVariants as bounds
-use Rattle.ckc_bounds_points.specs.declared.frame.Frame.{Frame}
-use Rattle.ckc_bounds_points.specs.Forms.{elements, sum_of_forms}
-use Rattle.ckc_bounds_declared.specs.declared.limits.Holder.{Holder}
-use Rattle.ckc_bounds_declared.specs.Written.{own, named_base, amount_form, counted, named_pieces, negative_amount, sum_pieces, node_pieces, bound_with, bound, known_between, takes_ends, bounds_written}
+use Rattle.ckc_blame_sound.specs.ckc_bounds_points.specs.declared.frame.Bounds.{Bounds}
+use Rattle.ckc_blame_sound.specs.ckc_bounds_points.specs.declared.frame.Bounds.TheVariants as bounds
+use Rattle.ckc_blame_sound.specs.ckc_bounds_points.specs.declared.frame.Frame.{Frame}
+use Rattle.ckc_blame_sound.specs.ckc_bounds_points.specs.Forms.{elements, sum_of_forms}
+use Rattle.ckc_blame_sound.specs.ckc_bounds_declared.specs.declared.limits.Holder.{Holder}
+use Rattle.ckc_blame_sound.specs.ckc_bounds_declared.specs.Written.{own, named_base, amount_form, counted, named_pieces, negative_amount, sum_pieces, node_pieces, bound_with, bound, known_between, takes_ends, bounds_written}
 
 -- ---- types
 

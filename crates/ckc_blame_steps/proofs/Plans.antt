@@ -15,13 +15,13 @@ use Rattle.ckc_typed.specs.Conversions.{converts, is_allocation_form, is_allocat
 use Rattle.ckc_typed.specs.Statics.{strings_of_expr}
 use Rattle.ckc_typed.specs.Trees.{NotedAct, NotedExpr, NotedLayer, NotedStmt}
 use Rattle.ckc_typed.specs.Types.{is_scalar}
-use Rattle.ckc_bounds_views.specs.Parts.{View, capped, fresh_behind}
-use Rattle.ckc_bounds_views.specs.Views.{view}
-use Rattle.ckc_bounds_statements.specs.Paths.{Here}
-use Rattle.ckc_bounds_stores.specs.declared.values.Numbered.{Numbered}
-use Rattle.ckc_bounds_stores.specs.Targets.{local_of}
-use Rattle.ckc_bounds_stores.specs.Stores as stores
-use Rattle.ckc_bounds_stores.specs.Stores.{Placed, with_store, stores_of, numbered}
+use Rattle.ckc_blame_sound.specs.ckc_bounds_views.specs.Parts.{View, capped, fresh_behind}
+use Rattle.ckc_blame_sound.specs.ckc_bounds_views.specs.Views.{view}
+use Rattle.ckc_blame_sound.specs.ckc_bounds_statements.specs.Paths.{Here}
+use Rattle.ckc_blame_sound.specs.ckc_bounds_stores.specs.declared.values.Numbered.{Numbered}
+use Rattle.ckc_blame_sound.specs.ckc_bounds_stores.specs.Targets.{local_of}
+use Rattle.ckc_blame_sound.specs.ckc_bounds_stores.specs.Stores as stores
+use Rattle.ckc_blame_sound.specs.ckc_bounds_stores.specs.Stores.{Placed, with_store, stores_of, numbered}
 use Rattle.ckc_source.specs.declared.outcome.Halt.{Halt}
 use Rattle.ckc_source.specs.declared.outcome.Halt.TheVariants as halt
 use Rattle.ckc_source.specs.declared.outcome.Place.{Place}
@@ -42,12 +42,12 @@ use Rattle.ckc_blame_sound.specs.Typed.{IsTyped, Agrees}
 use Rattle.ckc_blame_sound.proofs.SameViews.{same_view}
 use Rattle.ckc_blame_sound.specs.Valuations.{Valuation, IsValuationOf}
 use Rattle.ckc_blame_sound.specs.GivenValues.{StayTrue}
-use Rattle.ckc_blame_pointers.specs.Covered.{DeclareLocals}
-use Rattle.ckc_blame_pointers.specs.Owed.{Owed, Comes}
+use Rattle.ckc_blame_given.specs.ckc_blame_pointers.specs.Covered.{DeclareLocals}
+use Rattle.ckc_blame_given.specs.ckc_blame_pointers.specs.Owed.{Owed, Comes}
 use Rattle.ckc_blame_given.proofs.Comes.{comes_on}
 use Rattle.ckc_blame_given.specs.Gives.{Continues}
 use Rattle.ckc_blame_given.specs.Planned.{IsTarget, IsPlanned, ArePlanned}
-use Rattle.ckc_blame_pointers.proofs.Strings.{strings_in_node}
+use Rattle.ckc_blame_given.specs.ckc_blame_pointers.proofs.Strings.{strings_in_node}
 use Rattle.ckc_blame_given.proofs.Layers.{strings_are}
 use Rattle.ckc_blame_given.proofs.Views.{allocates_is}
 use Rattle.ckc_blame_given.specs.Written.{IsReceived}

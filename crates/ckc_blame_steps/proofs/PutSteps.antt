@@ -13,8 +13,8 @@ use Rattle.ckc_typed.specs.declared.typed.Note.{Note}
 use Rattle.ckc_typed.specs.declared.typed.Typed.{Typed}
 use Rattle.ckc_typed.specs.Statics.{strings_of_expr}
 use Rattle.ckc_typed.specs.Trees.{NotedDecl, NotedExpr, NotedInit}
-use Rattle.ckc_bounds_views.specs.Parts.{fresh_behind, capped}
-use Rattle.ckc_bounds_views.specs.Views.{view}
+use Rattle.ckc_blame_sound.specs.ckc_bounds_views.specs.Parts.{fresh_behind, capped}
+use Rattle.ckc_blame_sound.specs.ckc_bounds_views.specs.Views.{view}
 use Rattle.ckc_source.specs.declared.outcome.Halt.{Halt}
 use Rattle.ckc_source.specs.declared.outcome.Halt.TheVariants as halt
 use Rattle.ckc_source.specs.declared.outcome.Place.{Place}
@@ -38,7 +38,7 @@ use Rattle.ckc_blame_sound.proofs.Frames.{frames_agree}
 use Rattle.ckc_blame_control.specs.Ready.{Faces}
 use Rattle.ckc_blame_control.proofs.Faced.{faces_put}
 use Rattle.ckc_blame_control.proofs.Moved.{stands_ready}
-use Rattle.ckc_blame_pointers.specs.Owed.{Comes}
+use Rattle.ckc_blame_given.specs.ckc_blame_pointers.specs.Owed.{Comes}
 use Rattle.ckc_blame_steps.specs.Granted.{IsGranted, IsCoveredFirst, IsCoveredRight, IsCoveredAlone, IsCoveredInit, IsCoveredAct, HasRoomInit, HasRoomAct}
 use Rattle.ckc_blame_steps.specs.Unchecked.{StoresSafely, MovesSoundly}
 use Rattle.ckc_blame_steps.proofs.Argument.{IsPut, put_evaluates}

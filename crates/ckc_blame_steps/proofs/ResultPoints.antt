@@ -25,12 +25,12 @@ use Rattle.ckc_typed_welltyped.specs.Declarations.{StartsLocal}
 use Rattle.ckc_typed_welltyped.specs.Expressions.{AnyLimits, AnyNode, HasType, IsNoted, WellTypedExpr}
 use Rattle.ckc_typed_welltyped.specs.Statements as rows
 use Rattle.ckc_typed_welltyped.specs.Statements.{act_rows, WellTypedStmt}
-use Rattle.ckc_bounds_points.specs.Codes.{not_contained}
-use Rattle.ckc_bounds_views.specs.Parts.{fresh_behind}
-use Rattle.ckc_bounds_views.specs.Views.{view}
-use Rattle.ckc_bounds_stores.specs.Stores.{Placed, numbered, stores_of, stored_placed, with_store}
-use Rattle.ckc_bounds_stores.specs.Targets.{local_in, local_of}
-use Rattle.ckc_bounds_statements.specs.Paths.{Here, value_judged, init_judged, bounds_judged, starts_within, declared_here, decl_judged, stated, act_judged}
+use Rattle.ckc_blame_sound.specs.ckc_bounds_points.specs.Codes.{not_contained}
+use Rattle.ckc_blame_sound.specs.ckc_bounds_views.specs.Parts.{fresh_behind}
+use Rattle.ckc_blame_sound.specs.ckc_bounds_views.specs.Views.{view}
+use Rattle.ckc_blame_sound.specs.ckc_bounds_stores.specs.Stores.{Placed, numbered, stores_of, stored_placed, with_store}
+use Rattle.ckc_blame_sound.specs.ckc_bounds_stores.specs.Targets.{local_in, local_of}
+use Rattle.ckc_blame_sound.specs.ckc_bounds_statements.specs.Paths.{Here, value_judged, init_judged, bounds_judged, starts_within, declared_here, decl_judged, stated, act_judged}
 use Rattle.ckc_source.specs.declared.stmt.Kept.{Kept}
 use Rattle.ckc_source.specs.declared.stmt.Kept.TheVariants as kept
 use Rattle.ckc_source.specs.declared.stmt.Spot.{Spot}
@@ -57,7 +57,7 @@ use Rattle.ckc_blame_sound.proofs.Stepping.{ActLayer, viewed, judged_is, parted,
 use Rattle.ckc_blame_sound.specs.JudgedTexts.{IsJudged, globals_in}
 use Rattle.ckc_blame_sound.proofs.Frames.{frames_agree, locals_are_there}
 use Rattle.ckc_blame_sound.proofs.SameViews.{same_view}
-use Rattle.ckc_blame_declared.proofs.HaveEnds.{locals_have_ends}
+use Rattle.ckc_blame_walk.specs.ckc_blame_declared.proofs.HaveEnds.{locals_have_ends}
 use Rattle.ckc_blame_steps.specs.Statics.{IsStatic}
 use Rattle.ckc_blame_steps.proofs.Told.{local_named, none_named, statics_told}
 use Rattle.ckc_blame_sound.specs.Ends.{HaveEnds}

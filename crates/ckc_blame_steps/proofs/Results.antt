@@ -15,16 +15,16 @@ use Rattle.ckc_typed.specs.declared.typed.Range.{Range}
 use Rattle.ckc_typed.specs.declared.typed.Range.TheVariants as range
 use Rattle.ckc_typed.specs.Trees.{NotedExpr, NotedLayer}
 use Rattle.ckc_typed.specs.Types.{is_integer, is_pointer}
-use Rattle.ckc_bounds_points.specs.declared.frame.Frame.{Frame}
-use Rattle.ckc_bounds_points.specs.Flow.{State}
-use Rattle.ckc_bounds_points.specs.Forms.{base_form}
-use Rattle.ckc_bounds_points.specs.Shown.{Known}
-use Rattle.ckc_bounds_views.specs.Fresh.{all_fresh}
-use Rattle.ckc_bounds_views.specs.Parts.{View, capped}
-use Rattle.ckc_bounds_views.specs.Places.{values_after}
-use Rattle.ckc_bounds_views.specs.Ranges.{range_of_result}
-use Rattle.ckc_bounds_views.specs.Views.{node_view, expr_view, view}
-use Rattle.ckc_bounds_stores.specs.Values.{narrow, received_range, has_element}
+use Rattle.ckc_blame_sound.specs.ckc_bounds_points.specs.declared.frame.Frame.{Frame}
+use Rattle.ckc_blame_sound.specs.ckc_bounds_points.specs.Flow.{State}
+use Rattle.ckc_blame_sound.specs.ckc_bounds_points.specs.Forms.{base_form}
+use Rattle.ckc_blame_sound.specs.ckc_bounds_points.specs.Shown.{Known}
+use Rattle.ckc_blame_sound.specs.ckc_bounds_views.specs.Fresh.{all_fresh}
+use Rattle.ckc_blame_sound.specs.ckc_bounds_views.specs.Parts.{View, capped}
+use Rattle.ckc_blame_sound.specs.ckc_bounds_views.specs.Places.{values_after}
+use Rattle.ckc_blame_sound.specs.ckc_bounds_views.specs.Ranges.{range_of_result}
+use Rattle.ckc_blame_sound.specs.ckc_bounds_views.specs.Views.{node_view, expr_view, view}
+use Rattle.ckc_blame_sound.specs.ckc_bounds_stores.specs.Values.{narrow, received_range, has_element}
 use Rattle.ckc_source.specs.Eval.{Store}
 use Rattle.ckc_build_values.specs.Kinds.{pointee_of, size_behind}
 use Rattle.ckc_blame_sound.specs.Settings.{Setting}

@@ -12,12 +12,12 @@ use Rattle.ckc_typed.specs.Trees.{NotedExpr}
 use Rattle.ckc_typed.specs.Types.{is_char}
 use Rattle.ckc_typed_welltyped.specs.Expressions.{WellTypedExpr}
 use Rattle.ckc_typed_welltyped.proofs.ByParts.{expr_by_parts}
-use Rattle.ckc_bounds_points.specs.Flow.{State as Point}
-use Rattle.ckc_bounds_views.specs.Parts.{View, capped}
-use Rattle.ckc_bounds_views.specs.Views.{view}
-use Rattle.ckc_bounds_stores.specs.declared.values.Numbered.{Numbered}
-use Rattle.ckc_bounds_stores.specs.Stores as stores
-use Rattle.ckc_bounds_stores.specs.Values.{narrow, received_range, has_element}
+use Rattle.ckc_blame_sound.specs.ckc_bounds_points.specs.Flow.{State as Point}
+use Rattle.ckc_blame_sound.specs.ckc_bounds_views.specs.Parts.{View, capped}
+use Rattle.ckc_blame_sound.specs.ckc_bounds_views.specs.Views.{view}
+use Rattle.ckc_blame_sound.specs.ckc_bounds_stores.specs.declared.values.Numbered.{Numbered}
+use Rattle.ckc_blame_sound.specs.ckc_bounds_stores.specs.Stores as stores
+use Rattle.ckc_blame_sound.specs.ckc_bounds_stores.specs.Values.{narrow, received_range, has_element}
 use Rattle.ckc_source.specs.declared.outcome.Halt.{Halt}
 use Rattle.ckc_source.specs.declared.outcome.Halt.TheVariants as halt
 use Rattle.ckc_source.specs.declared.outcome.Value.{Value}
@@ -43,10 +43,10 @@ use Rattle.ckc_blame_sound.specs.GivenValues.{memory_of, IsFrom}
 use Rattle.ckc_blame_sound.specs.Values.{NamesIntegers}
 use Rattle.ckc_blame_sound.proofs.Agree.{facts_agree}
 use Rattle.ckc_blame_sound.proofs.Returned.{result_read}
-use Rattle.ckc_blame_declared.proofs.Heads.{results_have_ends}
+use Rattle.ckc_blame_walk.specs.ckc_blame_declared.proofs.Heads.{results_have_ends}
 use Rattle.ckc_blame_control.specs.Ready.{Faces}
 use Rattle.ckc_blame_control.proofs.Moved.{move_by}
-use Rattle.ckc_blame_pointers.specs.Owed.{Comes}
+use Rattle.ckc_blame_given.specs.ckc_blame_pointers.specs.Owed.{Comes}
 use Rattle.ckc_blame_given.specs.Gives.{Gives, GivesOn}
 use Rattle.ckc_blame_steps.specs.Arguments.{GivesWord}
 use Rattle.ckc_blame_steps.specs.Callees.{HaveCallees, HaveFewVariables}

@@ -16,10 +16,10 @@ use Rattle.ckc_typed.specs.Statements.{is_result}
 use Rattle.ckc_typed.specs.Trees.{NotedDecl, NotedExpr, NotedInit, NotedLayer, NotedStmt}
 use Rattle.ckc_typed_welltyped.specs.Expressions.{WellTypedExpr}
 use Rattle.ckc_typed_welltyped.specs.Statements.{act_rows, WellTypedStmt}
-use Rattle.ckc_bounds_points.specs.Codes.{not_contained, bad_bundle}
-use Rattle.ckc_bounds_stores.specs.Stores as stores
-use Rattle.ckc_bounds_views.specs.Views.{view}
-use Rattle.ckc_bounds_statements.specs.Paths.{Here, path, value_judged, maybe_judged, side_of, is_returned, gone, parts_judged, is_good, bundle_judged, sides_judged, behind_stores, decl_judged, stated, act_judged}
+use Rattle.ckc_blame_sound.specs.ckc_bounds_points.specs.Codes.{not_contained, bad_bundle}
+use Rattle.ckc_blame_sound.specs.ckc_bounds_stores.specs.Stores as stores
+use Rattle.ckc_blame_sound.specs.ckc_bounds_views.specs.Views.{view}
+use Rattle.ckc_blame_sound.specs.ckc_bounds_statements.specs.Paths.{Here, path, value_judged, maybe_judged, side_of, is_returned, gone, parts_judged, is_good, bundle_judged, sides_judged, behind_stores, decl_judged, stated, act_judged}
 use Rattle.ckc_source.specs.declared.stmt.Spot.{Spot}
 use Rattle.ckc_source.specs.Code.{Expr, Code, End, Return}
 use Rattle.ckc_source.specs.Code as code

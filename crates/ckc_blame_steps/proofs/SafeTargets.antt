@@ -20,8 +20,8 @@ use Rattle.ckc_typed.specs.Statements.{is_variable_form, is_function_name, is_ca
 use Rattle.ckc_typed.specs.Trees.{NotedExpr, NotedLayer, NotedStmt}
 use Rattle.ckc_typed.specs.Types.{kind_of}
 use Rattle.ckc_typed_welltyped.specs.Statements.{IsTarget}
-use Rattle.ckc_bounds_points.specs.Flow.{State}
-use Rattle.ckc_bounds_views.specs.Views.{view}
+use Rattle.ckc_blame_sound.specs.ckc_bounds_points.specs.Flow.{State}
+use Rattle.ckc_blame_sound.specs.ckc_bounds_views.specs.Views.{view}
 use Rattle.ckc_source.specs.declared.stmt.Spot.{Spot}
 use Rattle.ckc_source.specs.Code.{Target, Right, End}
 use Rattle.ckc_build_values.specs.Kinds.{through_kind}

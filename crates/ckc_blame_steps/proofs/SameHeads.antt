@@ -14,17 +14,17 @@ use Rattle.ckc_typed.specs.Environment.{kind_of_array}
 use Rattle.ckc_typed.specs.Trees.{Decl, Head, Limits, NotedDecl, NotedHead, NotedLimits}
 use Rattle.ckc_typed.specs.Types.{type_written, kind_of}
 use Rattle.ckc_typed_welltyped.specs.Noteless.{bare_limits, bare_decl, bare_head}
-use Rattle.ckc_bounds_points.specs.Codes.{bad_limits}
-use Rattle.ckc_bounds_points.specs.declared.frame.Bounds.{Bounds}
-use Rattle.ckc_bounds_points.specs.declared.frame.Bounds.TheVariants as bounds
-use Rattle.ckc_bounds_points.specs.declared.frame.Frame.{Frame}
-use Rattle.ckc_bounds_points.specs.declared.frame.HeadBounds.{HeadBounds}
-use Rattle.ckc_bounds_points.specs.declared.frame.Local.{Local}
-use Rattle.ckc_bounds_declared.specs.declared.limits.Holder.{Holder}
-use Rattle.ckc_bounds_declared.specs.declared.limits.Holder.TheVariants as holder
-use Rattle.ckc_bounds_declared.specs.Written.{own, takes_bounds_kind, takes_bounds, bounds_by_type, place_of_limits, bounds_taken, bounds_declared}
-use Rattle.ckc_bounds.specs.Declarations.{result_bounds, known_or_not, bare, few_of, local_made, with_all, with_locals, types_in, declared_in, head_bounds}
-use Rattle.ckc_blame_declared.proofs.More.{KnowsAs, declared_stays}
+use Rattle.ckc_blame_sound.specs.ckc_bounds_points.specs.Codes.{bad_limits}
+use Rattle.ckc_blame_sound.specs.ckc_bounds_points.specs.declared.frame.Bounds.{Bounds}
+use Rattle.ckc_blame_sound.specs.ckc_bounds_points.specs.declared.frame.Bounds.TheVariants as bounds
+use Rattle.ckc_blame_sound.specs.ckc_bounds_points.specs.declared.frame.Frame.{Frame}
+use Rattle.ckc_blame_sound.specs.ckc_bounds_points.specs.declared.frame.HeadBounds.{HeadBounds}
+use Rattle.ckc_blame_sound.specs.ckc_bounds_points.specs.declared.frame.Local.{Local}
+use Rattle.ckc_blame_sound.specs.ckc_bounds_declared.specs.declared.limits.Holder.{Holder}
+use Rattle.ckc_blame_sound.specs.ckc_bounds_declared.specs.declared.limits.Holder.TheVariants as holder
+use Rattle.ckc_blame_sound.specs.ckc_bounds_declared.specs.Written.{own, takes_bounds_kind, takes_bounds, bounds_by_type, place_of_limits, bounds_taken, bounds_declared}
+use Rattle.ckc_blame_sound.specs.ckc_bounds.specs.Declarations.{result_bounds, known_or_not, bare, few_of, local_made, with_all, with_locals, types_in, declared_in, head_bounds}
+use Rattle.ckc_blame_walk.specs.ckc_blame_declared.proofs.More.{KnowsAs, declared_stays}
 use Rattle.ckc_blame_steps.proofs.Plain.{type_plain, plain_limits, plain_written, written_plain}
 
 -- ---- without places and notes

@@ -11,10 +11,10 @@ use Rattle.ckc_typed.specs.declared.typed.Typed.{Typed}
 use Rattle.ckc_typed.specs.Scoped.{Scoped}
 use Rattle.ckc_typed.specs.Trees.{NotedHead, NotedItem, NotedStmt}
 use Rattle.ckc_typed.specs.Walk.{spots_of_stmt, spots_of_head, spots_of_item, spots_of_items, pragma_after}
-use Rattle.ckc_bounds_points.specs.declared.frame.Frame.{Frame}
-use Rattle.ckc_bounds.specs.Declarations.{types_in, head_judged}
-use Rattle.ckc_bounds.specs.Texts.{body_judged, item_judged, items_judged}
-use Rattle.ckc_bounds.specs.Phase.{bounding}
+use Rattle.ckc_blame_sound.specs.ckc_bounds_points.specs.declared.frame.Frame.{Frame}
+use Rattle.ckc_blame_sound.specs.ckc_bounds.specs.Declarations.{types_in, head_judged}
+use Rattle.ckc_blame_sound.specs.ckc_bounds.specs.Texts.{body_judged, item_judged, items_judged}
+use Rattle.ckc_blame_sound.specs.ckc_bounds.specs.Phase.{bounding}
 use Rattle.ckc_blame_sound.specs.Settings.{frame_of_text}
 use Rattle.ckc_blame_sound.specs.Safe.{AreSafe}
 use Rattle.ckc_blame_sound.proofs.Bounded.{is_bounded}

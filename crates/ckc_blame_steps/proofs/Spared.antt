@@ -4,17 +4,17 @@ use Rattle.std.specs.List.{Contains}
 use Rattle.ckc_syntax.specs.declared.tree.Name.TheVariants as name
 use Rattle.ckc_typed.specs.declared.typed.Typed.{Typed}
 use Rattle.ckc_typed.specs.Trees.{NotedDecl}
-use Rattle.ckc_bounds_points.specs.declared.frame.Bounds.{Bounds}
-use Rattle.ckc_bounds_points.specs.declared.frame.Bounds.TheVariants as bounds
-use Rattle.ckc_bounds_points.specs.Flow.{in_bounds}
-use Rattle.ckc_bounds_statements.specs.Paths.{path}
+use Rattle.ckc_blame_sound.specs.ckc_bounds_points.specs.declared.frame.Bounds.{Bounds}
+use Rattle.ckc_blame_sound.specs.ckc_bounds_points.specs.declared.frame.Bounds.TheVariants as bounds
+use Rattle.ckc_blame_sound.specs.ckc_bounds_points.specs.Flow.{in_bounds}
+use Rattle.ckc_blame_sound.specs.ckc_bounds_statements.specs.Paths.{path}
 use Rattle.ckc_source.specs.Code.{Function}
 use Rattle.ckc_blame_sound.specs.Settings.{Setting, IsFunction}
 use Rattle.ckc_blame_sound.specs.JudgedTexts.{IsJudged}
 use Rattle.ckc_blame_sound.proofs.Frames.{function_counts}
 use Rattle.ckc_blame_sound.proofs.Functions.{numbered}
 use Rattle.ckc_blame_sound.proofs.Parameters.{locals_come_after}
-use Rattle.ckc_blame_declared.proofs.Heads.{results_have_ends}
+use Rattle.ckc_blame_walk.specs.ckc_blame_declared.proofs.Heads.{results_have_ends}
 
 pub results_spare : (p : Typed) (s : Setting) (f : Function) (k : ℕ) → IsJudged p → IsFunction p s f → length s.head.params ≤ k → in_bounds k s.head.bounds ≡ false
 results_spare p s f k j is past = by s.head.bounds refl

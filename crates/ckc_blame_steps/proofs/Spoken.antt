@@ -28,18 +28,18 @@ use Rattle.ckc_typed.specs.Trees.{NotedExpr, NotedLayer}
 use Rattle.ckc_typed.specs.Types.{type_written, is_integer, is_integer_form, is_object_type, is_pointer, is_pointer_form, is_scalar, is_void, is_void_form, element_of, kind_in, kind_of}
 use Rattle.ckc_typed_welltyped.specs.Expressions.{AnyLimits, AnyNode, HasType, unary_row}
 use Rattle.ckc_typed_welltyped.specs.Productions.{callless_expr}
-use Rattle.ckc_bounds_points.specs.Flow.{State}
-use Rattle.ckc_bounds_views.specs.Judged.{has_none_of_node}
-use Rattle.ckc_bounds_views.specs.Parts.{View}
-use Rattle.ckc_bounds_views.specs.Views.{view}
+use Rattle.ckc_blame_sound.specs.ckc_bounds_points.specs.Flow.{State}
+use Rattle.ckc_blame_sound.specs.ckc_bounds_views.specs.Judged.{has_none_of_node}
+use Rattle.ckc_blame_sound.specs.ckc_bounds_views.specs.Parts.{View}
+use Rattle.ckc_blame_sound.specs.ckc_bounds_views.specs.Views.{view}
 use Rattle.ckc_source.specs.Code.{Function}
 use Rattle.ckc_blame_sound.specs.Settings.{Setting, IsFunction}
 use Rattle.ckc_blame_sound.specs.Typed.{HasRow, IsTyped}
 use Rattle.ckc_blame_sound.proofs.Judging.{judged_typed}
 use Rattle.ckc_blame_sound.proofs.Types.{none_is_some, number_wide, sign_row, size_wide}
-use Rattle.ckc_blame_pointers.specs.Covered.{DeclareOnes, IsThrough, IsStructureNode, IsScalarMember, IsAddressed, IsRaw, IsAddressedRaw}
-use Rattle.ckc_blame_pointers.proofs.Rows.{int_row}
-use Rattle.ckc_blame_pointers.proofs.Scalars.{integer_scalar, kind_scalar, moved_scalar, no_structure, pointer_scalar, true_if}
+use Rattle.ckc_blame_given.specs.ckc_blame_pointers.specs.Covered.{DeclareOnes, IsThrough, IsStructureNode, IsScalarMember, IsAddressed, IsRaw, IsAddressedRaw}
+use Rattle.ckc_blame_given.specs.ckc_blame_pointers.proofs.Rows.{int_row}
+use Rattle.ckc_blame_given.specs.ckc_blame_pointers.proofs.Scalars.{integer_scalar, kind_scalar, moved_scalar, no_structure, pointer_scalar, true_if}
 use Rattle.ckc_blame_given.proofs.Layers.{view_is, viewed}
 use Rattle.ckc_blame_sound.specs.JudgedTexts.{IsJudged, globals_in}
 use Rattle.ckc_blame_sound.proofs.Every.{ExprLayer, EachExpr, EachLimits, each_follows}

@@ -16,15 +16,15 @@ use Rattle.ckc_typed.specs.Types.{is_pointer}
 use Rattle.ckc_typed.specs.Raw.{raws_of_decl}
 use Rattle.ckc_typed.specs.Trees.{NotedAct, NotedStmt, NotedExpr, NotedDecl, NotedInit, NotedHead}
 use Rattle.ckc_typed.specs.Walk.{Spot, Within, written_at, node_spots, expr_spots, spots_of_expr, spots_of_bounds, spots_of_value, spots_of_init, spots_of_decl, act_spots, stmt_spots, spots_of_act, spots_of_stmt, spots_of_part}
-use Rattle.ckc_bounds_points.specs.declared.frame.HeadBounds.{HeadBounds}
-use Rattle.ckc_bounds_points.specs.declared.frame.Frame.{Frame}
-use Rattle.ckc_bounds_points.specs.Codes.{bad_bundle, not_contained}
-use Rattle.ckc_bounds_views.specs.Judged.{noted_range}
-use Rattle.ckc_bounds_views.specs.Views.{view}
-use Rattle.ckc_bounds_statements.specs.Paths.{Here, is_good, expr_judged, value_judged, bounds_judged, values_judged, maybe_judged, init_judged, starts_within, declared_here, decl_judged, stated, sides_judged, behind_stores, is_returned, gone, Branch, Start, branched, for_started, Path, ActPath, all_judged, parts_judged, bundle_judged, part_judged, act_path, stmt_path, path_of_act, path}
-use Rattle.ckc_bounds.specs.Declarations.{head_bounds}
-use Rattle.ckc_bounds.specs.Frames.{function_frame, begin_of}
-use Rattle.ckc_bounds.specs.Texts.{body_judged}
+use Rattle.ckc_blame_sound.specs.ckc_bounds_points.specs.declared.frame.HeadBounds.{HeadBounds}
+use Rattle.ckc_blame_sound.specs.ckc_bounds_points.specs.declared.frame.Frame.{Frame}
+use Rattle.ckc_blame_sound.specs.ckc_bounds_points.specs.Codes.{bad_bundle, not_contained}
+use Rattle.ckc_blame_sound.specs.ckc_bounds_views.specs.Judged.{noted_range}
+use Rattle.ckc_blame_sound.specs.ckc_bounds_views.specs.Views.{view}
+use Rattle.ckc_blame_sound.specs.ckc_bounds_statements.specs.Paths.{Here, is_good, expr_judged, value_judged, bounds_judged, values_judged, maybe_judged, init_judged, starts_within, declared_here, decl_judged, stated, sides_judged, behind_stores, is_returned, gone, Branch, Start, branched, for_started, Path, ActPath, all_judged, parts_judged, bundle_judged, part_judged, act_path, stmt_path, path_of_act, path}
+use Rattle.ckc_blame_sound.specs.ckc_bounds.specs.Declarations.{head_bounds}
+use Rattle.ckc_blame_sound.specs.ckc_bounds.specs.Frames.{function_frame, begin_of}
+use Rattle.ckc_blame_sound.specs.ckc_bounds.specs.Texts.{body_judged}
 use Rattle.ckc_blame_sound.proofs.KeptTrees.{Keeps, bound, kept, two, ExprKept, expr_kept}
 
 -- ---- expressions

@@ -26,21 +26,21 @@ use Rattle.ckc_typed.specs.declared.typed.Range.TheVariants as range
 use Rattle.ckc_typed.specs.Amounts.{fixed, moved, or_amount, sum_amount, amount_in_form, amount_by, amount, variable_in, number_in, negative, is_multiple, scaled, amount_of_form}
 use Rattle.ckc_typed.specs.Trees.{NotedDecl, NotedExpr, NotedLayer, NotedLimits, NotedNode}
 use Rattle.ckc_typed.specs.Types.{type_written, kind_of}
-use Rattle.ckc_bounds_known.specs.Ranges.{is_small}
-use Rattle.ckc_bounds_known.specs.Shown.{is_within}
-use Rattle.ckc_bounds_points.specs.declared.frame.Bounds.{Bounds}
-use Rattle.ckc_bounds_points.specs.declared.frame.Frame.{Frame}
-use Rattle.ckc_bounds_points.specs.Codes.{bad_limits}
-use Rattle.ckc_bounds_points.specs.Forms.{constant_form, elements_of, elements, base_form}
-use Rattle.ckc_bounds_declared.specs.declared.limits.Holder.TheVariants as holder
-use Rattle.ckc_bounds_declared.specs.Written.{counted, amount_form, amount_with, bounds_written, takes_bounds, bounds_by_type, bounds_of_kind, bounds_taken, bounds_declared, place_of_limits}
-use Rattle.ckc_bounds_ranges.specs.Replaced.{both_ends, replaced_bounds}
-use Rattle.ckc_bounds_ranges.specs.Rows.{range_of_ends}
-use Rattle.ckc_bounds_stores.specs.Targets.{written_there}
-use Rattle.ckc_bounds_views.specs.Arguments.{own_by}
-use Rattle.ckc_bounds_views.specs.Ranges.{range_by_type, range_of_object}
-use Rattle.ckc_bounds_statements.specs.DeclBounds.{decl_bounds}
-use Rattle.ckc_bounds.specs.Declarations.{known_or_not, object_bounds, object_bounds_in}
+use Rattle.ckc_blame_sound.specs.ckc_bounds_known.specs.Ranges.{is_small}
+use Rattle.ckc_blame_sound.specs.ckc_bounds_known.specs.Shown.{is_within}
+use Rattle.ckc_blame_sound.specs.ckc_bounds_points.specs.declared.frame.Bounds.{Bounds}
+use Rattle.ckc_blame_sound.specs.ckc_bounds_points.specs.declared.frame.Frame.{Frame}
+use Rattle.ckc_blame_sound.specs.ckc_bounds_points.specs.Codes.{bad_limits}
+use Rattle.ckc_blame_sound.specs.ckc_bounds_points.specs.Forms.{constant_form, elements_of, elements, base_form}
+use Rattle.ckc_blame_sound.specs.ckc_bounds_declared.specs.declared.limits.Holder.TheVariants as holder
+use Rattle.ckc_blame_sound.specs.ckc_bounds_declared.specs.Written.{counted, amount_form, amount_with, bounds_written, takes_bounds, bounds_by_type, bounds_of_kind, bounds_taken, bounds_declared, place_of_limits}
+use Rattle.ckc_blame_sound.specs.ckc_bounds_ranges.specs.Replaced.{both_ends, replaced_bounds}
+use Rattle.ckc_blame_sound.specs.ckc_bounds_ranges.specs.Rows.{range_of_ends}
+use Rattle.ckc_blame_sound.specs.ckc_bounds_stores.specs.Targets.{written_there}
+use Rattle.ckc_blame_sound.specs.ckc_bounds_views.specs.Arguments.{own_by}
+use Rattle.ckc_blame_sound.specs.ckc_bounds_views.specs.Ranges.{range_by_type, range_of_object}
+use Rattle.ckc_blame_sound.specs.ckc_bounds_statements.specs.DeclBounds.{decl_bounds}
+use Rattle.ckc_blame_sound.specs.ckc_bounds.specs.Declarations.{known_or_not, object_bounds, object_bounds_in}
 use Rattle.ckc_source.specs.declared.expr.Count.{Count}
 use Rattle.ckc_source.specs.declared.expr.Count.TheVariants as count
 use Rattle.ckc_build_values.specs.Kinds.{count_of_kind, size_behind}

@@ -13,14 +13,14 @@ use Rattle.ckc_typed.specs.Environment.{kind_of_array, used}
 use Rattle.ckc_typed.specs.Statics.{is_terminated}
 use Rattle.ckc_typed.specs.Trees.{NotedLimits}
 use Rattle.ckc_typed.specs.Types.{is_integer, is_pointer, is_integer_form, is_pointer_form, kind_in, kind_of, element_in, element_of}
-use Rattle.ckc_bounds_declared.specs.Written.{takes_bounds_kind, takes_bounds}
+use Rattle.ckc_blame_sound.specs.ckc_bounds_declared.specs.Written.{takes_bounds_kind, takes_bounds}
 use Rattle.ckc_build_values.specs.Kinds.{count_of_kind}
 use Rattle.ckc_build_values.specs.Names.{count_declared, count_of_static}
 use Rattle.ckc_build_elaborate.specs.Objects.{object_elaborated}
 use Rattle.ckc_source.specs.Eval.{Store}
 use Rattle.ckc_blame_sound.specs.Settings.{Setting}
 use Rattle.ckc_blame_sound.specs.Slots.{AreFilled}
-use Rattle.ckc_blame_pointers.specs.Covered.{IsStaticInteger, IsStaticArray, IsStaticPointer}
+use Rattle.ckc_blame_given.specs.ckc_blame_pointers.specs.Covered.{IsStaticInteger, IsStaticArray, IsStaticPointer}
 use Rattle.ckc_blame_steps.specs.Statics.{IsStatic}
 
 both : (a b : Bool) → (a && b) ≡ true → (a ≡ true) × (b ≡ true)

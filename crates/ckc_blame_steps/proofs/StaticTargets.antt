@@ -16,15 +16,15 @@ use Rattle.ckc_typed.specs.Amounts.{amount_of_limits}
 use Rattle.ckc_typed.specs.Environment.{used}
 use Rattle.ckc_typed.specs.Trees.{NotedLimits, NotedNode, NotedExpr, NotedLayer}
 use Rattle.ckc_typed.specs.Types.{kind_of}
-use Rattle.ckc_bounds_points.specs.declared.frame.Bounds.{Bounds}
-use Rattle.ckc_bounds_points.specs.declared.frame.Frame.{Frame}
-use Rattle.ckc_bounds_declared.specs.Written.{bounds_by_type}
-use Rattle.ckc_bounds_stores.specs.Targets.{written_in, bounds_by, memory_bounds}
-use Rattle.ckc_bounds_views.specs.Parts.{LimitsView, NodeView, View}
+use Rattle.ckc_blame_sound.specs.ckc_bounds_points.specs.declared.frame.Bounds.{Bounds}
+use Rattle.ckc_blame_sound.specs.ckc_bounds_points.specs.declared.frame.Frame.{Frame}
+use Rattle.ckc_blame_sound.specs.ckc_bounds_declared.specs.Written.{bounds_by_type}
+use Rattle.ckc_blame_sound.specs.ckc_bounds_stores.specs.Targets.{written_in, bounds_by, memory_bounds}
+use Rattle.ckc_blame_sound.specs.ckc_bounds_views.specs.Parts.{LimitsView, NodeView, View}
 use Rattle.ckc_typed.specs.declared.typed.Range.{Range}
-use Rattle.ckc_bounds_ranges.specs.Rows.{range_of_array}
-use Rattle.ckc_bounds_views.specs.Ranges.{range_of_object, range_of_static}
-use Rattle.ckc_bounds_views.specs.Views.{limits_view, node_view, expr_view, view_of_node, view}
+use Rattle.ckc_blame_sound.specs.ckc_bounds_ranges.specs.Rows.{range_of_array}
+use Rattle.ckc_blame_sound.specs.ckc_bounds_views.specs.Ranges.{range_of_object, range_of_static}
+use Rattle.ckc_blame_sound.specs.ckc_bounds_views.specs.Views.{limits_view, node_view, expr_view, view_of_node, view}
 use Rattle.ckc_source.specs.declared.expr.Count.{Count}
 use Rattle.ckc_source.specs.declared.expr.Count.TheVariants as count
 use Rattle.ckc_build_values.specs.Kinds.{count_of_kind, size_behind}

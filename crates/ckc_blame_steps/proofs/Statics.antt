@@ -21,12 +21,12 @@ use Rattle.ckc_typed.specs.Walk.{pragma_after}
 use Rattle.ckc_typed_fit.specs.Numbers.{static_in, static_numbers, CountsFrom}
 use Rattle.ckc_typed_welltyped.specs.Noteless.{bare_item}
 use Rattle.ckc_typed_welltyped.specs.Texts.{WellTypedItems}
-use Rattle.ckc_bounds_points.specs.declared.frame.Bounds.{Bounds}
-use Rattle.ckc_bounds_points.specs.declared.frame.Frame.{Frame}
-use Rattle.ckc_bounds_statements.specs.DeclBounds.{bounds_there}
-use Rattle.ckc_bounds_statements.specs.Paths.{init_judged}
-use Rattle.ckc_bounds.specs.Declarations.{head_judged, member_holder, types_in, object_bounds, objects_of}
-use Rattle.ckc_bounds.specs.Texts.{outside, members_judged, body_judged, item_judged, items_judged}
+use Rattle.ckc_blame_sound.specs.ckc_bounds_points.specs.declared.frame.Bounds.{Bounds}
+use Rattle.ckc_blame_sound.specs.ckc_bounds_points.specs.declared.frame.Frame.{Frame}
+use Rattle.ckc_blame_sound.specs.ckc_bounds_statements.specs.DeclBounds.{bounds_there}
+use Rattle.ckc_blame_sound.specs.ckc_bounds_statements.specs.Paths.{init_judged}
+use Rattle.ckc_blame_sound.specs.ckc_bounds.specs.Declarations.{head_judged, member_holder, types_in, object_bounds, objects_of}
+use Rattle.ckc_blame_sound.specs.ckc_bounds.specs.Texts.{outside, members_judged, body_judged, item_judged, items_judged}
 use Rattle.ckc_build_values.specs.Names.{declares, limits_in}
 use Rattle.ckc_build_elaborate.specs.Lists.{beside}
 use Rattle.ckc_build_elaborate.specs.Objects.{run_in}

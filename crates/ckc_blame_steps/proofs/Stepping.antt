@@ -23,12 +23,12 @@ use Rattle.ckc_typed_welltyped.specs.Declarations.{StartsLocal, WellTypedInit}
 use Rattle.ckc_typed_welltyped.specs.Expressions.{WellTypedExpr}
 use Rattle.ckc_typed_welltyped.specs.Statements as rows
 use Rattle.ckc_typed_welltyped.specs.Statements.{act_rows, mode_in_form, WellTypedStmt}
-use Rattle.ckc_bounds_points.specs.Codes.{not_contained, bad_bundle}
-use Rattle.ckc_bounds_points.specs.declared.frame.Frame.{Frame}
-use Rattle.ckc_bounds_points.specs.Flow.{State}
-use Rattle.ckc_bounds_views.specs.Parts.{View, fresh_behind}
-use Rattle.ckc_bounds_views.specs.Views.{node_view, expr_view, view}
-use Rattle.ckc_bounds_statements.specs.Paths.{Here, path, value_judged, values_judged, maybe_judged, init_judged, side_of, is_returned, gone, parts_judged, is_good, bundle_judged, bounds_judged, starts_within, declared_here, sides_judged, behind_stores, decl_judged, stated, act_judged}
+use Rattle.ckc_blame_sound.specs.ckc_bounds_points.specs.Codes.{not_contained, bad_bundle}
+use Rattle.ckc_blame_sound.specs.ckc_bounds_points.specs.declared.frame.Frame.{Frame}
+use Rattle.ckc_blame_sound.specs.ckc_bounds_points.specs.Flow.{State}
+use Rattle.ckc_blame_sound.specs.ckc_bounds_views.specs.Parts.{View, fresh_behind}
+use Rattle.ckc_blame_sound.specs.ckc_bounds_views.specs.Views.{node_view, expr_view, view}
+use Rattle.ckc_blame_sound.specs.ckc_bounds_statements.specs.Paths.{Here, path, value_judged, values_judged, maybe_judged, init_judged, side_of, is_returned, gone, parts_judged, is_good, bundle_judged, bounds_judged, starts_within, declared_here, sides_judged, behind_stores, decl_judged, stated, act_judged}
 use Rattle.ckc_source.specs.declared.stmt.Spot.{Spot}
 use Rattle.ckc_source.specs.declared.stmt.Kept.{Kept}
 use Rattle.ckc_source.specs.Code.{Expr, Code, End, Call}

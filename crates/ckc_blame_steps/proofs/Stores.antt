@@ -7,8 +7,8 @@ use Rattle.ckc_base.specs.Lists.{AreBytes}
 use Rattle.ckc_base.specs.declared.arithmetic.Mode.{Mode}
 use Rattle.ckc_typed.specs.declared.typed.Typed.{Typed}
 use Rattle.ckc_typed.specs.Trees.{NotedStmt}
-use Rattle.ckc_bounds_points.specs.Flow as flow
-use Rattle.ckc_bounds_stores.specs.Stores.{Placed, stores_of, numbered}
+use Rattle.ckc_blame_sound.specs.ckc_bounds_points.specs.Flow as flow
+use Rattle.ckc_blame_sound.specs.ckc_bounds_stores.specs.Stores.{Placed, stores_of, numbered}
 use Rattle.ckc_source.specs.declared.outcome.Halt.{Halt}
 use Rattle.ckc_source.specs.declared.outcome.Halt.TheVariants as halt
 use Rattle.ckc_source.specs.declared.program.Shape.{Shape}
@@ -32,11 +32,11 @@ use Rattle.ckc_blame_sound.proofs.Frames.{frames_agree}
 use Rattle.ckc_blame_sound.proofs.Members.{have_own_names}
 use Rattle.ckc_blame_sound.specs.Elements.{NameIntegerMembers}
 use Rattle.ckc_blame_sound.proofs.Agree.{facts_agree}
-use Rattle.ckc_blame_declared.proofs.HaveEnds.{locals_have_ends}
+use Rattle.ckc_blame_walk.specs.ckc_blame_declared.proofs.HaveEnds.{locals_have_ends}
 use Rattle.ckc_blame_control.specs.Kept.{KeepRanges, IsSameCall}
 use Rattle.ckc_blame_control.specs.Ready.{Faces}
 use Rattle.ckc_blame_control.proofs.Kept.{faced_sound, writes_keep_ranges, blocks_keep_ranges}
-use Rattle.ckc_blame_pointers.specs.Owed.{Comes}
+use Rattle.ckc_blame_given.specs.ckc_blame_pointers.specs.Owed.{Comes}
 use Rattle.ckc_blame_given.specs.Planned.{ArePlanned}
 use Rattle.ckc_blame_given.specs.Written.{IsFitting}
 use Rattle.ckc_blame_given.specs.Stored.{AreStored}

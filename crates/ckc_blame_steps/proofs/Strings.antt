@@ -18,7 +18,7 @@ use Rattle.ckc_build_elaborate.proofs.Counted.{bounds}
 use Rattle.ckc_blame_sound.specs.Settings.{Setting, AreStrings}
 use Rattle.ckc_blame_sound.proofs.Strings.{strings_in_front, strings_after, strings_inside, strings_are}
 use Rattle.ckc_blame_sound.proofs.Stepping.{ActLayer}
-use Rattle.ckc_blame_pointers.proofs.Strings.{strings_in_node}
+use Rattle.ckc_blame_given.specs.ckc_blame_pointers.proofs.Strings.{strings_in_node}
 use Rattle.ckc_blame_given.proofs.Layers as layers
 use Rattle.ckc_blame_steps.specs.Results.{returned_by, returned_by_act}
 

@@ -8,13 +8,13 @@ use Rattle.ckc_typed.specs.declared.typed.Range.TheVariants as range
 use Rattle.ckc_typed.specs.Conversions.{is_null}
 use Rattle.ckc_typed.specs.Trees.{NotedExpr}
 use Rattle.ckc_typed.specs.Types.{is_integer, is_pointer, is_char, is_pointer_form}
-use Rattle.ckc_bounds_known.specs.Ranges.{range_in}
-use Rattle.ckc_bounds_points.specs.Flow.{State}
-use Rattle.ckc_bounds_points.specs.Forms.{in_type, within_interval}
-use Rattle.ckc_bounds_points.specs.Shown.{Known}
-use Rattle.ckc_bounds_views.specs.Views.{view}
-use Rattle.ckc_bounds_stores.specs.declared.values.Numbered.{Numbered}
-use Rattle.ckc_bounds_stores.specs.Values.{narrow}
+use Rattle.ckc_blame_sound.specs.ckc_bounds_known.specs.Ranges.{range_in}
+use Rattle.ckc_blame_sound.specs.ckc_bounds_points.specs.Flow.{State}
+use Rattle.ckc_blame_sound.specs.ckc_bounds_points.specs.Forms.{in_type, within_interval}
+use Rattle.ckc_blame_sound.specs.ckc_bounds_points.specs.Shown.{Known}
+use Rattle.ckc_blame_sound.specs.ckc_bounds_views.specs.Views.{view}
+use Rattle.ckc_blame_sound.specs.ckc_bounds_stores.specs.declared.values.Numbered.{Numbered}
+use Rattle.ckc_blame_sound.specs.ckc_bounds_stores.specs.Values.{narrow}
 use Rattle.ckc_source.specs.Eval.{Store}
 use Rattle.ckc_source.specs.Words.{exact}
 use Rattle.ckc_build_values.specs.Kinds.{integer_of, size_behind}

@@ -7,7 +7,7 @@ use Rattle.ckc_source.specs.Eval.{Store}
 use Rattle.ckc_blame_sound.specs.Settings.{Setting, IsFunction, setting_of}
 use Rattle.ckc_blame_sound.specs.Slots.{AreFilled}
 use Rattle.ckc_blame_sound.specs.Elements.{NameIntegerMembers}
-use Rattle.ckc_blame_pointers.specs.Covered.{DeclareOnes, KeepRunsFree, IsInScope}
+use Rattle.ckc_blame_given.specs.ckc_blame_pointers.specs.Covered.{DeclareOnes, KeepRunsFree, IsInScope}
 use Rattle.ckc_blame_sound.specs.JudgedTexts.{IsJudged, globals_in}
 use Rattle.ckc_blame_steps.specs.Told.{IsTold}
 use Rattle.ckc_blame_steps.proofs.Layouts.{structs_told}

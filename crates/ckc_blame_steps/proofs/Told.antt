@@ -26,17 +26,17 @@ use Rattle.ckc_typed_fit.specs.Numbers.{static_numbers, CountsFrom}
 use Rattle.ckc_typed_fit.proofs.NamedItems.{text_is}
 use Rattle.ckc_typed_fit.proofs.Numbered.{statics_count}
 use Rattle.ckc_typed_welltyped.specs.Noteless.{bare_item, without_notes}
-use Rattle.ckc_bounds_points.specs.declared.frame.Frame.{Frame}
-use Rattle.ckc_bounds_declared.specs.declared.limits.Holder.TheVariants as holder
-use Rattle.ckc_bounds_declared.specs.Written.{bounds_by_type, takes_bounds, bounds_declared}
-use Rattle.ckc_bounds_statements.specs.DeclBounds.{holder_of}
-use Rattle.ckc_bounds.specs.Declarations.{object_bounds, object_bounds_in, objects_of}
-use Rattle.ckc_bounds.specs.Frames.{structs_frame, all_of}
+use Rattle.ckc_blame_sound.specs.ckc_bounds_points.specs.declared.frame.Frame.{Frame}
+use Rattle.ckc_blame_sound.specs.ckc_bounds_declared.specs.declared.limits.Holder.TheVariants as holder
+use Rattle.ckc_blame_sound.specs.ckc_bounds_declared.specs.Written.{bounds_by_type, takes_bounds, bounds_declared}
+use Rattle.ckc_blame_sound.specs.ckc_bounds_statements.specs.DeclBounds.{holder_of}
+use Rattle.ckc_blame_sound.specs.ckc_bounds.specs.Declarations.{object_bounds, object_bounds_in, objects_of}
+use Rattle.ckc_blame_sound.specs.ckc_bounds.specs.Frames.{structs_frame, all_of}
 use Rattle.ckc_source.specs.Code.{Function}
 use Rattle.ckc_linear.specs.declared.forms.Base.TheVariants as base
-use Rattle.ckc_bounds_stores.specs.Targets.{written_there}
-use Rattle.ckc_bounds_views.specs.Judged.{is_declared_object}
-use Rattle.ckc_bounds_views.specs.Ranges.{range_of_object}
+use Rattle.ckc_blame_sound.specs.ckc_bounds_stores.specs.Targets.{written_there}
+use Rattle.ckc_blame_sound.specs.ckc_bounds_views.specs.Judged.{is_declared_object}
+use Rattle.ckc_blame_sound.specs.ckc_bounds_views.specs.Ranges.{range_of_object}
 use Rattle.ckc_build_values.specs.Names.{count_declared, count_of_static, limits_declared}
 use Rattle.ckc_build_elaborate.specs.Objects.{run_in, object_elaborated, objects_elaborated}
 use Rattle.ckc_blame_sound.specs.Settings.{Setting, IsFunction, frame_of_text, setting_of}
@@ -47,7 +47,7 @@ use Rattle.ckc_blame_sound.proofs.Frames.{variables_moved}
 use Rattle.ckc_blame_sound.proofs.Functions.{tree_named, numbered}
 use Rattle.ckc_blame_sound.proofs.Lists.{more_at, found}
 use Rattle.ckc_blame_sound.proofs.Locals.{names_declared, variables_declared}
-use Rattle.ckc_blame_declared.proofs.More.{declared_stays}
+use Rattle.ckc_blame_walk.specs.ckc_blame_declared.proofs.More.{declared_stays}
 use Rattle.ckc_blame_walk.proofs.NamedStatics.{HasStatic, items_static}
 use Rattle.ckc_blame_walk.proofs.Texts.{text_same}
 use Rattle.ckc_blame_steps.specs.Statics.{IsStatic, bounds_counted, range_counted}

@@ -24,8 +24,8 @@ use Rattle.ckc_typed_welltyped.proofs.Nodes.{node_out}
 use Rattle.ckc_blame_sound.specs.Settings.{Setting}
 use Rattle.ckc_blame_sound.specs.Typed.{HasRow}
 use Rattle.ckc_blame_sound.proofs.Types.{arithmetic_row, none_is_some, number_wide, sign_row, size_wide, some_is}
-use Rattle.ckc_blame_pointers.proofs.Rows.{int_row, other_row}
-use Rattle.ckc_blame_pointers.proofs.Scalars.{moved_pointer, true_if}
+use Rattle.ckc_blame_given.specs.ckc_blame_pointers.proofs.Rows.{int_row, other_row}
+use Rattle.ckc_blame_given.specs.ckc_blame_pointers.proofs.Scalars.{moved_pointer, true_if}
 use Rattle.ckc_blame_sound.proofs.Every.{ExprLayer, EachNode, EachExpr, NodeParts, node_hold, inside}
 use Rattle.ckc_blame_steps.proofs.Callless.{IsCallless, HasNoCall}
 use Rattle.ckc_blame_steps.proofs.DeclaredTypes.{AreObjects, scalar_parts}

@@ -9,19 +9,19 @@ use Rattle.ckc_linear.specs.declared.forms.Base.{Base}
 use Rattle.ckc_linear.specs.declared.forms.Base.TheVariants as base
 use Rattle.ckc_linear.specs.declared.forms.Form.{Form}
 use Rattle.ckc_typed.specs.Types.{is_integer}
-use Rattle.ckc_bounds_points.specs.declared.frame.Local.{Local}
-use Rattle.ckc_bounds_points.specs.Frames.{local_at}
-use Rattle.ckc_bounds_points.specs.Flow.{State}
-use Rattle.ckc_bounds_points.specs.Forms.{in_type}
-use Rattle.ckc_bounds_views.specs.Parts.{View, capped, next_behind, fresh_behind, with_last}
-use Rattle.ckc_bounds_views.specs.Ranges.{form_or_fresh}
-use Rattle.ckc_bounds_stores.specs.declared.values.Numbered.{Numbered}
+use Rattle.ckc_blame_sound.specs.ckc_bounds_points.specs.declared.frame.Local.{Local}
+use Rattle.ckc_blame_sound.specs.ckc_bounds_points.specs.Frames.{local_at}
+use Rattle.ckc_blame_sound.specs.ckc_bounds_points.specs.Flow.{State}
+use Rattle.ckc_blame_sound.specs.ckc_bounds_points.specs.Forms.{in_type}
+use Rattle.ckc_blame_sound.specs.ckc_bounds_views.specs.Parts.{View, capped, next_behind, fresh_behind, with_last}
+use Rattle.ckc_blame_sound.specs.ckc_bounds_views.specs.Ranges.{form_or_fresh}
+use Rattle.ckc_blame_sound.specs.ckc_bounds_stores.specs.declared.values.Numbered.{Numbered}
 use Rattle.ckc_blame_sound.specs.Bodies.{AreFresh}
 use Rattle.ckc_blame_sound.specs.Settings.{Setting}
 use Rattle.ckc_blame_sound.specs.Values.{number_of, IsNumberOf}
 use Rattle.ckc_blame_sound.specs.Valuations.{Valuation, IsValuationOf, AreNumbersOf}
 use Rattle.ckc_blame_sound.proofs.Apart.{three}
-use Rattle.ckc_blame_pointers.proofs.Later.{parts_room, next_more}
+use Rattle.ckc_blame_given.specs.ckc_blame_pointers.proofs.Later.{parts_room, next_more}
 use Rattle.ckc_blame_given.specs.Gives.{Continues}
 use Rattle.ckc_blame_steps.proofs.Callocs.{IsCalloc, count_type}
 

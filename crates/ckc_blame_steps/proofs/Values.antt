@@ -11,10 +11,10 @@ use Rattle.ckc_syntax_limits.specs.Small.{how_many}
 use Rattle.ckc_typed.specs.declared.typed.Note.{Note}
 use Rattle.ckc_typed.specs.Trees.{NotedLimits, NotedNode, NotedExpr, NotedLayer}
 use Rattle.ckc_typed.specs.Types.{is_pointer}
-use Rattle.ckc_bounds_points.specs.declared.frame.Frame.{Frame}
-use Rattle.ckc_bounds_views.specs.Parts.{LimitsView, NodeView, View, NodeOfViews, LimitsOfViews, capped}
-use Rattle.ckc_bounds_views.specs.Places.{values_after, values_of_node, with_own}
-use Rattle.ckc_bounds_views.specs.Views.{limits_values, limits_view, node_view, expr_view, view_of_limits, view_of_node, view}
+use Rattle.ckc_blame_sound.specs.ckc_bounds_points.specs.declared.frame.Frame.{Frame}
+use Rattle.ckc_blame_sound.specs.ckc_bounds_views.specs.Parts.{LimitsView, NodeView, View, NodeOfViews, LimitsOfViews, capped}
+use Rattle.ckc_blame_sound.specs.ckc_bounds_views.specs.Places.{values_after, values_of_node, with_own}
+use Rattle.ckc_blame_sound.specs.ckc_bounds_views.specs.Views.{limits_values, limits_view, node_view, expr_view, view_of_limits, view_of_node, view}
 use Rattle.ckc_blame_sound.proofs.Tallies.{tally, is_tally, tally-append}
 
 -- a capped sum is at most the sum

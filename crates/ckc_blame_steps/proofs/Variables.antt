@@ -13,22 +13,22 @@ use Rattle.ckc_typed.specs.declared.typed.Typed.{Typed}
 use Rattle.ckc_typed.specs.Environment.{variable_named, variables_of}
 use Rattle.ckc_typed.specs.Trees.{NotedHead, NotedStmt}
 use Rattle.ckc_typed.specs.Types.{is_scalar}
-use Rattle.ckc_bounds.specs.Declarations.{few_of, declared_in}
-use Rattle.ckc_bounds.specs.Frames.{all_of, function_frame}
-use Rattle.ckc_bounds_points.specs.declared.frame.Bounds.{Bounds}
-use Rattle.ckc_bounds_points.specs.declared.frame.Bounds.TheVariants as bounds
-use Rattle.ckc_bounds_points.specs.declared.frame.Local.{Local}
-use Rattle.ckc_bounds_points.specs.Frames.{local_at}
-use Rattle.ckc_bounds_statements.specs.Paths.{Here}
+use Rattle.ckc_blame_sound.specs.ckc_bounds.specs.Declarations.{few_of, declared_in}
+use Rattle.ckc_blame_sound.specs.ckc_bounds.specs.Frames.{all_of, function_frame}
+use Rattle.ckc_blame_sound.specs.ckc_bounds_points.specs.declared.frame.Bounds.{Bounds}
+use Rattle.ckc_blame_sound.specs.ckc_bounds_points.specs.declared.frame.Bounds.TheVariants as bounds
+use Rattle.ckc_blame_sound.specs.ckc_bounds_points.specs.declared.frame.Local.{Local}
+use Rattle.ckc_blame_sound.specs.ckc_bounds_points.specs.Frames.{local_at}
+use Rattle.ckc_blame_sound.specs.ckc_bounds_statements.specs.Paths.{Here}
 use Rattle.ckc_source.specs.Code.{Code, Expr, Function}
 use Rattle.ckc_blame_sound.specs.Settings.{Setting, IsFunction, frame_of_text, setting_of}
 use Rattle.ckc_blame_sound.specs.Steps.{IsStep, IsCondition}
 use Rattle.ckc_blame_sound.specs.JudgedTexts.{IsJudged}
 use Rattle.ckc_blame_sound.proofs.Frames.{first_at, locals_counted}
 use Rattle.ckc_blame_sound.specs.Ends.{IsBase, IsCounter, IsCounted, IsEnd, AreEnds}
-use Rattle.ckc_blame_pointers.specs.Covered.{IsInScope, IsIntegerLocal, IsLocalVariable, IsLocalBase, IsLocalForm, AreLocalBounds, DeclareLocals}
-use Rattle.ckc_blame_declared.proofs.HaveEnds.{locals_have_ends}
-use Rattle.ckc_blame_declared.proofs.Locals.{IsVariable, local_there, some_at, variable_there}
+use Rattle.ckc_blame_given.specs.ckc_blame_pointers.specs.Covered.{IsInScope, IsIntegerLocal, IsLocalVariable, IsLocalBase, IsLocalForm, AreLocalBounds, DeclareLocals}
+use Rattle.ckc_blame_walk.specs.ckc_blame_declared.proofs.HaveEnds.{locals_have_ends}
+use Rattle.ckc_blame_walk.specs.ckc_blame_declared.proofs.Locals.{IsVariable, local_there, some_at, variable_there}
 use Rattle.ckc_blame_control.proofs.Typed.{next_fresh}
 use Rattle.ckc_blame_walk.proofs.Entered.{below_or_not}
 use Rattle.ckc_blame_walk.proofs.Seen.{local_there as variable_is_local}

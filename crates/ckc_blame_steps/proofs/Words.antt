@@ -5,8 +5,8 @@ use Rattle.ckc_base.specs.declared.arithmetic.Mode.{Mode}
 use Rattle.ckc_typed.specs.declared.environment.Globals.{Globals}
 use Rattle.ckc_typed.specs.Statics.{strings_of_expr}
 use Rattle.ckc_typed.specs.Trees.{NotedExpr}
-use Rattle.ckc_bounds_stores.specs.declared.values.Numbered.{Numbered}
-use Rattle.ckc_bounds_statements.specs.Paths.{Here}
+use Rattle.ckc_blame_sound.specs.ckc_bounds_stores.specs.declared.values.Numbered.{Numbered}
+use Rattle.ckc_blame_sound.specs.ckc_bounds_statements.specs.Paths.{Here}
 use Rattle.ckc_source.specs.Eval.{Store, evaluated}
 use Rattle.ckc_build_values.specs.Expressions.{expr_elaborated, literals_of}
 use Rattle.ckc_build_values.proofs.Counted.{expr_counted}
@@ -14,7 +14,7 @@ use Rattle.ckc_blame_sound.specs.Points.{HoldsAt}
 use Rattle.ckc_blame_sound.specs.Settings.{Setting, AreStrings}
 use Rattle.ckc_blame_sound.proofs.Strings.{strings_in_front, strings_after}
 use Rattle.ckc_blame_sound.specs.Typed.{Agrees}
-use Rattle.ckc_blame_pointers.specs.Covered.{DeclareLocals, IsSoundStore}
+use Rattle.ckc_blame_given.specs.ckc_blame_pointers.specs.Covered.{DeclareLocals, IsSoundStore}
 use Rattle.ckc_blame_given.specs.At.{GivesAt}
 use Rattle.ckc_blame_given.specs.Gives.{GivesOn}
 use Rattle.ckc_blame_given.proofs.Bridge.{judged_gives}

@@ -8,7 +8,7 @@ use Rattle.ckc_lexer.specs.Phase.{lexing}
 use Rattle.ckc_parser.specs.Phase.{SpelledTree, parsing}
 use Rattle.ckc_resolve.specs.Phase.{naming}
 use Rattle.ckc_scopes.specs.Phase.{scoping}
-use Rattle.ckc_bounds.specs.Phase.{bounding}
+use Rattle.ckc_blame_sound.specs.ckc_bounds.specs.Phase.{bounding}
 use Rattle.ckc_typed.specs.declared.typed.Typed.{Typed}
 use Rattle.ckc_typed_welltyped.specs.Texts.{TypedAs}
 

@@ -6,11 +6,11 @@ use Rattle.ckc_syntax.specs.declared.tree.Act.{Act-F, out-Act}
 use Rattle.ckc_typed.specs.declared.typed.Note.{Note}
 use Rattle.ckc_typed.specs.Conversions.{is_allocation}
 use Rattle.ckc_typed.specs.Trees.{NotedAct, NotedExpr, NotedStmt}
-use Rattle.ckc_bounds_points.specs.Flow.{State}
-use Rattle.ckc_bounds_views.specs.Parts.{capped, fresh_behind}
-use Rattle.ckc_bounds_views.specs.Views.{view}
-use Rattle.ckc_bounds_stores.specs.declared.values.Numbered.{Numbered}
-use Rattle.ckc_bounds_stores.specs.Values.{narrow}
+use Rattle.ckc_blame_sound.specs.ckc_bounds_points.specs.Flow.{State}
+use Rattle.ckc_blame_sound.specs.ckc_bounds_views.specs.Parts.{capped, fresh_behind}
+use Rattle.ckc_blame_sound.specs.ckc_bounds_views.specs.Views.{view}
+use Rattle.ckc_blame_sound.specs.ckc_bounds_stores.specs.declared.values.Numbered.{Numbered}
+use Rattle.ckc_blame_sound.specs.ckc_bounds_stores.specs.Values.{narrow}
 use Rattle.ckc_source.specs.Code.{Expr}
 use Rattle.ckc_source.specs.Eval.{Store, evaluated}
 use Rattle.ckc_build_values.specs.Expressions.{expr_elaborated, literals_of}
@@ -18,7 +18,7 @@ use Rattle.ckc_build_elaborate.specs.Literals.{literals_of_bounds}
 use Rattle.ckc_blame_sound.specs.Settings.{Setting}
 use Rattle.ckc_blame_sound.specs.Valuations.{Valuation, IsValuationOf}
 use Rattle.ckc_blame_sound.specs.Containment.{IsNarrowed}
-use Rattle.ckc_blame_pointers.specs.Owed.{Comes}
+use Rattle.ckc_blame_given.specs.ckc_blame_pointers.specs.Owed.{Comes}
 use Rattle.ckc_blame_given.specs.Gives.{GivesOn}
 
 -- An expression that becomes `value` is no allocation, and its range without widenings begins as it does and ends at

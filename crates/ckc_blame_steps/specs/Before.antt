@@ -6,14 +6,14 @@ use Rattle.ckc_typed.specs.declared.typed.Typed.{Typed}
 use Rattle.ckc_typed.specs.Conversions.{is_allocation}
 use Rattle.ckc_typed.specs.Trees.{NotedExpr, NotedStmt}
 use Rattle.ckc_typed_welltyped.specs.Productions.{callless_expr, given_stmt}
-use Rattle.ckc_bounds_views.specs.Parts.{fresh_behind}
-use Rattle.ckc_bounds_views.specs.Views.{view}
-use Rattle.ckc_bounds_statements.specs.Paths.{Here}
+use Rattle.ckc_blame_sound.specs.ckc_bounds_views.specs.Parts.{fresh_behind}
+use Rattle.ckc_blame_sound.specs.ckc_bounds_views.specs.Views.{view}
+use Rattle.ckc_blame_sound.specs.ckc_bounds_statements.specs.Paths.{Here}
 use Rattle.ckc_source.specs.Eval.{Store}
 use Rattle.ckc_blame_sound.specs.Settings.{Setting}
 use Rattle.ckc_blame_sound.specs.Sized.{HasOnlySized}
 use Rattle.ckc_blame_sound.specs.Typed.{IsTyped}
-use Rattle.ckc_blame_pointers.specs.Covered.{IsCovered}
+use Rattle.ckc_blame_given.specs.ckc_blame_pointers.specs.Covered.{IsCovered}
 use Rattle.ckc_blame_sound.specs.JudgedTexts.{globals_in}
 use Rattle.ckc_blame_steps.specs.Checked.{IsOfMode}
 use Rattle.ckc_blame_steps.specs.Told.{IsTold, IsSpoken}

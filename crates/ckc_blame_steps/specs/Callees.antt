@@ -6,7 +6,7 @@ use Rattle.ckc_typed.specs.declared.typed.Typed.{Typed}
 use Rattle.ckc_typed.specs.Environment.{signature_named}
 use Rattle.ckc_typed.specs.Trees.{NotedDecl}
 use Rattle.ckc_typed.specs.Types.{type_written}
-use Rattle.ckc_bounds_points.specs.declared.frame.Frame.{Frame}
+use Rattle.ckc_blame_sound.specs.ckc_bounds_points.specs.declared.frame.Frame.{Frame}
 use Rattle.ckc_source.specs.Code.{Function}
 use Rattle.ckc_build_elaborate.specs.Functions.{functions_elaborated}
 use Rattle.ckc_build_elaborate.specs.Names.{number_of, params_of}

@@ -15,7 +15,7 @@ use Rattle.ckc_typed.specs.Trees.{NotedLimits, NotedNode, NotedExpr, NotedInit, 
 use Rattle.ckc_typed_welltyped.specs.Expressions.{AnyLimits, AnyNode}
 use Rattle.ckc_source.specs.Code.{Code, Assign, Bundle, Get, Put, Call, If, Loop, Return, Check}
 use Rattle.ckc_blame_sound.specs.Safe.{is_assumed}
-use Rattle.ckc_blame_pointers.specs.Covered.{IsRawAddress}
+use Rattle.ckc_blame_given.specs.ckc_blame_pointers.specs.Covered.{IsRawAddress}
 
 -- In checked code, an expression has a type with no unchecked pointer in it, and is no `_Assume_bounds_cast`; in unchecked
 -- code, an address is an unchecked pointer.

@@ -4,14 +4,14 @@ use Rattle.ckc_base.specs.declared.arithmetic.Mode.{Mode}
 use Rattle.ckc_typed.specs.declared.environment.Globals.{Globals}
 use Rattle.ckc_typed.specs.Conversions.{is_allocation}
 use Rattle.ckc_typed.specs.Trees.{NotedExpr}
-use Rattle.ckc_bounds_views.specs.Views.{view}
-use Rattle.ckc_bounds_stores.specs.declared.values.Numbered.{Numbered}
-use Rattle.ckc_bounds_statements.specs.Paths.{Here}
+use Rattle.ckc_blame_sound.specs.ckc_bounds_views.specs.Views.{view}
+use Rattle.ckc_blame_sound.specs.ckc_bounds_stores.specs.declared.values.Numbered.{Numbered}
+use Rattle.ckc_blame_sound.specs.ckc_bounds_statements.specs.Paths.{Here}
 use Rattle.ckc_source.specs.Eval.{Store}
 use Rattle.ckc_blame_sound.specs.Bodies.{AreFresh}
 use Rattle.ckc_blame_sound.specs.Settings.{Setting}
 use Rattle.ckc_blame_sound.specs.Typed.{IsTyped}
-use Rattle.ckc_blame_pointers.specs.Covered.{IsCovered}
+use Rattle.ckc_blame_given.specs.ckc_blame_pointers.specs.Covered.{IsCovered}
 use Rattle.ckc_blame_steps.specs.Arguments.{numbers_behind}
 
 -- A typed expression, which is no `calloc`, is judged at a point from a fresh variable on; what it is judged to be is

@@ -16,14 +16,14 @@ use Rattle.ckc_typed.specs.Conversions.{is_terminated_kind}
 use Rattle.ckc_typed.specs.Types.{element_of, is_integer, kind_of, type_written}
 use Rattle.ckc_build_values.specs.Kinds.{size_behind}
 use Rattle.ckc_typed.specs.Trees.{NotedAct, NotedDecl, NotedExpr, NotedInit, NotedLayer, NotedStmt}
-use Rattle.ckc_bounds_points.specs.declared.frame.Frame.{Frame}
-use Rattle.ckc_bounds_points.specs.declared.frame.Local.{Local}
-use Rattle.ckc_bounds_points.specs.Flow.{State}
-use Rattle.ckc_bounds_views.specs.Parts.{capped, fresh_behind}
-use Rattle.ckc_bounds_views.specs.Views.{view}
-use Rattle.ckc_bounds_statements.specs.Paths.{Here}
-use Rattle.ckc_bounds_stores.specs.Stores as stores
-use Rattle.ckc_bounds_stores.specs.Stores.{stores_of}
+use Rattle.ckc_blame_sound.specs.ckc_bounds_points.specs.declared.frame.Frame.{Frame}
+use Rattle.ckc_blame_sound.specs.ckc_bounds_points.specs.declared.frame.Local.{Local}
+use Rattle.ckc_blame_sound.specs.ckc_bounds_points.specs.Flow.{State}
+use Rattle.ckc_blame_sound.specs.ckc_bounds_views.specs.Parts.{capped, fresh_behind}
+use Rattle.ckc_blame_sound.specs.ckc_bounds_views.specs.Views.{view}
+use Rattle.ckc_blame_sound.specs.ckc_bounds_statements.specs.Paths.{Here}
+use Rattle.ckc_blame_sound.specs.ckc_bounds_stores.specs.Stores as stores
+use Rattle.ckc_blame_sound.specs.ckc_bounds_stores.specs.Stores.{stores_of}
 use Rattle.ckc_source.specs.declared.stmt.Spot.{Spot}
 use Rattle.ckc_source.specs.Code.{Code, End, Function}
 use Rattle.ckc_source.specs.Eval.{Store}
@@ -35,7 +35,7 @@ use Rattle.ckc_blame_sound.specs.Words.{HaveWords}
 use Rattle.ckc_blame_sound.specs.Limited.{AreSlotParts}
 use Rattle.ckc_blame_sound.specs.Elements.{NameIntegerMembers}
 use Rattle.ckc_blame_sound.specs.JudgedTexts.{IsJudged}
-use Rattle.ckc_blame_pointers.specs.Covered.{DeclareLocals, IsSoundStore, IsCovered}
+use Rattle.ckc_blame_given.specs.ckc_blame_pointers.specs.Covered.{DeclareLocals, IsSoundStore, IsCovered}
 use Rattle.ckc_blame_given.specs.Written.{IsDeclared}
 use Rattle.ckc_blame_given.specs.Targets.{KeepRunsFree, IsCoveredTarget}
 use Rattle.ckc_blame_given.specs.Together.{HaveSmallNames}

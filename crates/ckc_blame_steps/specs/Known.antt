@@ -13,7 +13,7 @@ use Rattle.ckc_build_elaborate.specs.Elaborated.{elaborated}
 use Rattle.ckc_blame_sound.specs.Settings.{Setting, IsFunction}
 use Rattle.ckc_blame_sound.specs.Calls.{store_in, arguments_of}
 use Rattle.ckc_blame_sound.specs.Sound.{Sound}
-use Rattle.ckc_blame_nested.specs.Nested.{AreNested}
+use Rattle.ckc_blame_walk.specs.ckc_blame_nested.specs.Nested.{AreNested}
 use Rattle.ckc_blame_control.specs.Ready.{Faces}
 use Rattle.ckc_blame_steps.specs.Tests.{AreTestsCovered}
 use Rattle.ckc_blame_steps.specs.Granted.{IsGranted}

@@ -18,3 +18,12 @@ pub mod Checked
 pub mod Unchecked
 pub mod Told
 pub mod Stores
+pub use Rattle.ckc_blame_sound
+pub use Rattle.ckc_blame_sound.specs.ckc_bounds
+pub use Rattle.ckc_blame_sound.specs.ckc_bounds_known
+pub use Rattle.ckc_blame_sound.specs.ckc_bounds_points
+pub use Rattle.ckc_blame_sound.specs.ckc_bounds_ranges
+pub use Rattle.ckc_blame_sound.specs.ckc_bounds_statements
+pub use Rattle.ckc_blame_sound.specs.ckc_bounds_views
+pub use Rattle.ckc_blame_walk
+pub use Rattle.ckc_blame_walk.specs.ckc_blame_declared

@@ -11,11 +11,11 @@ use Rattle.ckc_typed.specs.declared.typed.Typed.{Typed}
 use Rattle.ckc_typed.specs.Conversions.{converts}
 use Rattle.ckc_typed.specs.Statics.{strings_of_expr}
 use Rattle.ckc_typed.specs.Trees.{NotedAct, NotedExpr, NotedLayer, NotedStmt}
-use Rattle.ckc_bounds_views.specs.Parts.{capped, fresh_behind}
-use Rattle.ckc_bounds_views.specs.Views.{view}
-use Rattle.ckc_bounds_statements.specs.Paths.{Here}
-use Rattle.ckc_bounds_stores.specs.declared.values.Numbered.{Numbered}
-use Rattle.ckc_bounds_stores.specs.Stores.{Placed}
+use Rattle.ckc_blame_sound.specs.ckc_bounds_views.specs.Parts.{capped, fresh_behind}
+use Rattle.ckc_blame_sound.specs.ckc_bounds_views.specs.Views.{view}
+use Rattle.ckc_blame_sound.specs.ckc_bounds_statements.specs.Paths.{Here}
+use Rattle.ckc_blame_sound.specs.ckc_bounds_stores.specs.declared.values.Numbered.{Numbered}
+use Rattle.ckc_blame_sound.specs.ckc_bounds_stores.specs.Stores.{Placed}
 use Rattle.ckc_source.specs.declared.program.Shape.{Shape}
 use Rattle.ckc_source.specs.Blocks.{Block}
 use Rattle.ckc_source.specs.Code.{Target, Right, Code, Function}
@@ -31,8 +31,8 @@ use Rattle.ckc_blame_sound.specs.Slots.{AreFilled}
 use Rattle.ckc_blame_sound.specs.Valuations.{Valuation, IsValuationOf}
 use Rattle.ckc_blame_sound.specs.Typed.{IsTyped}
 use Rattle.ckc_blame_sound.specs.JudgedTexts.{globals_in}
-use Rattle.ckc_blame_pointers.specs.Covered.{IsSoundStore, IsCovered}
-use Rattle.ckc_blame_pointers.specs.Owed.{Comes}
+use Rattle.ckc_blame_given.specs.ckc_blame_pointers.specs.Covered.{IsSoundStore, IsCovered}
+use Rattle.ckc_blame_given.specs.ckc_blame_pointers.specs.Owed.{Comes}
 use Rattle.ckc_blame_given.specs.Gives.{Continues}
 use Rattle.ckc_blame_given.specs.Planned.{ArePlanned}
 use Rattle.ckc_blame_given.specs.Written.{IsReceived}

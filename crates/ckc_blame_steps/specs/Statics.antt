@@ -12,14 +12,14 @@ use Rattle.ckc_typed.specs.Environment.{kind_of_array, used}
 use Rattle.ckc_typed.specs.Statics.{is_terminated}
 use Rattle.ckc_typed.specs.Trees.{NotedDecl}
 use Rattle.ckc_typed.specs.Types.{type_written}
-use Rattle.ckc_bounds_points.specs.declared.frame.Bounds.{Bounds}
-use Rattle.ckc_bounds_points.specs.declared.frame.Bounds.TheVariants as bounds
-use Rattle.ckc_bounds_points.specs.Forms.{constant_form}
-use Rattle.ckc_bounds_declared.specs.Written.{bounds_by_type, takes_bounds}
-use Rattle.ckc_bounds_ranges.specs.Rows.{range_from}
-use Rattle.ckc_bounds_stores.specs.Targets.{counted, written_there}
-use Rattle.ckc_bounds_views.specs.Judged.{is_declared_object}
-use Rattle.ckc_bounds_views.specs.Ranges.{range_of_object}
+use Rattle.ckc_blame_sound.specs.ckc_bounds_points.specs.declared.frame.Bounds.{Bounds}
+use Rattle.ckc_blame_sound.specs.ckc_bounds_points.specs.declared.frame.Bounds.TheVariants as bounds
+use Rattle.ckc_blame_sound.specs.ckc_bounds_points.specs.Forms.{constant_form}
+use Rattle.ckc_blame_sound.specs.ckc_bounds_declared.specs.Written.{bounds_by_type, takes_bounds}
+use Rattle.ckc_blame_sound.specs.ckc_bounds_ranges.specs.Rows.{range_from}
+use Rattle.ckc_blame_sound.specs.ckc_bounds_stores.specs.Targets.{counted, written_there}
+use Rattle.ckc_blame_sound.specs.ckc_bounds_views.specs.Judged.{is_declared_object}
+use Rattle.ckc_blame_sound.specs.ckc_bounds_views.specs.Ranges.{range_of_object}
 use Rattle.ckc_source.specs.declared.expr.Count.{Count}
 use Rattle.ckc_source.specs.declared.expr.Count.TheVariants as count
 use Rattle.ckc_build_values.specs.Names.{count_of_static, limits_declared}

@@ -21,7 +21,7 @@ use Rattle.ckc_typed_welltyped.specs.Expressions.{AnyLimits, AnyNode}
 use Rattle.ckc_source.specs.Eval.{Store}
 use Rattle.ckc_blame_sound.specs.Settings.{Setting}
 use Rattle.ckc_blame_sound.specs.Slots.{AreFilled}
-use Rattle.ckc_blame_pointers.specs.Covered.{DeclareOnes, KeepRunsFree, IsInScope, IsStaticInteger, IsStaticArray, IsStaticPointer, IsStaticBounded, IsStaticStructure, IsIntegerMember, IsPointerMember, IsStructureNode, IsAddressed, IsAddressedRaw}
+use Rattle.ckc_blame_given.specs.ckc_blame_pointers.specs.Covered.{DeclareOnes, KeepRunsFree, IsInScope, IsStaticInteger, IsStaticArray, IsStaticPointer, IsStaticBounded, IsStaticStructure, IsIntegerMember, IsPointerMember, IsStructureNode, IsAddressed, IsAddressedRaw}
 
 -- ---- the text
 

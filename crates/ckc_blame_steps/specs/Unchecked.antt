@@ -16,7 +16,7 @@ use Rattle.ckc_source.specs.Source.{source, source_system, first_state, on_next}
 use Rattle.ckc_source.specs.States.{Work, Rest, State, settled}
 use Rattle.ckc_source.specs.Steps.{source_step, spot_of}
 use Rattle.ckc_blame_sound.specs.Sound.{Sound}
-use Rattle.ckc_blame_pointers.specs.Owed.{Owed}
+use Rattle.ckc_blame_given.specs.ckc_blame_pointers.specs.Owed.{Owed}
 
 -- ---- stores
 

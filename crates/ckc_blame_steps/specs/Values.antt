@@ -5,8 +5,8 @@ use Rattle.ckc_syntax.specs.declared.tree.Expr.{Expr-F, every-Expr}
 use Rattle.ckc_typed.specs.declared.typed.Note.{Note}
 use Rattle.ckc_typed.specs.Trees.{NotedLimits, NotedNode, NotedExpr}
 use Rattle.ckc_typed_welltyped.specs.Expressions.{AnyLimits, AnyNode}
-use Rattle.ckc_bounds_points.specs.declared.frame.Frame.{Frame}
-use Rattle.ckc_bounds_views.specs.Views.{view}
+use Rattle.ckc_blame_sound.specs.ckc_bounds_points.specs.declared.frame.Frame.{Frame}
+use Rattle.ckc_blame_sound.specs.ckc_bounds_views.specs.Views.{view}
 
 -- an expression has so few values, with one more, that a word numbers them
 abbrev pub HasFewValues : Frame → Expr-F Name Note NotedLimits NotedNode NotedExpr → Type 0

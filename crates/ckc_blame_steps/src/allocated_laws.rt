@@ -5,7 +5,7 @@ ghost use Rattle.ckc_source.specs.Code.{Function};
 ghost use Rattle.ckc_blame_sound.specs.Settings.{Setting, IsFunction};
 ghost use Rattle.ckc_blame_sound.specs.Limited.{AreSlotParts};
 ghost use Rattle.ckc_blame_sound.specs.JudgedTexts.{IsJudged};
-ghost use Rattle.ckc_blame_pointers.specs.Covered.{DeclareLocals};
+ghost use Rattle.ckc_blame_given.specs.ckc_blame_pointers.specs.Covered.{DeclareLocals};
 ghost use Rattle.ckc_blame_steps.specs.Plans.{AllocateSoundly};
 
 /// A `calloc` that is drawn at a step of a judged text, in a state at a point that holds, comes to

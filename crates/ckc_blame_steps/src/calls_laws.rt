@@ -14,7 +14,7 @@ ghost use Rattle.ckc_blame_sound.specs.Calls.{store_in, arguments_of};
 ghost use Rattle.ckc_blame_sound.specs.Sound.{Sound};
 ghost use Rattle.ckc_blame_sound.specs.Moves.{IsSoundMove};
 ghost use Rattle.ckc_blame_sound.specs.JudgedTexts.{IsJudged};
-ghost use Rattle.ckc_blame_nested.specs.Nested.{AreNested};
+ghost use Rattle.ckc_blame_walk.specs.ckc_blame_nested.specs.Nested.{AreNested};
 ghost use Rattle.ckc_blame_sound.specs.Values.{NamesIntegers};
 ghost use Rattle.ckc_blame_control.specs.Ready.{Faces};
 ghost use Rattle.ckc_blame_steps.specs.Unchecked.{MovesSoundly};

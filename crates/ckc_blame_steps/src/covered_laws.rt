@@ -7,7 +7,7 @@ ghost use Rattle.ckc_syntax.specs.declared.tree.Act.{out-Act};
 ghost use Rattle.ckc_syntax_limits.specs.Small.{Small};
 ghost use Rattle.ckc_typed.specs.declared.typed.Note.{Note};
 ghost use Rattle.ckc_typed.specs.declared.typed.Typed.{Typed};
-ghost use Rattle.ckc_bounds_statements.specs.Paths.{Here};
+ghost use Rattle.ckc_blame_sound.specs.ckc_bounds_statements.specs.Paths.{Here};
 ghost use Rattle.ckc_source.specs.declared.stmt.Kept.{Kept};
 ghost use Rattle.ckc_source.specs.declared.stmt.Spot.{Spot};
 ghost use Rattle.ckc_source.specs.Code.{Code, End, Expr, Function, Call, Return};

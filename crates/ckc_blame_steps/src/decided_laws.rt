@@ -10,8 +10,8 @@ ghost use Rattle.ckc_blame_sound.specs.Calls.{store_in};
 ghost use Rattle.ckc_blame_sound.specs.Sound.{Sound};
 ghost use Rattle.ckc_blame_sound.specs.Words.{HaveWords};
 ghost use Rattle.ckc_blame_sound.specs.JudgedTexts.{IsJudged};
-ghost use Rattle.ckc_blame_pointers.specs.Covered.{DeclareLocals};
-ghost use Rattle.ckc_blame_pointers.specs.Owed.{Runs};
+ghost use Rattle.ckc_blame_given.specs.ckc_blame_pointers.specs.Covered.{DeclareLocals};
+ghost use Rattle.ckc_blame_given.specs.ckc_blame_pointers.specs.Owed.{Runs};
 ghost use Rattle.ckc_blame_control.specs.Decided.{IsDecided};
 ghost use Rattle.ckc_blame_steps.specs.Tests.{AreTestsCovered};
 

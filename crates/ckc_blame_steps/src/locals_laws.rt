@@ -8,14 +8,14 @@ ghost use Rattle.ckc_syntax.specs.declared.tree.Name.TheVariants as name;
 ghost use Rattle.ckc_typed.specs.declared.typed.Typed.{Typed};
 ghost use Rattle.ckc_typed.specs.Environment.{type_of_name};
 ghost use Rattle.ckc_typed.specs.Types.{is_scalar};
-ghost use Rattle.ckc_bounds_points.specs.declared.frame.Local.{Local};
-ghost use Rattle.ckc_bounds_points.specs.Frames.{local_at};
-ghost use Rattle.ckc_bounds_statements.specs.Paths.{Here};
+ghost use Rattle.ckc_blame_sound.specs.ckc_bounds_points.specs.declared.frame.Local.{Local};
+ghost use Rattle.ckc_blame_sound.specs.ckc_bounds_points.specs.Frames.{local_at};
+ghost use Rattle.ckc_blame_sound.specs.ckc_bounds_statements.specs.Paths.{Here};
 ghost use Rattle.ckc_source.specs.Code.{Code, Expr, Function};
 ghost use Rattle.ckc_blame_sound.specs.Settings.{Setting, IsFunction};
 ghost use Rattle.ckc_blame_sound.specs.Steps.{IsStep, IsCondition};
 ghost use Rattle.ckc_blame_sound.specs.JudgedTexts.{IsJudged, globals_in};
-ghost use Rattle.ckc_blame_pointers.specs.Covered.{DeclareLocals, DeclareOnes, IsInScope};
+ghost use Rattle.ckc_blame_given.specs.ckc_blame_pointers.specs.Covered.{DeclareLocals, DeclareOnes, IsInScope};
 
 /// The declared bounds of the locals of a judged text name locals and static arrays alone.
 pub fn locals_declare()

@@ -13,17 +13,17 @@ use Rattle.ckc_syntax.specs.declared.tree.Act.TheVariants as act
 use Rattle.ckc_typed.specs.declared.typed.Note.{Note}
 use Rattle.ckc_typed.specs.Trees.{NotedDecl, NotedExpr, NotedInit}
 use Rattle.ckc_typed.specs.Types.{type_written}
-use Rattle.ckc_bounds_points.specs.declared.frame.HeadBounds.{HeadBounds}
-use Rattle.ckc_bounds_points.specs.declared.frame.Frame.{Frame}
-use Rattle.ckc_bounds_points.specs.declared.frame.Bounds.TheVariants as bounds
-use Rattle.ckc_bounds_ranges.specs.Bundles.{is_bundle}
-use Rattle.ckc_bounds_points.specs.Flow.{State, joined, assigned}
-use Rattle.ckc_bounds_points.specs.Forms.{in_type}
-use Rattle.ckc_bounds_points.specs.Codes.{not_contained, bad_bundle}
-use Rattle.ckc_bounds_views.specs.Parts.{View}
-use Rattle.ckc_bounds_stores.specs.Stores.{initialised, returned}
-use Rattle.ckc_bounds_statements.specs.DeclBounds.{bounds_there}
-use Rattle.ckc_bounds_statements.specs.Paths.{Here, value_judged, maybe_judged, init_judged, side_of, maybe_side, local_in, starts_within, start_form, started, value_form, declared_here, bounds_judged, decl_judged, stated, sides_judged, behind_stores, gone, is_returned, is_good, needs_expr, Path, ActPath, Branch, Start, all_judged, parts_judged, bundle_judged, part_judged, closed, block_judged, other_side, maybe_other, branched, if_judged, loop_head, while_judged, maybe_point, for_started, to_step, for_judged, local_judged, assign_judged, call_judged, check_judged, return_judged}
+use Rattle.ckc_blame_sound.specs.ckc_bounds_points.specs.declared.frame.HeadBounds.{HeadBounds}
+use Rattle.ckc_blame_sound.specs.ckc_bounds_points.specs.declared.frame.Frame.{Frame}
+use Rattle.ckc_blame_sound.specs.ckc_bounds_points.specs.declared.frame.Bounds.TheVariants as bounds
+use Rattle.ckc_blame_sound.specs.ckc_bounds_ranges.specs.Bundles.{is_bundle}
+use Rattle.ckc_blame_sound.specs.ckc_bounds_points.specs.Flow.{State, joined, assigned}
+use Rattle.ckc_blame_sound.specs.ckc_bounds_points.specs.Forms.{in_type}
+use Rattle.ckc_blame_sound.specs.ckc_bounds_points.specs.Codes.{not_contained, bad_bundle}
+use Rattle.ckc_blame_sound.specs.ckc_bounds_views.specs.Parts.{View}
+use Rattle.ckc_blame_sound.specs.ckc_bounds_stores.specs.Stores.{initialised, returned}
+use Rattle.ckc_blame_sound.specs.ckc_bounds_statements.specs.DeclBounds.{bounds_there}
+use Rattle.ckc_blame_sound.specs.ckc_bounds_statements.specs.Paths.{Here, value_judged, maybe_judged, init_judged, side_of, maybe_side, local_in, starts_within, start_form, started, value_form, declared_here, bounds_judged, decl_judged, stated, sides_judged, behind_stores, gone, is_returned, is_good, needs_expr, Path, ActPath, Branch, Start, all_judged, parts_judged, bundle_judged, part_judged, closed, block_judged, other_side, maybe_other, branched, if_judged, loop_head, while_judged, maybe_point, for_started, to_step, for_judged, local_judged, assign_judged, call_judged, check_judged, return_judged}
 use Rattle.ckc_blame_walk.proofs.Twins.{Agree, agree_bind, TwinExpr, TwinValue, TwinInit, SameHere, SameFirst, SameStores, SamePart, bare, Twin, TwinIf, TwinList, value_counted, maybe_counted, init_counted, needs_same, side_same, sides_counted, stores_counted, all_counted, parts_counted, if_counted}
 
 pub two : {X Y Z : Type 0} (f : X → Y → Z) {a b : X} {c d : Y} → a ≡ b → c ≡ d → f a c ≡ f b d

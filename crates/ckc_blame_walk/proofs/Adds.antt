@@ -16,18 +16,18 @@ use Rattle.ckc_syntax.specs.declared.tree.Expr.{Expr-F, map-Expr, ind-Expr, roll
 use Rattle.ckc_typed.specs.declared.typed.Note.{Note}
 use Rattle.ckc_typed.specs.Trees.{NotedLimits, NotedNode, NotedExpr, NotedLayer}
 use Rattle.ckc_typed.specs.Types.{is_integer}
-use Rattle.ckc_bounds_known.specs.declared.intervals.Interval.{Interval}
-use Rattle.ckc_bounds_known.specs.Shown.{Known, is_within}
-use Rattle.ckc_bounds_known.specs.Ranges.{range_of, is_small, fits, with_fact, with_range}
-use Rattle.ckc_bounds_known.proofs.Reaching.{and_cases}
-use Rattle.ckc_bounds_points.specs.declared.frame.Frame.{Frame}
-use Rattle.ckc_bounds_points.specs.declared.frame.Local.{Local}
-use Rattle.ckc_bounds_points.specs.Flow.{State, ranges_from, ranges}
-use Rattle.ckc_bounds_points.specs.Forms.{at_most, at_less, with_most, with_less}
-use Rattle.ckc_bounds_views.specs.Parts.{LimitsView, NodeView, View, NodeOfViews}
-use Rattle.ckc_bounds_views.specs.Conditions.{wider, widened_by, read_place, widening_side, behind_node, said, holding, is_comparison, operand, compares_unsigned, nonzero_side, by_operands, narrowed, binary_side, comparison_side, side_of_node}
-use Rattle.ckc_bounds_views.specs.Places.{target_of_node}
-use Rattle.ckc_bounds_views.specs.Views.{limits_view, node_view, expr_view, view_of_limits, view_of_node, view}
+use Rattle.ckc_blame_sound.specs.ckc_bounds_known.specs.declared.intervals.Interval.{Interval}
+use Rattle.ckc_blame_sound.specs.ckc_bounds_known.specs.Shown.{Known, is_within}
+use Rattle.ckc_blame_sound.specs.ckc_bounds_known.specs.Ranges.{range_of, is_small, fits, with_fact, with_range}
+use Rattle.ckc_blame_sound.specs.ckc_bounds_known.proofs.Reaching.{and_cases}
+use Rattle.ckc_blame_sound.specs.ckc_bounds_points.specs.declared.frame.Frame.{Frame}
+use Rattle.ckc_blame_sound.specs.ckc_bounds_points.specs.declared.frame.Local.{Local}
+use Rattle.ckc_blame_sound.specs.ckc_bounds_points.specs.Flow.{State, ranges_from, ranges}
+use Rattle.ckc_blame_sound.specs.ckc_bounds_points.specs.Forms.{at_most, at_less, with_most, with_less}
+use Rattle.ckc_blame_sound.specs.ckc_bounds_views.specs.Parts.{LimitsView, NodeView, View, NodeOfViews}
+use Rattle.ckc_blame_sound.specs.ckc_bounds_views.specs.Conditions.{wider, widened_by, read_place, widening_side, behind_node, said, holding, is_comparison, operand, compares_unsigned, nonzero_side, by_operands, narrowed, binary_side, comparison_side, side_of_node}
+use Rattle.ckc_blame_sound.specs.ckc_bounds_views.specs.Places.{target_of_node}
+use Rattle.ckc_blame_sound.specs.ckc_bounds_views.specs.Views.{limits_view, node_view, expr_view, view_of_limits, view_of_node, view}
 use Rattle.ckc_blame_sound.specs.Values.{IsInteger, NamesIntegers}
 use Rattle.ckc_blame_walk.specs.Walks.{AreSmall, AreNamed}
 use Rattle.ckc_blame_walk.proofs.Named.{range_integer, integer_at, NamesInteger, variable_named, operand_named}

@@ -13,13 +13,13 @@ use Rattle.ckc_syntax.specs.declared.tree.Act.TheVariants as act
 use Rattle.ckc_syntax.specs.declared.tree.Stmt.{Stmt-F, map-Stmt, ind-Stmt, roll-Stmt, fold-roll-Stmt}
 use Rattle.ckc_typed.specs.declared.typed.Note.{Note}
 use Rattle.ckc_typed.specs.Trees.{NotedAct, NotedDecl, NotedExpr, NotedInit, NotedStmt}
-use Rattle.ckc_bounds_points.specs.declared.frame.HeadBounds.{HeadBounds}
-use Rattle.ckc_bounds_points.specs.declared.frame.Frame.{Frame}
-use Rattle.ckc_bounds_points.specs.Flow.{joined}
-use Rattle.ckc_bounds_points.specs.Codes.{not_contained, bad_bundle}
-use Rattle.ckc_bounds_views.specs.Parts.{LimitsView, NodeView, View, fresh_behind}
-use Rattle.ckc_bounds_views.specs.Views.{limits_view, node_view, expr_view, view}
-use Rattle.ckc_bounds_statements.specs.Paths.{Here, expr_judged, value_judged, values_judged, maybe_judged, init_judged, side_of, starts_within, declared_here, bounds_judged, stated, sides_judged, behind_stores, gone, is_returned, is_good, needs_expr, Path, ActPath, ActOfPaths, act_path, stmt_path, path_of_act, path, all_judged, parts_judged, bundle_judged, part_judged, closed, other_side, maybe_side, maybe_other, if_judged, for_judged, loop_head, maybe_point, to_step}
+use Rattle.ckc_blame_sound.specs.ckc_bounds_points.specs.declared.frame.HeadBounds.{HeadBounds}
+use Rattle.ckc_blame_sound.specs.ckc_bounds_points.specs.declared.frame.Frame.{Frame}
+use Rattle.ckc_blame_sound.specs.ckc_bounds_points.specs.Flow.{joined}
+use Rattle.ckc_blame_sound.specs.ckc_bounds_points.specs.Codes.{not_contained, bad_bundle}
+use Rattle.ckc_blame_sound.specs.ckc_bounds_views.specs.Parts.{LimitsView, NodeView, View, fresh_behind}
+use Rattle.ckc_blame_sound.specs.ckc_bounds_views.specs.Views.{limits_view, node_view, expr_view, view}
+use Rattle.ckc_blame_sound.specs.ckc_bounds_statements.specs.Paths.{Here, expr_judged, value_judged, values_judged, maybe_judged, init_judged, side_of, starts_within, declared_here, bounds_judged, stated, sides_judged, behind_stores, gone, is_returned, is_good, needs_expr, Path, ActPath, ActOfPaths, act_path, stmt_path, path_of_act, path, all_judged, parts_judged, bundle_judged, part_judged, closed, other_side, maybe_side, maybe_other, if_judged, for_judged, loop_head, maybe_point, to_step}
 use Rattle.ckc_blame_walk.proofs.Pieces.{Gives, through, nested, given, unless_gives, as_list, named_list, value_named}
 use Rattle.ckc_blame_sound.proofs.SameViews.{same_view}
 use Rattle.ckc_blame_walk.proofs.Walk.{unless_nested}

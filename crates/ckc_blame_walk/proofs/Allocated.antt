@@ -34,7 +34,7 @@ use Rattle.ckc_typed_welltyped.specs.Productions.{given_item, given_tree}
 use Rattle.ckc_typed_welltyped.specs.Statements.{IsCondition, act_rows, WellTypedStmt}
 use Rattle.ckc_typed_welltyped.specs.Texts.{WellTypedItem, WellTypedItems}
 use Rattle.ckc_typed_welltyped.proofs.ByParts.{stmt_by_parts}
-use Rattle.ckc_bounds_known.proofs.Reaching.{and_cases}
+use Rattle.ckc_blame_sound.specs.ckc_bounds_known.proofs.Reaching.{and_cases}
 use Rattle.ckc_blame_sound.specs.Sized.{IsSizedNode, IsSizedPart, IsSized, HasOnlySized, AllocateSizes}
 use Rattle.ckc_blame_sound.specs.Words.{exprs_of_act, exprs_of_stmt, exprs_in}
 use Rattle.ckc_blame_sound.specs.JudgedTexts.{IsJudged}

@@ -16,14 +16,14 @@ use Rattle.ckc_typed_welltyped.specs.Noteless.{bare_limits, bare_init, bare_decl
 use Rattle.ckc_typed_fit.specs.Tests as tests
 use Rattle.ckc_typed_fit.specs.Tests.{Tests, type_passes, bounds_pass, init_passes, decl_passes, decls_pass, head_passes, item_passes, items_pass}
 use Rattle.ckc_typed_fit.proofs.Found.{names_visible}
-use Rattle.ckc_bounds_known.proofs.Reaching.{and_cases}
-use Rattle.ckc_bounds_points.specs.declared.frame.Frame.{Frame}
-use Rattle.ckc_bounds_points.specs.declared.frame.Local.{Local}
-use Rattle.ckc_bounds_points.specs.Frames.{local_at}
-use Rattle.ckc_bounds_points.specs.Flow.{in_bounds, in_bounds_of}
-use Rattle.ckc_bounds_statements.specs.Paths.{local_in, path}
-use Rattle.ckc_bounds.specs.Declarations.{local_made, types_in, declared_in}
-use Rattle.ckc_bounds.specs.Frames.{all_of, name_seen, first_fresh, nameless, function_frame}
+use Rattle.ckc_blame_sound.specs.ckc_bounds_known.proofs.Reaching.{and_cases}
+use Rattle.ckc_blame_sound.specs.ckc_bounds_points.specs.declared.frame.Frame.{Frame}
+use Rattle.ckc_blame_sound.specs.ckc_bounds_points.specs.declared.frame.Local.{Local}
+use Rattle.ckc_blame_sound.specs.ckc_bounds_points.specs.Frames.{local_at}
+use Rattle.ckc_blame_sound.specs.ckc_bounds_points.specs.Flow.{in_bounds, in_bounds_of}
+use Rattle.ckc_blame_sound.specs.ckc_bounds_statements.specs.Paths.{local_in, path}
+use Rattle.ckc_blame_sound.specs.ckc_bounds.specs.Declarations.{local_made, types_in, declared_in}
+use Rattle.ckc_blame_sound.specs.ckc_bounds.specs.Frames.{all_of, name_seen, first_fresh, nameless, function_frame}
 use Rattle.ckc_blame_sound.specs.Settings.{Setting}
 use Rattle.ckc_blame_sound.specs.JudgedTexts.{IsJudged}
 use Rattle.ckc_blame_sound.specs.Numbered.{AreLocals}

@@ -31,19 +31,19 @@ use Rattle.ckc_typed_welltyped.specs.Noteless.{bare_limits, bare_expr}
 use Rattle.ckc_resolve.specs.Trees.{NamedItem}
 use Rattle.ckc_typed_fit.specs.Tests.{limits_pass, bounds_pass, expr_passes}
 use Rattle.ckc_typed_fit.specs.Visible.{is_visible}
-use Rattle.ckc_bounds_known.proofs.Reaching.{and_cases}
-use Rattle.ckc_bounds_points.specs.declared.frame.Bounds.{Bounds}
-use Rattle.ckc_bounds_points.specs.declared.frame.Bounds.TheVariants as bounds
-use Rattle.ckc_bounds_points.specs.declared.frame.Frame.{Frame}
-use Rattle.ckc_bounds_points.specs.declared.frame.Local.{Local}
-use Rattle.ckc_bounds_points.specs.Codes.{bad_limits}
-use Rattle.ckc_bounds_points.specs.Flow.{names_local, in_form, in_bounds}
-use Rattle.ckc_bounds_points.specs.Forms.{is_small, constant_form, moved_form, sum_of_forms, base_form, elements_of, elements}
-use Rattle.ckc_bounds_points.specs.Frames.{local_at, variable_of, variable}
-use Rattle.ckc_bounds_points.specs.Shown.{is_within}
-use Rattle.ckc_bounds_declared.specs.declared.limits.Holder.TheVariants as holder
-use Rattle.ckc_bounds_declared.specs.Written.{amount_with, amount_form, counted, is_checked, local_base, is_element, array_base, named_base, named_pieces, negative_amount, sum_pieces, node_pieces, bound_with, bound, known_between, bounds_written, takes_bounds, bounds_of_kind, bounds_by_type, place_of_limits, bounds_taken, bounds_declared}
-use Rattle.ckc_bounds.specs.Declarations.{known_or_not}
+use Rattle.ckc_blame_sound.specs.ckc_bounds_known.proofs.Reaching.{and_cases}
+use Rattle.ckc_blame_sound.specs.ckc_bounds_points.specs.declared.frame.Bounds.{Bounds}
+use Rattle.ckc_blame_sound.specs.ckc_bounds_points.specs.declared.frame.Bounds.TheVariants as bounds
+use Rattle.ckc_blame_sound.specs.ckc_bounds_points.specs.declared.frame.Frame.{Frame}
+use Rattle.ckc_blame_sound.specs.ckc_bounds_points.specs.declared.frame.Local.{Local}
+use Rattle.ckc_blame_sound.specs.ckc_bounds_points.specs.Codes.{bad_limits}
+use Rattle.ckc_blame_sound.specs.ckc_bounds_points.specs.Flow.{names_local, in_form, in_bounds}
+use Rattle.ckc_blame_sound.specs.ckc_bounds_points.specs.Forms.{is_small, constant_form, moved_form, sum_of_forms, base_form, elements_of, elements}
+use Rattle.ckc_blame_sound.specs.ckc_bounds_points.specs.Frames.{local_at, variable_of, variable}
+use Rattle.ckc_blame_sound.specs.ckc_bounds_points.specs.Shown.{is_within}
+use Rattle.ckc_blame_sound.specs.ckc_bounds_declared.specs.declared.limits.Holder.TheVariants as holder
+use Rattle.ckc_blame_sound.specs.ckc_bounds_declared.specs.Written.{amount_with, amount_form, counted, is_checked, local_base, is_element, array_base, named_base, named_pieces, negative_amount, sum_pieces, node_pieces, bound_with, bound, known_between, bounds_written, takes_bounds, bounds_of_kind, bounds_by_type, place_of_limits, bounds_taken, bounds_declared}
+use Rattle.ckc_blame_sound.specs.ckc_bounds.specs.Declarations.{known_or_not}
 use Rattle.ckc_blame_walk.specs.Scopes.{tests_of, HasLocal}
 use Rattle.ckc_blame_walk.proofs.Exprs.{limits_open, limits_opened, node_open, expr_is_open, local_visible}
 

@@ -10,8 +10,8 @@ use Rattle.ckc_syntax.specs.declared.tree.Act.{out-Act}
 use Rattle.ckc_typed.specs.declared.typed.Note.{Note}
 use Rattle.ckc_typed.specs.Statics.{strings_of_stmt}
 use Rattle.ckc_typed.specs.Trees.{NotedExpr, NotedLayer, NotedInit, NotedStmt}
-use Rattle.ckc_bounds_points.specs.declared.frame.Frame.{Frame}
-use Rattle.ckc_bounds_statements.specs.Paths.{Here, path}
+use Rattle.ckc_blame_sound.specs.ckc_bounds_points.specs.declared.frame.Frame.{Frame}
+use Rattle.ckc_blame_sound.specs.ckc_bounds_statements.specs.Paths.{Here, path}
 use Rattle.ckc_source.specs.declared.stmt.Spot.{Spot}
 use Rattle.ckc_source.specs.Code.{Code, End, chained}
 use Rattle.ckc_build_elaborate.specs.Steps.{Destination, called, assigned_form, assigned, started}

@@ -15,9 +15,9 @@ use Rattle.ckc_syntax.specs.declared.tree.Stmt.{fold-roll-Stmt}
 use Rattle.ckc_typed.specs.declared.typed.Note.{Note}
 use Rattle.ckc_typed.specs.Statics.{strings_of_expr, strings_of_stmt}
 use Rattle.ckc_typed.specs.Trees.{NotedAct, NotedDecl, NotedExpr, NotedStmt}
-use Rattle.ckc_bounds_known.proofs.Reaching.{and_cases}
-use Rattle.ckc_bounds_points.specs.Flow.{joined}
-use Rattle.ckc_bounds_statements.specs.Paths.{Here, value_judged, side_of, Path, stated, part_judged, if_judged}
+use Rattle.ckc_blame_sound.specs.ckc_bounds_known.proofs.Reaching.{and_cases}
+use Rattle.ckc_blame_sound.specs.ckc_bounds_points.specs.Flow.{joined}
+use Rattle.ckc_blame_sound.specs.ckc_bounds_statements.specs.Paths.{Here, value_judged, side_of, Path, stated, part_judged, if_judged}
 use Rattle.ckc_source.specs.Code.{Code, If, chained}
 use Rattle.ckc_build_values.specs.Expressions.{expr_elaborated, literals_of}
 use Rattle.ckc_build_elaborate.specs.Steps.{spot}

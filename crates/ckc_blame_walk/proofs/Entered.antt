@@ -7,9 +7,9 @@ use Rattle.ckc_typed.specs.declared.typed.Typed.{Typed}
 use Rattle.ckc_typed.specs.Trees.{NotedDecl, NotedHead, NotedStmt}
 use Rattle.ckc_typed.specs.Types.{is_char}
 use Rattle.ckc_typed.specs.Environment.{variable_declared, params_of, locals_of, variables_of}
-use Rattle.ckc_bounds.specs.Declarations.{types_in}
-use Rattle.ckc_bounds.proofs.Lists.{with_all_length}
-use Rattle.ckc_bounds.specs.Frames.{begin_in}
+use Rattle.ckc_blame_sound.specs.ckc_bounds.specs.Declarations.{types_in}
+use Rattle.ckc_blame_sound.specs.ckc_bounds.proofs.Lists.{with_all_length}
+use Rattle.ckc_blame_sound.specs.ckc_bounds.specs.Frames.{begin_in}
 use Rattle.ckc_source.specs.Blocks.{Block}
 use Rattle.ckc_source.specs.Code.{Function}
 use Rattle.ckc_source.specs.States.{entered}

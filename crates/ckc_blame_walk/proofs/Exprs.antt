@@ -15,7 +15,7 @@ use Rattle.ckc_typed_welltyped.proofs.Nodes.{node_out}
 use Rattle.ckc_resolve.specs.Trees.{NamedItem}
 use Rattle.ckc_typed_fit.specs.Tests.{Tests, limits_parts, node_parts, expr_parts, limits_pass, node_passes, expr_passes}
 use Rattle.ckc_typed_fit.specs.Visible.{is_visible}
-use Rattle.ckc_bounds_known.proofs.Reaching.{and_cases}
+use Rattle.ckc_blame_sound.specs.ckc_bounds_known.proofs.Reaching.{and_cases}
 use Rattle.ckc_blame_sound.specs.Scopes.{IsAmong, NamesAmong, NamesSeen}
 use Rattle.ckc_blame_sound.proofs.Every.{LimitsLayer, ExprLayer, EachLimits, EachNode, EachExpr}
 use Rattle.ckc_blame_walk.specs.Scopes.{tests_of, HasLocal}

@@ -5,7 +5,7 @@ use Rattle.ckc_base.specs.Lists.{AreBytes}
 use Rattle.ckc_syntax.specs.declared.tree.Name.TheVariants as name
 use Rattle.ckc_typed.specs.declared.typed.Typed.{Typed}
 use Rattle.ckc_typed.specs.Trees.{NotedDecl}
-use Rattle.ckc_bounds.specs.Frames.{name_seen}
+use Rattle.ckc_blame_sound.specs.ckc_bounds.specs.Frames.{name_seen}
 use Rattle.ckc_source.specs.Code.{Function}
 use Rattle.ckc_source.specs.Source.{function_at, first_state}
 use Rattle.ckc_source.specs.States.{entered}

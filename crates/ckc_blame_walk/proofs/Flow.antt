@@ -8,14 +8,14 @@ use Rattle.ckc_linear.specs.declared.facts.Fact.{Fact}
 use Rattle.ckc_linear.specs.declared.forms.Form.{Form}
 use Rattle.ckc_linear.specs.Facts.{names, change, shifted}
 use Rattle.ckc_typed.specs.Types.{is_integer}
-use Rattle.ckc_bounds_known.specs.declared.intervals.Interval.{Interval}
-use Rattle.ckc_bounds_known.specs.Shown.{Known, is_within}
-use Rattle.ckc_bounds_known.specs.Ranges.{range_of, with_fact, with_range, forgotten}
-use Rattle.ckc_bounds_known.proofs.Reaching.{and_cases}
-use Rattle.ckc_bounds_points.specs.declared.frame.Local.{Local}
-use Rattle.ckc_bounds_points.specs.declared.frame.Frame.{Frame}
-use Rattle.ckc_bounds_points.specs.Frames.{local_at}
-use Rattle.ckc_bounds_points.specs.Flow.{State, stays_small, moved, assigned_facts, widening_names, local_assigned, assigned, less}
+use Rattle.ckc_blame_sound.specs.ckc_bounds_known.specs.declared.intervals.Interval.{Interval}
+use Rattle.ckc_blame_sound.specs.ckc_bounds_known.specs.Shown.{Known, is_within}
+use Rattle.ckc_blame_sound.specs.ckc_bounds_known.specs.Ranges.{range_of, with_fact, with_range, forgotten}
+use Rattle.ckc_blame_sound.specs.ckc_bounds_known.proofs.Reaching.{and_cases}
+use Rattle.ckc_blame_sound.specs.ckc_bounds_points.specs.declared.frame.Local.{Local}
+use Rattle.ckc_blame_sound.specs.ckc_bounds_points.specs.declared.frame.Frame.{Frame}
+use Rattle.ckc_blame_sound.specs.ckc_bounds_points.specs.Frames.{local_at}
+use Rattle.ckc_blame_sound.specs.ckc_bounds_points.specs.Flow.{State, stays_small, moved, assigned_facts, widening_names, local_assigned, assigned, less}
 use Rattle.ckc_blame_sound.specs.Values.{IsInteger, NamesIntegers}
 use Rattle.ckc_blame_walk.specs.Walks.{AreSmall, AreNamed, IsSpared, StaysWide, Stays}
 use Rattle.ckc_blame_walk.proofs.Named.{NamesInteger, integer_at}

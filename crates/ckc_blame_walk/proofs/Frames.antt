@@ -9,13 +9,13 @@ use Rattle.ckc_typed.specs.declared.typed.Typed.{Typed}
 use Rattle.ckc_typed.specs.Environment.{variable_declared, variables_of}
 use Rattle.ckc_typed.specs.Statics.{strings_of_head, strings_of_stmt}
 use Rattle.ckc_typed.specs.Trees.{NotedDecl, NotedHead, NotedStmt}
-use Rattle.ckc_bounds_points.specs.declared.frame.Local.{Local}
-use Rattle.ckc_bounds_points.specs.declared.frame.HeadBounds.{HeadBounds}
-use Rattle.ckc_bounds_points.specs.declared.frame.Frame.{Frame}
-use Rattle.ckc_bounds_statements.specs.Paths.{Here, path}
-use Rattle.ckc_bounds.specs.Declarations.{local_made, with_all, with_locals, types_in, declared_in, head_bounds}
-use Rattle.ckc_bounds.specs.Frames.{name_seen, all_of, begin_in, begin_of, needed_from, fresh_needed, with_nameless, locals_frame, first_fresh, function_frame}
-use Rattle.ckc_bounds.specs.Texts.{body_judged}
+use Rattle.ckc_blame_sound.specs.ckc_bounds_points.specs.declared.frame.Local.{Local}
+use Rattle.ckc_blame_sound.specs.ckc_bounds_points.specs.declared.frame.HeadBounds.{HeadBounds}
+use Rattle.ckc_blame_sound.specs.ckc_bounds_points.specs.declared.frame.Frame.{Frame}
+use Rattle.ckc_blame_sound.specs.ckc_bounds_statements.specs.Paths.{Here, path}
+use Rattle.ckc_blame_sound.specs.ckc_bounds.specs.Declarations.{local_made, with_all, with_locals, types_in, declared_in, head_bounds}
+use Rattle.ckc_blame_sound.specs.ckc_bounds.specs.Frames.{name_seen, all_of, begin_in, begin_of, needed_from, fresh_needed, with_nameless, locals_frame, first_fresh, function_frame}
+use Rattle.ckc_blame_sound.specs.ckc_bounds.specs.Texts.{body_judged}
 use Rattle.ckc_source.specs.Code.{Code, Function}
 use Rattle.ckc_build_elaborate.proofs.Counted as counted
 use Rattle.ckc_build_elaborate.specs.Functions.{literals_of_head}

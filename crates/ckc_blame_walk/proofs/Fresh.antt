@@ -10,12 +10,12 @@ use Rattle.ckc_syntax.specs.Inside.{listed, inside_each, inside_limits}
 use Rattle.ckc_syntax_limits.specs.Marks.{Mark, is_node, node_marks, expr_marks, marks_of_limits, marks_of_node, marks_of_expr}
 use Rattle.ckc_typed.specs.declared.typed.Note.{Note}
 use Rattle.ckc_typed.specs.Trees.{NotedLimits, NotedNode, NotedExpr, NotedLayer}
-use Rattle.ckc_bounds_points.specs.declared.frame.Frame.{Frame}
-use Rattle.ckc_bounds_points.specs.Flow.{State}
-use Rattle.ckc_bounds_views.specs.Conditions.{right_point}
-use Rattle.ckc_bounds_views.specs.Fresh.{own_fresh, all_fresh, fresh_of_node}
-use Rattle.ckc_bounds_views.specs.Parts.{LimitsView, NodeView, View, NodeOfViews, LimitsOfViews, with_last}
-use Rattle.ckc_bounds_views.specs.Views.{limits_fresh, limits_view, node_view, expr_view, view_of_limits, view_of_node, view}
+use Rattle.ckc_blame_sound.specs.ckc_bounds_points.specs.declared.frame.Frame.{Frame}
+use Rattle.ckc_blame_sound.specs.ckc_bounds_points.specs.Flow.{State}
+use Rattle.ckc_blame_sound.specs.ckc_bounds_views.specs.Conditions.{right_point}
+use Rattle.ckc_blame_sound.specs.ckc_bounds_views.specs.Fresh.{own_fresh, all_fresh, fresh_of_node}
+use Rattle.ckc_blame_sound.specs.ckc_bounds_views.specs.Parts.{LimitsView, NodeView, View, NodeOfViews, LimitsOfViews, with_last}
+use Rattle.ckc_blame_sound.specs.ckc_bounds_views.specs.Views.{limits_fresh, limits_view, node_view, expr_view, view_of_limits, view_of_node, view}
 use Rattle.ckc_blame_sound.specs.Few.{nodes_of}
 use Rattle.ckc_blame_sound.proofs.Tallies.{tally, is_tally, tally-append}
 

@@ -5,12 +5,12 @@ use Rattle.std.specs.List.{Contains, flat_map}
 use Rattle.std.proofs.lemmas.List.Elements.{All-nil}
 use Rattle.ckc_typed.specs.Statics.{strings_of_stmt}
 use Rattle.ckc_typed.specs.Trees.{NotedHead, NotedStmt}
-use Rattle.ckc_bounds_points.specs.declared.frame.Frame.{Frame}
-use Rattle.ckc_bounds_statements.specs.Paths.{Here, path}
+use Rattle.ckc_blame_sound.specs.ckc_bounds_points.specs.declared.frame.Frame.{Frame}
+use Rattle.ckc_blame_sound.specs.ckc_bounds_statements.specs.Paths.{Here, path}
 use Rattle.ckc_base.proofs.Outcomes.{made_of}
-use Rattle.ckc_bounds.specs.Declarations.{head_bounds}
-use Rattle.ckc_bounds.specs.Frames.{name_seen, begin_in, first_fresh, function_frame, begin_of}
-use Rattle.ckc_bounds.specs.Texts.{body_judged}
+use Rattle.ckc_blame_sound.specs.ckc_bounds.specs.Declarations.{head_bounds}
+use Rattle.ckc_blame_sound.specs.ckc_bounds.specs.Frames.{name_seen, begin_in, first_fresh, function_frame, begin_of}
+use Rattle.ckc_blame_sound.specs.ckc_bounds.specs.Texts.{body_judged}
 use Rattle.ckc_build_elaborate.specs.Statements.{alone, stmt_elaborated}
 use Rattle.ckc_blame_sound.specs.Settings.{Setting, AreStrings}
 use Rattle.ckc_blame_sound.specs.Values.{value}

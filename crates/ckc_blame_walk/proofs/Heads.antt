@@ -11,13 +11,13 @@ use Rattle.std.proofs.lemmas.List.Elements.{All-nil, All-cons, All-head, All-fil
 use Rattle.ckc_linear.specs.declared.facts.Fact.{Fact}
 use Rattle.ckc_linear.specs.Facts.{names}
 use Rattle.ckc_typed.specs.Types.{is_integer}
-use Rattle.ckc_bounds_known.specs.declared.intervals.Interval.{Interval}
-use Rattle.ckc_bounds_known.specs.Shown.{Known, is_within}
-use Rattle.ckc_bounds_known.specs.Ranges.{range_of, fits, with_fact, with_range, forgotten}
-use Rattle.ckc_bounds_points.specs.declared.frame.Local.{Local}
-use Rattle.ckc_bounds_points.specs.declared.frame.Frame.{Frame}
-use Rattle.ckc_bounds_points.specs.Frames.{local_at}
-use Rattle.ckc_bounds_points.specs.Flow.{State, assigned_facts, widening_names, local_assigned, assigned, less, same_fact, in_both, wide_in_both, joined}
+use Rattle.ckc_blame_sound.specs.ckc_bounds_known.specs.declared.intervals.Interval.{Interval}
+use Rattle.ckc_blame_sound.specs.ckc_bounds_known.specs.Shown.{Known, is_within}
+use Rattle.ckc_blame_sound.specs.ckc_bounds_known.specs.Ranges.{range_of, fits, with_fact, with_range, forgotten}
+use Rattle.ckc_blame_sound.specs.ckc_bounds_points.specs.declared.frame.Local.{Local}
+use Rattle.ckc_blame_sound.specs.ckc_bounds_points.specs.declared.frame.Frame.{Frame}
+use Rattle.ckc_blame_sound.specs.ckc_bounds_points.specs.Frames.{local_at}
+use Rattle.ckc_blame_sound.specs.ckc_bounds_points.specs.Flow.{State, assigned_facts, widening_names, local_assigned, assigned, less, same_fact, in_both, wide_in_both, joined}
 use Rattle.ckc_blame_sound.specs.Values.{value, HoldWords, IsBetween, NamesIntegers}
 use Rattle.ckc_blame_sound.proofs.Flow.{word_lies, integer_value, variable_value}
 use Rattle.ckc_blame_walk.specs.Walks.{IsSpared, StaysWide, IsAlways, IsLeft, Stays}

@@ -19,8 +19,8 @@ use Rattle.ckc_typed_welltyped.specs.Statements as rows
 use Rattle.ckc_typed_welltyped.specs.Statements.{act_rows, mode_in_form, WellTypedStmt}
 use Rattle.ckc_typed_welltyped.specs.Parts.{StmtByParts}
 use Rattle.ckc_typed_welltyped.proofs.ByParts.{stmt_by_parts}
-use Rattle.ckc_bounds_known.proofs.Reaching.{and_cases}
-use Rattle.ckc_bounds_statements.specs.Paths.{Path, ActPath, act_declared, act_path, stmt_path, path_of_act, path, stated}
+use Rattle.ckc_blame_sound.specs.ckc_bounds_known.proofs.Reaching.{and_cases}
+use Rattle.ckc_blame_sound.specs.ckc_bounds_statements.specs.Paths.{Path, ActPath, act_declared, act_path, stmt_path, path_of_act, path, stated}
 use Rattle.ckc_blame_sound.specs.Settings.{Setting}
 use Rattle.ckc_blame_sound.specs.Words.{HasWords, exprs_of_act, exprs_in, HaveWords}
 use Rattle.ckc_blame_sound.specs.Safe.{IsSafe, AreSafe}

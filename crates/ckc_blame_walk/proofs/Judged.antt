@@ -4,7 +4,7 @@ use Rattle.ckc_base.specs.Lists.{AreBytes}
 use Rattle.ckc_syntax_limits.specs.Small.{Small}
 use Rattle.ckc_typed.specs.declared.typed.Typed.{Typed}
 use Rattle.ckc_typed_welltyped.specs.Productions.{given_tree}
-use Rattle.ckc_bounds.specs.Frames.{first_fresh}
+use Rattle.ckc_blame_sound.specs.ckc_bounds.specs.Frames.{first_fresh}
 use Rattle.ckc_source.specs.LaidOut.{IsLaidOut}
 use Rattle.ckc_source.specs.Source.{first_state}
 use Rattle.ckc_build_elaborate.specs.Elaborated.{elaborated}

@@ -11,7 +11,7 @@ use Rattle.ckc_typed.specs.Trees.{NotedAct, NotedDecl, NotedStmt}
 use Rattle.ckc_typed_welltyped.specs.Noteless.{BareAct, BareStmt, act_noteless, act_bared, stmt_bared, bare_act, bare_stmt}
 use Rattle.ckc_resolve.specs.Trees.{NamedItem}
 use Rattle.ckc_typed_fit.specs.Tests.{Tests, Walked, act_walked, stmt_walked, walked_act, walked}
-use Rattle.ckc_bounds_statements.specs.Paths.{ActPath, Path, act_declared, act_path, stmt_path, path_of_act, path, stated}
+use Rattle.ckc_blame_sound.specs.ckc_bounds_statements.specs.Paths.{ActPath, Path, act_declared, act_path, stmt_path, path_of_act, path, stated}
 use Rattle.ckc_blame_sound.proofs.Bares.{Layer, bared}
 use Rattle.ckc_blame_walk.specs.Scopes.{tests_of, scope_of}
 

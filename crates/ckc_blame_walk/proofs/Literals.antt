@@ -8,7 +8,7 @@ use Rattle.ckc_syntax.specs.declared.tree.Act.{Act-F, roll-Act}
 use Rattle.ckc_typed.specs.declared.typed.Note.{Note}
 use Rattle.ckc_typed.specs.Statics.{Strings, strings_of_expr, strings_of_value, act_strings, strings_of_stmt}
 use Rattle.ckc_typed.specs.Trees.{NotedAct, NotedExpr, NotedStmt}
-use Rattle.ckc_bounds_statements.specs.Paths.{stated}
+use Rattle.ckc_blame_sound.specs.ckc_bounds_statements.specs.Paths.{stated}
 use Rattle.ckc_build_values.specs.Expressions.{literals_of}
 use Rattle.ckc_build_values.proofs.Counted.{expr_counted}
 use Rattle.ckc_build_elaborate.specs.Literals.{literals_of_value}

@@ -10,10 +10,10 @@ use Rattle.ckc_syntax.specs.declared.tree.Act.TheVariants as act
 use Rattle.ckc_typed.specs.declared.typed.Note.{Note}
 use Rattle.ckc_typed.specs.Statics.{strings_of_expr, strings_of_value, strings_of_stmt}
 use Rattle.ckc_typed.specs.Trees.{NotedDecl, NotedExpr, NotedStmt}
-use Rattle.ckc_bounds_known.proofs.Reaching.{and_cases}
-use Rattle.ckc_bounds_points.specs.declared.frame.Frame.{Frame}
-use Rattle.ckc_bounds_points.specs.Flow.{State}
-use Rattle.ckc_bounds_statements.specs.Paths.{Here, value_judged, maybe_judged, side_of, maybe_side, other_side, maybe_other, Path, stated, part_judged, closed, loop_head, while_judged, maybe_point, to_step, for_judged}
+use Rattle.ckc_blame_sound.specs.ckc_bounds_known.proofs.Reaching.{and_cases}
+use Rattle.ckc_blame_sound.specs.ckc_bounds_points.specs.declared.frame.Frame.{Frame}
+use Rattle.ckc_blame_sound.specs.ckc_bounds_points.specs.Flow.{State}
+use Rattle.ckc_blame_sound.specs.ckc_bounds_statements.specs.Paths.{Here, value_judged, maybe_judged, side_of, maybe_side, other_side, maybe_other, Path, stated, part_judged, closed, loop_head, while_judged, maybe_point, to_step, for_judged}
 use Rattle.ckc_source.specs.Code.{Code, End, Loop, chained}
 use Rattle.ckc_build_values.specs.Expressions.{expr_elaborated, literals_of}
 use Rattle.ckc_build_elaborate.specs.Literals.{literals_of_value}

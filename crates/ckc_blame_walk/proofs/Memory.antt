@@ -11,7 +11,7 @@ use Rattle.ckc_typed.specs.Statics.{blocks}
 use Rattle.ckc_typed.specs.Texts.{globals_of}
 use Rattle.ckc_typed_welltyped.specs.Noteless.{without_notes}
 use Rattle.ckc_typed_welltyped.specs.Texts.{WellTyped}
-use Rattle.ckc_bounds.specs.Texts.{text_judged}
+use Rattle.ckc_blame_sound.specs.ckc_bounds.specs.Texts.{text_judged}
 use Rattle.ckc_source.specs.Blocks.{Block, end_of, first_place}
 use Rattle.ckc_source.specs.LaidOut.{AreApart}
 use Rattle.ckc_source.proofs.Keeping.{from_zero}

@@ -13,18 +13,18 @@ use Rattle.ckc_typed.specs.declared.typed.Note.{Note}
 use Rattle.ckc_typed.specs.Constants.{value_of}
 use Rattle.ckc_typed.specs.Trees.{NotedLimits, NotedNode, NotedExpr, NotedLayer}
 use Rattle.ckc_typed.specs.Types.{is_unsigned, is_integer, is_integer_form}
-use Rattle.ckc_bounds_known.specs.declared.intervals.Interval.{Interval}
-use Rattle.ckc_bounds_known.specs.Shown.{Known, is_shown}
-use Rattle.ckc_bounds_known.specs.Ranges.{range_in, range_of, is_small, below, above}
-use Rattle.ckc_bounds_points.specs.declared.frame.Frame.{Frame}
-use Rattle.ckc_bounds_points.specs.declared.frame.Local.{Local}
-use Rattle.ckc_bounds_points.specs.Frames.{local_at, variable_of, variable}
-use Rattle.ckc_bounds_points.specs.Forms.{constant_form, moved_form, within_interval, in_type}
-use Rattle.ckc_bounds_views.specs.declared.forms.Step.{Step}
-use Rattle.ckc_bounds_views.specs.Parts.{LimitsView, NodeView, View, NodeOfViews}
-use Rattle.ckc_bounds_views.specs.Conditions.{operand_of, operand}
-use Rattle.ckc_bounds_views.specs.Integers.{step_of, form_after, constant_or, integer_form}
-use Rattle.ckc_bounds_views.specs.Views.{limits_view, node_view, expr_view, view_of_limits, view_of_node, view}
+use Rattle.ckc_blame_sound.specs.ckc_bounds_known.specs.declared.intervals.Interval.{Interval}
+use Rattle.ckc_blame_sound.specs.ckc_bounds_known.specs.Shown.{Known, is_shown}
+use Rattle.ckc_blame_sound.specs.ckc_bounds_known.specs.Ranges.{range_in, range_of, is_small, below, above}
+use Rattle.ckc_blame_sound.specs.ckc_bounds_points.specs.declared.frame.Frame.{Frame}
+use Rattle.ckc_blame_sound.specs.ckc_bounds_points.specs.declared.frame.Local.{Local}
+use Rattle.ckc_blame_sound.specs.ckc_bounds_points.specs.Frames.{local_at, variable_of, variable}
+use Rattle.ckc_blame_sound.specs.ckc_bounds_points.specs.Forms.{constant_form, moved_form, within_interval, in_type}
+use Rattle.ckc_blame_sound.specs.ckc_bounds_views.specs.declared.forms.Step.{Step}
+use Rattle.ckc_blame_sound.specs.ckc_bounds_views.specs.Parts.{LimitsView, NodeView, View, NodeOfViews}
+use Rattle.ckc_blame_sound.specs.ckc_bounds_views.specs.Conditions.{operand_of, operand}
+use Rattle.ckc_blame_sound.specs.ckc_bounds_views.specs.Integers.{step_of, form_after, constant_or, integer_form}
+use Rattle.ckc_blame_sound.specs.ckc_bounds_views.specs.Views.{limits_view, node_view, expr_view, view_of_limits, view_of_node, view}
 use Rattle.ckc_blame_sound.specs.Values.{IsIntegerLocal, IsInteger}
 
 -- only integers have a range

@@ -1,8 +1,8 @@
 -- The walk goes on, as it did, and numbers fresh variables upwards.
 use Rattle.std.proofs.Common.{◌≡◌, refl, ◌∙◌, ℕ, Bool, false, arith}
 use Rattle.std.specs.Prelude.{◌<◌, ◌≤◌, ◌^◌, length}
-use Rattle.ckc_bounds_statements.specs.Paths.{Here}
-use Rattle.ckc_bounds_views.specs.Parts.{capped}
+use Rattle.ckc_blame_sound.specs.ckc_bounds_statements.specs.Paths.{Here}
+use Rattle.ckc_blame_sound.specs.ckc_bounds_views.specs.Parts.{capped}
 use Rattle.ckc_blame_sound.specs.Settings.{Setting}
 use Rattle.ckc_blame_sound.specs.Bodies.{IsNextFresh}
 

@@ -17,19 +17,19 @@ use Rattle.ckc_typed.specs.declared.typed.Note.{Note}
 use Rattle.ckc_typed.specs.Trees.{NotedLimits, NotedNode, NotedExpr, NotedLayer, NotedInit, NotedStmt}
 use Rattle.ckc_typed.specs.Types.{element_of}
 use Rattle.ckc_typed.specs.Constants.{size_of}
-use Rattle.ckc_bounds_views.specs.Conditions.{right_point}
-use Rattle.ckc_bounds_points.specs.declared.frame.HeadBounds.{HeadBounds}
-use Rattle.ckc_bounds_points.specs.declared.frame.Frame.{Frame}
-use Rattle.ckc_bounds_points.specs.Shown.{Known}
-use Rattle.ckc_bounds_points.specs.Flow.{State}
-use Rattle.ckc_bounds_views.specs.Parts.{LimitsView, NodeView, View, NodeOfViews, fresh_behind, capped}
-use Rattle.ckc_bounds_views.specs.Judged.{node_judged, there_judged, all_judged, unary_judged, by_fault, expr_made}
-use Rattle.ckc_bounds_views.specs.Ranges.{pointer_range}
-use Rattle.ckc_bounds_views.specs.Views.{limits_view, node_view, expr_view, view_of_limits, view_of_node, view}
-use Rattle.ckc_bounds_stores.specs.Stores.{Store, stores_of, Placed, numbered, received, assigned_local, after, unless_refused, stored, stored_placed, first_fault, passed}
-use Rattle.ckc_bounds_stores.specs.Targets.{local_named, local_in, local_of}
-use Rattle.ckc_bounds_statements.specs.Paths as paths
-use Rattle.ckc_bounds_statements.specs.Paths.{Here, expr_judged, value_judged, values_judged, maybe_judged, init_judged, target_in, local_in_node, stores_judged, behind_stores}
+use Rattle.ckc_blame_sound.specs.ckc_bounds_views.specs.Conditions.{right_point}
+use Rattle.ckc_blame_sound.specs.ckc_bounds_points.specs.declared.frame.HeadBounds.{HeadBounds}
+use Rattle.ckc_blame_sound.specs.ckc_bounds_points.specs.declared.frame.Frame.{Frame}
+use Rattle.ckc_blame_sound.specs.ckc_bounds_points.specs.Shown.{Known}
+use Rattle.ckc_blame_sound.specs.ckc_bounds_points.specs.Flow.{State}
+use Rattle.ckc_blame_sound.specs.ckc_bounds_views.specs.Parts.{LimitsView, NodeView, View, NodeOfViews, fresh_behind, capped}
+use Rattle.ckc_blame_sound.specs.ckc_bounds_views.specs.Judged.{node_judged, there_judged, all_judged, unary_judged, by_fault, expr_made}
+use Rattle.ckc_blame_sound.specs.ckc_bounds_views.specs.Ranges.{pointer_range}
+use Rattle.ckc_blame_sound.specs.ckc_bounds_views.specs.Views.{limits_view, node_view, expr_view, view_of_limits, view_of_node, view}
+use Rattle.ckc_blame_sound.specs.ckc_bounds_stores.specs.Stores.{Store, stores_of, Placed, numbered, received, assigned_local, after, unless_refused, stored, stored_placed, first_fault, passed}
+use Rattle.ckc_blame_sound.specs.ckc_bounds_stores.specs.Targets.{local_named, local_in, local_of}
+use Rattle.ckc_blame_sound.specs.ckc_bounds_statements.specs.Paths as paths
+use Rattle.ckc_blame_sound.specs.ckc_bounds_statements.specs.Paths.{Here, expr_judged, value_judged, values_judged, maybe_judged, init_judged, target_in, local_in_node, stores_judged, behind_stores}
 use Rattle.ckc_blame_walk.specs.Walks.{Stays}
 use Rattle.ckc_blame_walk.proofs.Named.{NamesInteger, in_type_named, form_named}
 use Rattle.ckc_blame_walk.proofs.Flow.{stays_none, stays_through, stays_assigned}

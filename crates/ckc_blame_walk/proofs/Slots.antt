@@ -12,7 +12,7 @@ use Rattle.ckc_typed.specs.declared.typed.Typed.{Typed}
 use Rattle.ckc_typed.specs.Environment.{kind_of_array}
 use Rattle.ckc_typed.specs.Trees.{NotedDecl, NotedItem, NotedLimits}
 use Rattle.ckc_typed.specs.Types.{type_written, kind_in, kind_of, is_integer_form, is_integer}
-use Rattle.ckc_bounds_declared.specs.Written.{takes_bounds_kind, takes_bounds}
+use Rattle.ckc_blame_sound.specs.ckc_bounds_declared.specs.Written.{takes_bounds_kind, takes_bounds}
 use Rattle.ckc_build_values.specs.Kinds.{count_of_kind}
 use Rattle.ckc_build_values.specs.Names.{declares, limits_in, count_declared, count_of_static}
 use Rattle.ckc_blame_sound.specs.Slots.{Slot, slot_by, slots_in, slots_of}

@@ -15,10 +15,10 @@ use Rattle.ckc_typed.specs.Trees.{NotedDecl, NotedExpr, NotedInit, NotedStmt}
 use Rattle.ckc_typed_welltyped.specs.Noteless.{bare_limits, bare_expr, bare_init}
 use Rattle.ckc_resolve.specs.Trees.{NamedItem}
 use Rattle.ckc_typed_fit.specs.Tests.{Walked, type_passes, bounds_pass, expr_passes, value_passes, init_passes, pass_in_turn, left_by}
-use Rattle.ckc_bounds_known.proofs.Reaching.{and_cases}
-use Rattle.ckc_bounds_points.specs.Frames.{local_at}
-use Rattle.ckc_bounds_points.specs.Flow.{in_bounds_of}
-use Rattle.ckc_bounds_statements.specs.Paths.{Path, local_in, act_declared, path}
+use Rattle.ckc_blame_sound.specs.ckc_bounds_known.proofs.Reaching.{and_cases}
+use Rattle.ckc_blame_sound.specs.ckc_bounds_points.specs.Frames.{local_at}
+use Rattle.ckc_blame_sound.specs.ckc_bounds_points.specs.Flow.{in_bounds_of}
+use Rattle.ckc_blame_sound.specs.ckc_bounds_statements.specs.Paths.{Path, local_in, act_declared, path}
 use Rattle.ckc_blame_sound.specs.Settings.{Setting}
 use Rattle.ckc_blame_sound.specs.Steps.{is_simple}
 use Rattle.ckc_blame_sound.specs.Scopes.{NamesOnly, IsNewLocal, StandsInScope, IsTestInScope}

@@ -7,15 +7,15 @@ use Rattle.ckc_base.proofs.Outcomes.{made_of}
 use Rattle.ckc_syntax.specs.declared.tree.Item.TheVariants as item
 use Rattle.ckc_typed.specs.declared.typed.Typed.{Typed}
 use Rattle.ckc_typed.specs.Trees.{NotedDecl, NotedHead, NotedInit, NotedItem, NotedLimits, NotedStmt}
-use Rattle.ckc_bounds_points.specs.declared.frame.Frame.{Frame}
-use Rattle.ckc_bounds_points.specs.declared.frame.Bounds.{Bounds}
-use Rattle.ckc_bounds_points.specs.declared.frame.HeadBounds.{HeadBounds}
-use Rattle.ckc_bounds_statements.specs.DeclBounds.{bounds_there}
-use Rattle.ckc_bounds_statements.specs.Paths.{init_judged}
-use Rattle.ckc_bounds.specs.Declarations.{head_judged, member_holder, types_in, heads_from, with_item, object_bounds_in, objects_of, with_object}
-use Rattle.ckc_bounds.specs.Frames.{structs_frame, text_frame}
-use Rattle.ckc_bounds.specs.Texts.{outside, members_judged, body_judged, item_judged, items_judged}
-use Rattle.ckc_bounds.specs.Phase.{bounding}
+use Rattle.ckc_blame_sound.specs.ckc_bounds_points.specs.declared.frame.Frame.{Frame}
+use Rattle.ckc_blame_sound.specs.ckc_bounds_points.specs.declared.frame.Bounds.{Bounds}
+use Rattle.ckc_blame_sound.specs.ckc_bounds_points.specs.declared.frame.HeadBounds.{HeadBounds}
+use Rattle.ckc_blame_sound.specs.ckc_bounds_statements.specs.DeclBounds.{bounds_there}
+use Rattle.ckc_blame_sound.specs.ckc_bounds_statements.specs.Paths.{init_judged}
+use Rattle.ckc_blame_sound.specs.ckc_bounds.specs.Declarations.{head_judged, member_holder, types_in, heads_from, with_item, object_bounds_in, objects_of, with_object}
+use Rattle.ckc_blame_sound.specs.ckc_bounds.specs.Frames.{structs_frame, text_frame}
+use Rattle.ckc_blame_sound.specs.ckc_bounds.specs.Texts.{outside, members_judged, body_judged, item_judged, items_judged}
+use Rattle.ckc_blame_sound.specs.ckc_bounds.specs.Phase.{bounding}
 use Rattle.ckc_blame_sound.specs.Settings.{frame_of_text}
 use Rattle.ckc_blame_walk.proofs.Pieces.{Gives, through, nested, given}
 use Rattle.ckc_blame_walk.proofs.Flow.{first_in, later_in}

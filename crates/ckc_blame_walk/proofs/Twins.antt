@@ -9,16 +9,16 @@ use Rattle.ckc_syntax.specs.declared.tree.Act.{Act-F, out-Act, the_lemmas}
 use Rattle.ckc_syntax.specs.declared.tree.Act.TheVariants as act
 use Rattle.ckc_typed.specs.declared.typed.Note.{Note}
 use Rattle.ckc_typed.specs.Trees.{NotedAct, NotedDecl, NotedExpr, NotedInit, NotedStmt}
-use Rattle.ckc_bounds_points.specs.declared.frame.HeadBounds.{HeadBounds}
-use Rattle.ckc_bounds_points.specs.declared.frame.Frame.{Frame}
-use Rattle.ckc_bounds_points.specs.Shown.{Known}
-use Rattle.ckc_bounds_points.specs.Flow.{State}
-use Rattle.ckc_bounds_points.specs.Forms.{in_type}
-use Rattle.ckc_bounds_views.specs.Parts.{View, capped, fresh_behind}
-use Rattle.ckc_bounds_views.specs.Views.{view}
-use Rattle.ckc_bounds_stores.specs.Stores.{with_store, stores_of, numbered, assigned_local, after, stored, passed}
-use Rattle.ckc_bounds_stores.specs.Targets.{local_of}
-use Rattle.ckc_bounds_statements.specs.Paths.{Here, expr_judged, value_judged, values_judged, maybe_judged, init_judged, side_of, stated, sides_judged, stores_judged, behind_stores, needs_expr, Path, all_judged, parts_judged, part_judged}
+use Rattle.ckc_blame_sound.specs.ckc_bounds_points.specs.declared.frame.HeadBounds.{HeadBounds}
+use Rattle.ckc_blame_sound.specs.ckc_bounds_points.specs.declared.frame.Frame.{Frame}
+use Rattle.ckc_blame_sound.specs.ckc_bounds_points.specs.Shown.{Known}
+use Rattle.ckc_blame_sound.specs.ckc_bounds_points.specs.Flow.{State}
+use Rattle.ckc_blame_sound.specs.ckc_bounds_points.specs.Forms.{in_type}
+use Rattle.ckc_blame_sound.specs.ckc_bounds_views.specs.Parts.{View, capped, fresh_behind}
+use Rattle.ckc_blame_sound.specs.ckc_bounds_views.specs.Views.{view}
+use Rattle.ckc_blame_sound.specs.ckc_bounds_stores.specs.Stores.{with_store, stores_of, numbered, assigned_local, after, stored, passed}
+use Rattle.ckc_blame_sound.specs.ckc_bounds_stores.specs.Targets.{local_of}
+use Rattle.ckc_blame_sound.specs.ckc_bounds_statements.specs.Paths.{Here, expr_judged, value_judged, values_judged, maybe_judged, init_judged, side_of, stated, sides_judged, stores_judged, behind_stores, needs_expr, Path, all_judged, parts_judged, part_judged}
 
 -- ---- outcomes that agree
 

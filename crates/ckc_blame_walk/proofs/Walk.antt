@@ -18,15 +18,15 @@ use Rattle.ckc_typed.specs.declared.typed.Note.{Note}
 use Rattle.ckc_typed.specs.Trees.{NotedAct, NotedStmt, NotedExpr, NotedDecl, NotedInit}
 use Rattle.ckc_typed.specs.Statics.{strings_of_stmt}
 use Rattle.ckc_typed.specs.Types.{type_written}
-use Rattle.ckc_bounds_known.specs.Shown.{Known}
-use Rattle.ckc_bounds_known.proofs.Reaching.{and_cases}
-use Rattle.ckc_bounds_points.specs.declared.frame.Frame.{Frame}
-use Rattle.ckc_bounds_points.specs.Flow.{State, unreached}
-use Rattle.ckc_bounds_points.specs.Codes.{not_contained, bad_bundle}
-use Rattle.ckc_bounds_views.specs.Views.{view}
-use Rattle.ckc_bounds_stores.specs.Stores.{with_store, stores_of}
-use Rattle.ckc_bounds_stores.specs.Targets.{local_of}
-use Rattle.ckc_bounds_statements.specs.Paths.{Here, value_judged, maybe_judged, init_judged, side_of, target_in, local_in, value_form, start_form, started, starts_within, declared_here, bounds_judged, stated, sides_judged, behind_stores, is_returned, gone, is_good, Path, ActPath, all_judged, parts_judged, bundle_judged, closed, local_judged, assign_judged, call_judged, return_judged, check_judged, block_judged, act_path, stmt_path, path_of_act, path}
+use Rattle.ckc_blame_sound.specs.ckc_bounds_known.specs.Shown.{Known}
+use Rattle.ckc_blame_sound.specs.ckc_bounds_known.proofs.Reaching.{and_cases}
+use Rattle.ckc_blame_sound.specs.ckc_bounds_points.specs.declared.frame.Frame.{Frame}
+use Rattle.ckc_blame_sound.specs.ckc_bounds_points.specs.Flow.{State, unreached}
+use Rattle.ckc_blame_sound.specs.ckc_bounds_points.specs.Codes.{not_contained, bad_bundle}
+use Rattle.ckc_blame_sound.specs.ckc_bounds_views.specs.Views.{view}
+use Rattle.ckc_blame_sound.specs.ckc_bounds_stores.specs.Stores.{with_store, stores_of}
+use Rattle.ckc_blame_sound.specs.ckc_bounds_stores.specs.Targets.{local_of}
+use Rattle.ckc_blame_sound.specs.ckc_bounds_statements.specs.Paths.{Here, value_judged, maybe_judged, init_judged, side_of, target_in, local_in, value_form, start_form, started, starts_within, declared_here, bounds_judged, stated, sides_judged, behind_stores, is_returned, gone, is_good, Path, ActPath, all_judged, parts_judged, bundle_judged, closed, local_judged, assign_judged, call_judged, return_judged, check_judged, block_judged, act_path, stmt_path, path_of_act, path}
 use Rattle.ckc_source.specs.Code.{Code, Return, Check, Bundle, chained}
 use Rattle.ckc_build_elaborate.proofs.Counted as counted
 use Rattle.ckc_build_elaborate.specs.Literals.{literals_of_bounds}

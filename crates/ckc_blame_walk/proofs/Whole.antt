@@ -3,7 +3,7 @@ use Rattle.std.proofs.Common.{◌≡◌, inl, inr, sym, subst, ℕ, true, false}
 use Rattle.std.specs.Prelude.{Ok}
 use Rattle.ckc_typed.specs.Statics.{strings_of_stmt}
 use Rattle.ckc_typed.specs.Trees.{NotedStmt}
-use Rattle.ckc_bounds_statements.specs.Paths.{Here, path}
+use Rattle.ckc_blame_sound.specs.ckc_bounds_statements.specs.Paths.{Here, path}
 use Rattle.ckc_source.specs.Code.{Code, chained}
 use Rattle.ckc_build_elaborate.specs.Statements.{stmt_elaborated}
 use Rattle.ckc_blame_sound.specs.Settings.{Setting, AreStrings}

@@ -12,7 +12,7 @@ use Rattle.ckc_typed.specs.declared.typed.Typed.{Typed}
 use Rattle.ckc_typed.specs.Constants.{size_of}
 use Rattle.ckc_typed.specs.Types.{is_integer}
 use Rattle.ckc_typed_welltyped.specs.Texts.{WellTyped}
-use Rattle.ckc_bounds.specs.Phase.{bounding}
+use Rattle.ckc_blame_sound.specs.ckc_bounds.specs.Phase.{bounding}
 use Rattle.ckc_source.specs.Blocks.{Block, block_of, place_behind, first_place}
 use Rattle.ckc_source.specs.LaidOut.{IsLaidOut}
 use Rattle.ckc_build_values.specs.Members.{member_named}

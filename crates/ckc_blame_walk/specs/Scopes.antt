@@ -10,9 +10,9 @@ use Rattle.ckc_typed_welltyped.specs.Noteless.{bare_limits, bare_stmt, without_n
 use Rattle.ckc_resolve.specs.Trees.{NamedItem}
 use Rattle.ckc_typed_fit.specs.Tests.{Tests, Walked, bounds_pass, walked}
 use Rattle.ckc_typed_fit.specs.Visible.{is_visible, is_declared_member}
-use Rattle.ckc_bounds_points.specs.Frames.{local_at}
-use Rattle.ckc_bounds_points.specs.Flow.{in_bounds_of}
-use Rattle.ckc_bounds_statements.specs.Paths.{path}
+use Rattle.ckc_blame_sound.specs.ckc_bounds_points.specs.Frames.{local_at}
+use Rattle.ckc_blame_sound.specs.ckc_bounds_points.specs.Flow.{in_bounds_of}
+use Rattle.ckc_blame_sound.specs.ckc_bounds_statements.specs.Paths.{path}
 use Rattle.ckc_blame_sound.specs.Settings.{Setting}
 use Rattle.ckc_blame_sound.specs.Numbered.{AreLocals}
 

@@ -8,7 +8,7 @@ ghost use Rattle.ckc_syntax.specs.declared.tree.NamedText.{NamedText};
 ghost use Rattle.ckc_parser.specs.Phase.{SpelledTree, parsing};
 ghost use Rattle.ckc_resolve.specs.Phase.{naming};
 ghost use Rattle.ckc_scopes.specs.Phase.{scoping};
-ghost use Rattle.ckc_bounds.specs.Phase.{bounding};
+ghost use Rattle.ckc_blame_sound.specs.ckc_bounds.specs.Phase.{bounding};
 ghost use Rattle.ckc_typed_welltyped.specs.Texts.{TypedAs};
 ghost use Rattle.ckc_syntax_limits.specs.Small.{Small};
 ghost use Rattle.ckc_typed.specs.declared.typed.Typed.{Typed};

@@ -13,7 +13,7 @@ use Rattle.ckc_lexer.specs.Phase.{lexing}
 use Rattle.ckc_parser.specs.Phase.{parsing}
 use Rattle.ckc_resolve.specs.Phase.{naming}
 use Rattle.ckc_scopes.specs.Phase.{scoping}
-use Rattle.ckc_bounds.specs.Phase.{bounding}
+use Rattle.ckc_blame_sound.specs.ckc_bounds.specs.Phase.{bounding}
 use Rattle.ckc_typed.specs.declared.typed.Note.{Note}
 use Rattle.ckc_typed.specs.declared.typed.Typed.{Typed}
 use Rattle.ckc_typed.specs.Trees.{NotedHead, NotedStmt, NotedItem}

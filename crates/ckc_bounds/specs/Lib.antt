@@ -3,3 +3,10 @@ pub mod Frames
 pub mod Texts
 pub mod Phase
 pub mod code
+pub use Rattle.ckc_bounds_declared
+pub use Rattle.ckc_bounds_points
+pub use Rattle.ckc_bounds_points.specs.ckc_bounds_known
+pub use Rattle.ckc_bounds_statements
+pub use Rattle.ckc_bounds_statements.specs.ckc_bounds_ranges
+pub use Rattle.ckc_bounds_statements.specs.ckc_bounds_stores
+pub use Rattle.ckc_bounds_statements.specs.ckc_bounds_views

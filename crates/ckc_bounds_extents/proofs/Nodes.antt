@@ -6,8 +6,8 @@ use Rattle.ckc_syntax.specs.declared.tree.Expr.{Expr}
 use Rattle.ckc_syntax.specs.declared.tree.Node.{the_lemmas}
 use Rattle.ckc_syntax.specs.declared.tree.Node.TheVariants as node
 use Rattle.ckc_typed.specs.declared.typed.Note.{Note}
-use Rattle.ckc_bounds_points.specs.declared.frame.Frame.{Frame}
-use Rattle.ckc_bounds_points.specs.Flow.{State}
+use Rattle.ckc_bounds_views.specs.ckc_bounds_points.specs.declared.frame.Frame.{Frame}
+use Rattle.ckc_bounds_views.specs.ckc_bounds_points.specs.Flow.{State}
 use Rattle.ckc_bounds_views.specs.declared.variables.Own.{Own}
 use Rattle.ckc_bounds_views.specs.Ranges.{range_of_call}
 use Rattle.ckc_bounds_views.specs.Views.{view, view_of_node}

@@ -4,14 +4,14 @@ ghost use Rattle.std.specs.Prelude.{◌≡◌, is_some, IfOk};
 ghost use Rattle.std.specs.Option.{option_map};
 ghost use Rattle.ckc_typed.specs.Types.{element_of};
 ghost use Rattle.ckc_typed.specs.Constants.{size_of};
-ghost use Rattle.ckc_bounds_points.specs.Shown.{known};
-ghost use Rattle.ckc_bounds_points.specs.Forms.{in_type};
+ghost use Rattle.ckc_bounds_views.specs.ckc_bounds_points.specs.Shown.{known};
+ghost use Rattle.ckc_bounds_views.specs.ckc_bounds_points.specs.Forms.{in_type};
 ghost use Rattle.ckc_types.specs.declared.types.CType.TheVariants as ctype;
 ghost use Rattle.ckc_bounds_views.specs.Fresh.{amount_there};
 ghost use Rattle.ckc_bounds_views.specs.Views.{view, view_of_limits, view_of_node};
 
 use ckc_base::Boxed;
-use ckc_bounds_points::{Frame, Work, elements, in_type};
+use ckc_bounds_views::bounds_points::{Frame, Work, elements, in_type};
 use ckc_bounds_views::form;
 use ckc_linear::{Facts, Form};
 use ckc_syntax::{Expr, Limits, Name, Node};

@@ -2,15 +2,15 @@
 
 ghost use Rattle.std.specs.Prelude.{◌≡◌, ◌++◌, [], map, OnOk, IfOk, MatchOption};
 ghost use Rattle.std.specs.Option.{option_map};
-ghost use Rattle.ckc_bounds_points.specs.Shown.{known};
-ghost use Rattle.ckc_bounds_points.specs.Flow.{state};
+ghost use Rattle.ckc_bounds_views.specs.ckc_bounds_points.specs.Shown.{known};
+ghost use Rattle.ckc_bounds_views.specs.ckc_bounds_points.specs.Flow.{state};
 ghost use Rattle.ckc_bounds_views.specs.Parts.{capped, next_behind, fresh_behind};
 ghost use Rattle.ckc_bounds_views.specs.Fresh.{own_fresh, fresh_there, all_fresh, right_fresh, with_types};
 ghost use Rattle.ckc_bounds_views.specs.Views.{view, view_of_limits, view_of_node};
 
 use crate::amounts::has_form;
 use ckc_base::{Boxed, Seq};
-use ckc_bounds_points::{Frame, Point, Work, add_range};
+use ckc_bounds_views::bounds_points::{Frame, Point, Work, add_range};
 use ckc_bounds_views::{add_some, most_fresh, right_point, type_needed};
 use ckc_linear::Facts;
 use ckc_syntax::{Expr, Limits, Name, Node, TreeOp};

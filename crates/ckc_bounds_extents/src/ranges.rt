@@ -4,18 +4,18 @@ ghost use Rattle.std.specs.Prelude.{◌≡◌, map, length, pos, slice_get, IfOk
 ghost use Rattle.std.specs.Option.{option_map};
 ghost use Rattle.ckc_linear.specs.declared.forms.Base.TheVariants as base;
 ghost use Rattle.ckc_typed.specs.Types.{kind_of};
-ghost use Rattle.ckc_bounds_points.specs.Shown.{known};
-ghost use Rattle.ckc_bounds_points.specs.Flow.{state};
-ghost use Rattle.ckc_bounds_points.specs.Forms.{constant_form};
-ghost use Rattle.ckc_bounds_ranges.specs.Rows.{range_from};
+ghost use Rattle.ckc_bounds_views.specs.ckc_bounds_points.specs.Shown.{known};
+ghost use Rattle.ckc_bounds_views.specs.ckc_bounds_points.specs.Flow.{state};
+ghost use Rattle.ckc_bounds_views.specs.ckc_bounds_points.specs.Forms.{constant_form};
+ghost use Rattle.ckc_bounds_views.specs.ckc_bounds_ranges.specs.Rows.{range_from};
 ghost use Rattle.ckc_bounds_views.specs.Ranges.{range_of_one, range_by_type, range_up_to, range_in_struct, range_of_member, range_of_object, range_of_static, range_of_name, form_or_fresh, range_counted, range_of_cast, range_of_result, range_of_call, range_of_allocation};
 ghost use Rattle.ckc_bounds_views.specs.Views.{view, view_of_limits, view_of_node};
 
 use crate::amounts::{amount, count_allocated, element_size};
 use crate::fresh::{behind_parts, fresh_behind};
 use ckc_base::{Boxed, Bytes, Seq};
-use ckc_bounds_points::{Bounds, Frame, Point, Work, constant_form, moved_form};
-use ckc_bounds_ranges::{
+use ckc_bounds_views::bounds_points::{Bounds, Frame, Point, Work, constant_form, moved_form};
+use ckc_bounds_views::bounds_ranges::{
     range_from, range_of_array, range_of_ends, range_of_local, replaced_bounds,
 };
 use ckc_bounds_views::{

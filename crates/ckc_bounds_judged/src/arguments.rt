@@ -1,18 +1,18 @@
 //! Whether the arguments of a call are contained in the bounds of its parameters.
 
 ghost use Rattle.std.specs.Prelude.{◌≡◌, [], map, slice_get, IfOk, OnOk, Some};
-ghost use Rattle.ckc_bounds_points.specs.Shown.{known};
-ghost use Rattle.ckc_bounds_points.specs.Flow.{state};
-ghost use Rattle.ckc_bounds_views.specs.Arguments.{bases_by, variables_by};
-ghost use Rattle.ckc_bounds_views.specs.Judged.{extended_by, facts_for, is_argument, arguments_fault, head_fault, call_fault};
-ghost use Rattle.ckc_bounds_views.specs.Views.{view};
+ghost use Rattle.ckc_bounds_extents.specs.ckc_bounds_points.specs.Shown.{known};
+ghost use Rattle.ckc_bounds_extents.specs.ckc_bounds_points.specs.Flow.{state};
+ghost use Rattle.ckc_bounds_extents.specs.ckc_bounds_views.specs.Arguments.{bases_by, variables_by};
+ghost use Rattle.ckc_bounds_extents.specs.ckc_bounds_views.specs.Judged.{extended_by, facts_for, is_argument, arguments_fault, head_fault, call_fault};
+ghost use Rattle.ckc_bounds_extents.specs.ckc_bounds_views.specs.Views.{view};
 
 use ckc_base::{Refusal, Seq};
+use ckc_bounds_extents::bounds_points::codes::NOT_CONTAINED;
+use ckc_bounds_extents::bounds_points::{Bounds, Frame, HeadBounds, Local, Point, Work, copied};
+use ckc_bounds_extents::bounds_ranges::{Ends, extend, is_contained, replaced_bounds};
+use ckc_bounds_extents::bounds_views::{bases_by, values, variables_by};
 use ckc_bounds_extents::{add_fresh_ranges, fresh_behind, is_null, range};
-use ckc_bounds_points::codes::NOT_CONTAINED;
-use ckc_bounds_points::{Bounds, Frame, HeadBounds, Local, Point, Work, copied};
-use ckc_bounds_ranges::{Ends, extend, is_contained, replaced_bounds};
-use ckc_bounds_views::{bases_by, values, variables_by};
 use ckc_linear::Facts;
 use ckc_syntax::{Expr, Name};
 use ckc_typed::{Note, Range};

@@ -5,17 +5,17 @@ ghost use Rattle.std.specs.Prelude.{◌≡◌, Bool, true, false, not, map, if�
 ghost use Rattle.std.specs.Option.{option_map};
 ghost use Rattle.ckc_base.specs.Outcomes.{AnswersOutcome, bind};
 ghost use Rattle.ckc_syntax.specs.declared.tree.Node.TheVariants as node;
-ghost use Rattle.ckc_bounds_points.specs.Flow.{state};
-ghost use Rattle.ckc_bounds_views.specs.Judged.{noted_range, expr_made, by_fault, there_judged, all_judged};
-ghost use Rattle.ckc_bounds_views.specs.Conditions.{right_point};
-ghost use Rattle.ckc_bounds_views.specs.Views.{view, view_of_limits, view_of_node};
+ghost use Rattle.ckc_bounds_extents.specs.ckc_bounds_points.specs.Flow.{state};
+ghost use Rattle.ckc_bounds_extents.specs.ckc_bounds_views.specs.Judged.{noted_range, expr_made, by_fault, there_judged, all_judged};
+ghost use Rattle.ckc_bounds_extents.specs.ckc_bounds_views.specs.Conditions.{right_point};
+ghost use Rattle.ckc_bounds_extents.specs.ckc_bounds_views.specs.Views.{view, view_of_limits, view_of_node};
 
 use crate::faults::{counts_bytes, fault_of_node, operand_fault_of_node};
 use ckc_base::{Boxed, Bytes, Fault, Refusal, Seq, refused};
+use ckc_bounds_extents::bounds_points::codes::BAD_LIMITS;
+use ckc_bounds_extents::bounds_points::{Frame, Point, Work};
+use ckc_bounds_extents::bounds_views::right_point;
 use ckc_bounds_extents::{element_size, fresh_behind, range};
-use ckc_bounds_points::codes::BAD_LIMITS;
-use ckc_bounds_points::{Frame, Point, Work};
-use ckc_bounds_views::right_point;
 use ckc_syntax::{Expr, Limits, Name, Node, TreeOp, copied_type};
 use ckc_typed::types::{copied as copied_ctype, is_integer, is_pointer};
 use ckc_typed::{Note, Range};

@@ -2,17 +2,17 @@
 
 ghost use Rattle.std.specs.Prelude.{◌≡◌, slice_get, IfOk};
 ghost use Rattle.ckc_typed.specs.Types.{kind_of};
-ghost use Rattle.ckc_bounds_points.specs.Flow.{state};
-ghost use Rattle.ckc_bounds_views.specs.Judged.{is_multiple_of, counts_bytes, is_counted_kind, is_missing, fault_if, access_fault, is_declared_object, member_has_none};
-ghost use Rattle.ckc_bounds_views.specs.Views.{view, view_of_node};
+ghost use Rattle.ckc_bounds_extents.specs.ckc_bounds_points.specs.Flow.{state};
+ghost use Rattle.ckc_bounds_extents.specs.ckc_bounds_views.specs.Judged.{is_multiple_of, counts_bytes, is_counted_kind, is_missing, fault_if, access_fault, is_declared_object, member_has_none};
+ghost use Rattle.ckc_bounds_extents.specs.ckc_bounds_views.specs.Views.{view, view_of_node};
 
 use crate::arguments::call_fault;
 use ckc_base::{Pos, Refusal};
+use ckc_bounds_extents::bounds_points::codes::{BOUNDS_ADDRESS, UNKNOWN_BOUNDS};
+use ckc_bounds_extents::bounds_points::{Frame, Point, Work};
+use ckc_bounds_extents::bounds_ranges::has_no_address;
+use ckc_bounds_extents::bounds_views::{Member, member_of_node, number};
 use ckc_bounds_extents::range;
-use ckc_bounds_points::codes::{BOUNDS_ADDRESS, UNKNOWN_BOUNDS};
-use ckc_bounds_points::{Frame, Point, Work};
-use ckc_bounds_ranges::has_no_address;
-use ckc_bounds_views::{Member, member_of_node, number};
 use ckc_syntax::{Expr, Name, Node, TreeOp};
 use ckc_typed::amounts::is_multiple;
 use ckc_typed::constants::value_of;

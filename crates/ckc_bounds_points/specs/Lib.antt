@@ -3,3 +3,4 @@ pub mod Frames
 pub mod Flow
 pub mod Forms
 pub mod Codes
+pub use Rattle.ckc_bounds_known

@@ -7,9 +7,9 @@ ghost use Rattle.ckc_bounds_statements.specs.Paths.{side_of, expr_judged, value_
 ghost use Rattle.ckc_bounds_statements.specs.Walks.{here};
 
 use ckc_base::{Boxed, Fault, Seq};
-use ckc_bounds_extents::fresh_behind;
 use ckc_bounds_judged::judge;
 use ckc_bounds_points::{Frame, Point, Work};
+use ckc_bounds_stores::bounds_extents::fresh_behind;
 use ckc_bounds_views::to_side;
 use ckc_syntax::{Expr, Init, Name, copied_expr};
 use ckc_typed::Note;

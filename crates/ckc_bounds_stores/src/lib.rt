@@ -9,4 +9,5 @@ mod stores;
 mod targets;
 mod values;
 
+pub use ckc_bounds_extents as bounds_extents;
 pub use stores::{initialised, pass, returned, stored};

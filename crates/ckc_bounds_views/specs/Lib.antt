@@ -7,3 +7,5 @@ pub mod Arguments
 pub mod Ranges
 pub mod Judged
 pub mod Views
+pub use Rattle.ckc_bounds_points
+pub use Rattle.ckc_bounds_ranges

@@ -8,6 +8,8 @@ mod places;
 mod variables;
 
 pub use arguments::{add_some, bases_by, own_by, variables_by};
+pub use ckc_bounds_points as bounds_points;
+pub use ckc_bounds_ranges as bounds_ranges;
 pub use conditions::{behind, narrow, right_point, to_side};
 pub use forms::{Step, form, number};
 pub use places::{is_raw, is_raw_kind, place, target, values, values_of_node};

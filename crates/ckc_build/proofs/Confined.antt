@@ -19,7 +19,7 @@ use Rattle.ckc_source.specs.Code.{Program}
 use Rattle.ckc_source.specs.Source.{source_system, first_state}
 use Rattle.ckc_source.specs.States.{State, settled}
 use Rattle.ckc_source.specs.Steps.{Write}
-use Rattle.ckc_blame_steps.specs.Stores.{LiesThere, LieThere, PlansLieAt, PlansLie}
+use Rattle.ckc_build_forms.specs.ckc_blame_steps.specs.Stores.{LiesThere, LieThere, PlansLieAt, PlansLie}
 use Rattle.ckc_build.specs.Confined.{StaysInside, StoresStayInside}
 
 of_lies : (blocks : List Block) (to : Place) (n at : ℕ) (width : Width) (value : ℕ) → LiesThere blocks to → IsOf to n at width value → IsTrue (lies_in width at blocks)

@@ -9,17 +9,18 @@ ghost use Rattle.ckc_checks_operands.specs.Compilable.{IsCompilable};
 ghost use Rattle.ckc_checks_operands.specs.Weights.{program_weight, most_weight};
 ghost use Rattle.ckc_blame.specs.Blamed.{IsBlamed, IsNeverStuck};
 ghost use Rattle.ckc_blame.specs.Checked.{WhollyChecked};
-ghost use Rattle.ckc_blame_steps.specs.Stores.{PlansLie};
-ghost use Rattle.ckc_blame_steps.specs.Unchecked.{AreStoresBlamed};
+ghost use Rattle.ckc_build_forms.specs.ckc_blame_steps.specs.Stores.{PlansLie};
+ghost use Rattle.ckc_build_forms.specs.ckc_blame_steps.specs.Unchecked.{AreStoresBlamed};
 ghost use Rattle.ckc_build_elaborate.specs.Elaborated.{elaborated};
 ghost use Rattle.ckc_build_words.specs.Words.{WordsFit};
 ghost use Rattle.ckc_typed.specs.declared.typed.Typed.{Typed};
 ghost use Rattle.ckc_build.specs.Codes.{IsTextCode};
 ghost use Rattle.ckc_build.specs.Meanings.{HasMeaning, IsWhollyChecked, judging, reading};
 
-use ckc_blame_steps::{accepted_stores_lie, accepted_texts_are_blamed, stores_are_to_blame};
-use ckc_build_forms::accepted_texts_have_the_form;
-use ckc_build_sizes::{marks_stay, programs_are_small};
+use ckc_build_forms::{
+    accepted_stores_lie, accepted_texts_are_blamed, accepted_texts_have_the_form, marks_stay,
+    programs_are_small, stores_are_to_blame,
+};
 use ckc_typed_fit::small_stays;
 use ckc_typed_welltyped::{counts_stay, texts_exactly};
 

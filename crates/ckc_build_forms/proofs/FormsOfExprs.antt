@@ -18,21 +18,21 @@ use Rattle.ckc_typed.specs.Trees.{Item, NotedLimits, NotedNode, NotedExpr, Noted
 use Rattle.ckc_typed_fit.specs.Tests.{type_passes, expr_passes}
 use Rattle.ckc_typed_welltyped.specs.Expressions.{WellTypedExpr, IsNoted}
 use Rattle.ckc_typed_welltyped.specs.Noteless.{BareLimits, BareNode, BareExpr, limits_bared, node_bared, expr_bared, bare_expr}
-use Rattle.ckc_bounds_known.proofs.Reaching.{and_cases}
-use Rattle.ckc_bounds_points.specs.Flow.{State}
-use Rattle.ckc_bounds_views.specs.Views.{view}
-use Rattle.ckc_bounds_statements.specs.Paths.{Here, expr_judged, value_judged}
-use Rattle.ckc_blame_sound.specs.Settings.{Setting}
-use Rattle.ckc_blame_sound.specs.Typed.{HasRow, IsTyped}
-use Rattle.ckc_blame_sound.specs.Words.{HasWords}
-use Rattle.ckc_blame_sound.proofs.Every.{LimitsLayer, ExprLayer, EachExpr, each_follows}
-use Rattle.ckc_blame_sound.proofs.TypedBodies.{expressions_are_typed}
-use Rattle.ckc_blame_sound.proofs.Judging.{Gives, bound, judged_typed}
-use Rattle.ckc_blame_sound.proofs.KeptTrees.{same_fold}
+use Rattle.ckc_blame_steps.specs.ckc_bounds_known.proofs.Reaching.{and_cases}
+use Rattle.ckc_blame_steps.specs.ckc_bounds_points.specs.Flow.{State}
+use Rattle.ckc_blame_steps.specs.ckc_bounds_views.specs.Views.{view}
+use Rattle.ckc_blame_steps.specs.ckc_bounds_statements.specs.Paths.{Here, expr_judged, value_judged}
+use Rattle.ckc_blame_steps.specs.ckc_blame_sound.specs.Settings.{Setting}
+use Rattle.ckc_blame_steps.specs.ckc_blame_sound.specs.Typed.{HasRow, IsTyped}
+use Rattle.ckc_blame_steps.specs.ckc_blame_sound.specs.Words.{HasWords}
+use Rattle.ckc_blame_steps.specs.ckc_blame_sound.proofs.Every.{LimitsLayer, ExprLayer, EachExpr, each_follows}
+use Rattle.ckc_blame_steps.specs.ckc_blame_sound.proofs.TypedBodies.{expressions_are_typed}
+use Rattle.ckc_blame_steps.specs.ckc_blame_sound.proofs.Judging.{Gives, bound, judged_typed}
+use Rattle.ckc_blame_steps.specs.ckc_blame_sound.proofs.KeptTrees.{same_fold}
 use Rattle.ckc_blame_steps.proofs.Down.{AllDown, DownLimits, Down, each_down}
-use Rattle.ckc_blame_walk.proofs.Exprs.{node_open, expr_follows}
-use Rattle.ckc_blame_walk.proofs.Sized.{tag_tests}
-use Rattle.ckc_blame_walk.proofs.Sizes.{HasMembers}
+use Rattle.ckc_blame_steps.specs.ckc_blame_walk.proofs.Exprs.{node_open, expr_follows}
+use Rattle.ckc_blame_steps.specs.ckc_blame_walk.proofs.Sized.{tag_tests}
+use Rattle.ckc_blame_steps.specs.ckc_blame_walk.proofs.Sizes.{HasMembers}
 use Rattle.ckc_typed.specs.Layouts.{structs_of}
 use Rattle.ckc_build_forms.proofs.FormsOfValues.{IsShortNode, HasShort, IsFitting, Good}
 use Rattle.ckc_build_forms.proofs.RangesNoted.{HasNoRange, HasItsRange, ranges_noted}

@@ -23,7 +23,7 @@ use Rattle.ckc_typed.specs.Declarations.{is_checked_kind}
 use Rattle.ckc_typed.specs.Environment.{is_member_named, member_type}
 use Rattle.ckc_typed.specs.Operands.{common, arithmetic_type, distance_type, is_moved, is_moved_kind, same_element, sum_type, difference_type, index_type}
 use Rattle.ckc_typed.specs.Types.{element_of, is_char, is_integer, is_integer_form, is_pointer, is_pointer_form, is_scalar, is_void, kind_of}
-use Rattle.ckc_bounds_views.specs.Judged.{is_counted_kind}
+use Rattle.ckc_blame_steps.specs.ckc_bounds_views.specs.Judged.{is_counted_kind}
 use Rattle.ckc_source.specs.declared.expr.Access.{Access}
 use Rattle.ckc_source.specs.declared.expr.Count.{Count}
 use Rattle.ckc_source.specs.declared.expr.Integer.{Integer}
@@ -37,10 +37,10 @@ use Rattle.ckc_build_values.specs.Kinds.{is_signed, size_behind, through_kind}
 use Rattle.ckc_build_values.specs.Members.{has_member, offset_of}
 use Rattle.ckc_build_values.specs.Operators.{converted, cast, unary, binary, is_signed_at, shift, distance, of_operands, elements_in}
 use Rattle.ckc_build_values.specs.Places.{Place, element_place, target_place, member_place, nowhere, read_at, address_at}
-use Rattle.ckc_blame_sound.proofs.Accesses.{member_part}
-use Rattle.ckc_blame_sound.proofs.Parts.{part_lies}
-use Rattle.ckc_blame_sound.proofs.Sizes.{sizes_are_small}
-use Rattle.ckc_blame_sound.proofs.Types.{no_pointer}
+use Rattle.ckc_blame_steps.specs.ckc_blame_sound.proofs.Accesses.{member_part}
+use Rattle.ckc_blame_steps.specs.ckc_blame_sound.proofs.Parts.{part_lies}
+use Rattle.ckc_blame_steps.specs.ckc_blame_sound.proofs.Sizes.{sizes_are_small}
+use Rattle.ckc_blame_steps.specs.ckc_blame_sound.proofs.Types.{no_pointer}
 use Rattle.ckc_build_values.specs.Kinds.{width_of}
 use Rattle.ckc_build_forms.proofs.Forms.{RangedForm, RangeForm, BoundedForm, JudgedForm, AccessForm, ShiftForm, CastForm, ExprForm}
 use Rattle.ckc_build_forms.proofs.SoundTypes.{IsSound, counted_sized}

@@ -31,26 +31,26 @@ use Rattle.ckc_typed_welltyped.specs.Noteless.{bare_expr, bare_init}
 use Rattle.ckc_typed_welltyped.specs.Productions.{Given, given_act, given_stmt, begins, steps, callless_expr, callless_value}
 use Rattle.ckc_typed_welltyped.specs.Statements.{IsCondition, act_rows, WellTypedStmt}
 use Rattle.ckc_typed_welltyped.proofs.ByParts.{stmt_by_parts}
-use Rattle.ckc_bounds_known.proofs.Reaching.{and_cases}
-use Rattle.ckc_bounds_points.specs.Codes.{bad_bundle, not_contained}
-use Rattle.ckc_bounds_points.specs.Flow.{State}
-use Rattle.ckc_bounds_ranges.specs.Bundles.{is_bundle}
-use Rattle.ckc_bounds_statements.specs.Paths.{Here, is_good, value_judged, maybe_judged, bounds_judged, init_judged, starts_within, declared_here, decl_judged, stated, sides_judged, behind_stores, stores_judged, is_returned, gone, Branch, Start, branched, for_started, to_step, Path, ActPath, act_declared, all_judged, parts_judged, bundle_judged, part_judged, act_path, stmt_path, path_of_act, path, local_judged, call_judged, return_judged, check_judged, if_judged, while_judged, for_judged, loop_head}
+use Rattle.ckc_blame_steps.specs.ckc_bounds_known.proofs.Reaching.{and_cases}
+use Rattle.ckc_blame_steps.specs.ckc_bounds_points.specs.Codes.{bad_bundle, not_contained}
+use Rattle.ckc_blame_steps.specs.ckc_bounds_points.specs.Flow.{State}
+use Rattle.ckc_blame_steps.specs.ckc_bounds_ranges.specs.Bundles.{is_bundle}
+use Rattle.ckc_blame_steps.specs.ckc_bounds_statements.specs.Paths.{Here, is_good, value_judged, maybe_judged, bounds_judged, init_judged, starts_within, declared_here, decl_judged, stated, sides_judged, behind_stores, stores_judged, is_returned, gone, Branch, Start, branched, for_started, to_step, Path, ActPath, act_declared, all_judged, parts_judged, bundle_judged, part_judged, act_path, stmt_path, path_of_act, path, local_judged, call_judged, return_judged, check_judged, if_judged, while_judged, for_judged, loop_head}
 use Rattle.ckc_source.specs.Code.{Target, Right, Code, End, Function, chained}
 use Rattle.ckc_build_elaborate.specs.Functions.{functions_elaborated}
 use Rattle.ckc_build_elaborate.specs.Literals.{literals_of_bounds}
 use Rattle.ckc_build_elaborate.specs.Steps.{spot, nowhere, destination_of, destination_for, is_terminated}
 use Rattle.ckc_build_elaborate.specs.Statements.{Part, act_code, part_of, one, alone, code_if, literals_if, all_code, all_assigns, turns, stmt_elaborated}
 use Rattle.ckc_build_values.specs.Expressions.{literals_of}
-use Rattle.ckc_blame_sound.specs.Settings.{Setting}
-use Rattle.ckc_blame_sound.specs.Words.{HasWords, exprs_in, exprs_of_act}
-use Rattle.ckc_blame_sound.proofs.Given.{given_inside, given_are}
-use Rattle.ckc_blame_sound.proofs.Judging.{Gives, bound}
-use Rattle.ckc_blame_sound.proofs.Strings.{strings_inside, strings_are}
-use Rattle.ckc_blame_sound.proofs.Words.{exprs_inside, exprs_are}
-use Rattle.ckc_blame_walk.proofs.Layers.{act_paths, declared_are, walk_of, act_walk, walk_are}
-use Rattle.ckc_blame_walk.proofs.Sized.{tag_tests}
-use Rattle.ckc_blame_walk.proofs.Sizes.{HasMembers}
+use Rattle.ckc_blame_steps.specs.ckc_blame_sound.specs.Settings.{Setting}
+use Rattle.ckc_blame_steps.specs.ckc_blame_sound.specs.Words.{HasWords, exprs_in, exprs_of_act}
+use Rattle.ckc_blame_steps.specs.ckc_blame_sound.proofs.Given.{given_inside, given_are}
+use Rattle.ckc_blame_steps.specs.ckc_blame_sound.proofs.Judging.{Gives, bound}
+use Rattle.ckc_blame_steps.specs.ckc_blame_sound.proofs.Strings.{strings_inside, strings_are}
+use Rattle.ckc_blame_steps.specs.ckc_blame_sound.proofs.Words.{exprs_inside, exprs_are}
+use Rattle.ckc_blame_steps.specs.ckc_blame_walk.proofs.Layers.{act_paths, declared_are, walk_of, act_walk, walk_are}
+use Rattle.ckc_blame_steps.specs.ckc_blame_walk.proofs.Sized.{tag_tests}
+use Rattle.ckc_blame_steps.specs.ckc_blame_walk.proofs.Sizes.{HasMembers}
 use Rattle.ckc_build_forms.proofs.Forms.{AssignsForm, CodeForm}
 use Rattle.ckc_build_forms.proofs.FormsOfExprs.{left_of, right_of, IsShort, AreShort, Made, value_fits}
 use Rattle.ckc_build_forms.proofs.FormsOfSteps.{HaveParams, nowhere_arrives, place_arrives, local_arrives, part_form, target_is, right_is, assigned_form_is, InitGood, started_form, returned_form, condition_form}

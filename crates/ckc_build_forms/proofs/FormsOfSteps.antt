@@ -26,8 +26,8 @@ use Rattle.ckc_build_values.specs.Operators.{converted}
 use Rattle.ckc_build_elaborate.specs.Functions.{functions_elaborated}
 use Rattle.ckc_build_elaborate.specs.Names.{number_of, params_of}
 use Rattle.ckc_build_elaborate.specs.Steps.{Destination, nowhere, memory, target_form, target_of, kept_form, destination_of, destination_for, right_form, right_of, argument, arguments, first_of, called, assigned_form, assigned, started, returned, condition}
-use Rattle.ckc_blame_sound.specs.Settings.{Setting}
-use Rattle.ckc_blame_sound.proofs.Every.{ExprLayer, EachExpr, EachLimits}
+use Rattle.ckc_blame_steps.specs.ckc_blame_sound.specs.Settings.{Setting}
+use Rattle.ckc_blame_steps.specs.ckc_blame_sound.proofs.Every.{ExprLayer, EachExpr, EachLimits}
 use Rattle.ckc_blame_steps.proofs.Down.{AllDown, Down, each_parts}
 use Rattle.ckc_build_forms.proofs.DepthsOfParts.{converted_deep}
 use Rattle.ckc_build_forms.proofs.DepthsOfValues.{value_deep, place_deep}

@@ -39,9 +39,9 @@ use Rattle.ckc_build_values.specs.Names.{address_of, array_of, bytes_of, count_o
 use Rattle.ckc_build_values.specs.Operators.{outside, cast, unary, of_operands, is_signed_at}
 use Rattle.ckc_build_values.specs.Places.{Place, object_place, name_place, nowhere, element_place, target_place, member_place, read_at, address_at}
 use Rattle.ckc_build_values.specs.Expressions.{local_in, static_in, named, Part, NodePart, LimitsPart, limits_parts, node_parts, expr_parts, form_if, part_of, part_of_node, part_of_limits, expr_elaborated, place_elaborated}
-use Rattle.ckc_blame_sound.specs.Settings.{Setting}
-use Rattle.ckc_blame_sound.specs.Typed.{IsRow}
-use Rattle.ckc_blame_sound.proofs.Every.{LimitsLayer, ExprLayer, EachLimits, EachNode, EachExpr, LimitsParts, NodeParts, limits_hold, node_hold, inside, each_follows}
+use Rattle.ckc_blame_steps.specs.ckc_blame_sound.specs.Settings.{Setting}
+use Rattle.ckc_blame_steps.specs.ckc_blame_sound.specs.Typed.{IsRow}
+use Rattle.ckc_blame_steps.specs.ckc_blame_sound.proofs.Every.{LimitsLayer, ExprLayer, EachLimits, EachNode, EachExpr, LimitsParts, NodeParts, limits_hold, node_hold, inside, each_follows}
 use Rattle.ckc_blame_steps.proofs.ObjectTypes.{element_is_object}
 use Rattle.ckc_build_forms.proofs.Forms.{LimitsForm, ExprForm}
 use Rattle.ckc_build_forms.proofs.FormsOfParts.{Means, PlaceMeans, IsLow, number_means, array_means, choice_means, trusted_means, tested_means, tested_size, element_means, target_means, element_low, member_means, member_low, nowhere_means, nowhere_low, address_means, read_means, cast_means, unary_means, add_means, index_moves, sum_means, difference_means, other_means, elements_form, arrow_low}

@@ -21,14 +21,14 @@ use Rattle.ckc_build_elaborate.specs.Lists.{numbered}
 use Rattle.ckc_build_elaborate.specs.Names.{number_of}
 use Rattle.ckc_build_elaborate.specs.Objects.{count_declared}
 use Rattle.ckc_build_sizes.proofs.Marked.{is_marked}
-use Rattle.ckc_blame_sound.specs.JudgedTexts.{IsJudged}
-use Rattle.ckc_blame_sound.proofs.Functions.{tree_named}
-use Rattle.ckc_blame_sound.proofs.Strings.{NumbersStrings, numbers_first, numbers_later}
-use Rattle.ckc_blame_sound.proofs.Tallies.{tally, is_tally, tally-append}
+use Rattle.ckc_blame_steps.specs.ckc_blame_sound.specs.JudgedTexts.{IsJudged}
+use Rattle.ckc_blame_steps.specs.ckc_blame_sound.proofs.Functions.{tree_named}
+use Rattle.ckc_blame_steps.specs.ckc_blame_sound.proofs.Strings.{NumbersStrings, numbers_first, numbers_later}
+use Rattle.ckc_blame_steps.specs.ckc_blame_sound.proofs.Tallies.{tally, is_tally, tally-append}
 use Rattle.ckc_blame_steps.proofs.ExpressionRooms.{texts_are_few}
 use Rattle.ckc_blame_steps.proofs.Small.{few_variables}
-use Rattle.ckc_blame_walk.proofs.Main.{find_function}
-use Rattle.ckc_blame_walk.proofs.Mains.{main_bare}
+use Rattle.ckc_blame_steps.specs.ckc_blame_walk.proofs.Main.{find_function}
+use Rattle.ckc_blame_steps.specs.ckc_blame_walk.proofs.Mains.{main_bare}
 use Rattle.ckc_build_forms.proofs.NodesOfStatements.{stmt_small}
 
 -- ---- functions, one after another

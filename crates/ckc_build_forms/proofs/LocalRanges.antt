@@ -13,23 +13,23 @@ use Rattle.ckc_typed.specs.declared.typed.Typed.{Typed}
 use Rattle.ckc_typed.specs.Environment.{variables_of}
 use Rattle.ckc_typed.specs.Trees.{NotedHead, NotedStmt}
 use Rattle.ckc_typed.specs.Types.{is_integer, is_integer_form, is_pointer, is_pointer_form}
-use Rattle.ckc_bounds.specs.Declarations.{few_of, first_of, declared_in, head_bounds}
-use Rattle.ckc_bounds.specs.Frames.{all_of, first_fresh, fresh_needed, nameless, locals_frame, function_frame}
-use Rattle.ckc_bounds_points.specs.declared.frame.Bounds.{Bounds}
-use Rattle.ckc_bounds_points.specs.declared.frame.Bounds.TheVariants as bounds
-use Rattle.ckc_bounds_points.specs.declared.frame.Frame.{Frame}
-use Rattle.ckc_bounds_points.specs.declared.frame.Local.{Local}
-use Rattle.ckc_bounds_points.specs.Forms.{is_small, moved_form}
-use Rattle.ckc_bounds_points.specs.Frames.{local_at}
-use Rattle.ckc_bounds_ranges.specs.Rows.{range_moved, range_of_bounds, range_widened, range_by}
+use Rattle.ckc_blame_steps.specs.ckc_bounds.specs.Declarations.{few_of, first_of, declared_in, head_bounds}
+use Rattle.ckc_blame_steps.specs.ckc_bounds.specs.Frames.{all_of, first_fresh, fresh_needed, nameless, locals_frame, function_frame}
+use Rattle.ckc_blame_steps.specs.ckc_bounds_points.specs.declared.frame.Bounds.{Bounds}
+use Rattle.ckc_blame_steps.specs.ckc_bounds_points.specs.declared.frame.Bounds.TheVariants as bounds
+use Rattle.ckc_blame_steps.specs.ckc_bounds_points.specs.declared.frame.Frame.{Frame}
+use Rattle.ckc_blame_steps.specs.ckc_bounds_points.specs.declared.frame.Local.{Local}
+use Rattle.ckc_blame_steps.specs.ckc_bounds_points.specs.Forms.{is_small, moved_form}
+use Rattle.ckc_blame_steps.specs.ckc_bounds_points.specs.Frames.{local_at}
+use Rattle.ckc_blame_steps.specs.ckc_bounds_ranges.specs.Rows.{range_moved, range_of_bounds, range_widened, range_by}
 use Rattle.ckc_source.specs.Code.{Function}
 use Rattle.ckc_checks_operands.specs.Compilable.{IsVariable}
 use Rattle.ckc_build_values.specs.Ends.{base_at, variable_at, local_variable, end_at, limits_at}
-use Rattle.ckc_blame_sound.specs.Ends.{IsBase, IsCounted, IsEnd, AreEnds}
-use Rattle.ckc_blame_sound.specs.JudgedTexts.{IsJudged}
-use Rattle.ckc_blame_sound.specs.Settings.{Setting, IsFunction, frame_of_text, setting_of}
-use Rattle.ckc_blame_sound.proofs.Frames.{first_at, locals_counted}
-use Rattle.ckc_blame_declared.proofs.HaveEnds.{locals_have_ends}
+use Rattle.ckc_blame_steps.specs.ckc_blame_sound.specs.Ends.{IsBase, IsCounted, IsEnd, AreEnds}
+use Rattle.ckc_blame_steps.specs.ckc_blame_sound.specs.JudgedTexts.{IsJudged}
+use Rattle.ckc_blame_steps.specs.ckc_blame_sound.specs.Settings.{Setting, IsFunction, frame_of_text, setting_of}
+use Rattle.ckc_blame_steps.specs.ckc_blame_sound.proofs.Frames.{first_at, locals_counted}
+use Rattle.ckc_blame_steps.specs.ckc_blame_declared.proofs.HaveEnds.{locals_have_ends}
 use Rattle.ckc_source.specs.declared.expr.Base.TheVariants as ends
 use Rattle.ckc_build_forms.proofs.Forms.{BaseForm, EndForm, LimitsForm}
 use Rattle.ckc_build_forms.proofs.RangesNoted.{IsRangeOf}

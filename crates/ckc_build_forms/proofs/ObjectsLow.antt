@@ -24,12 +24,12 @@ use Rattle.ckc_checks_operands.specs.Compilable.{BeginsLow}
 use Rattle.ckc_build_values.specs.Names.{address_in, address_of, bytes_in, bytes_of}
 use Rattle.ckc_build_elaborate.specs.Lists.{beside}
 use Rattle.ckc_build_elaborate.specs.Objects.{object_elaborated, run_in, objects_elaborated}
-use Rattle.ckc_blame_sound.specs.JudgedTexts.{IsJudged}
-use Rattle.ckc_blame_sound.proofs.Bounded.{is_bounded}
-use Rattle.ckc_blame_sound.proofs.Functions.{all_made}
-use Rattle.ckc_blame_sound.proofs.Ranges.{contains_at}
-use Rattle.ckc_blame_walk.proofs.Placed.{IsLaid, placed_laid}
-use Rattle.ckc_blame_walk.proofs.Starts.{IsBegun, blocks_begun}
+use Rattle.ckc_blame_steps.specs.ckc_blame_sound.specs.JudgedTexts.{IsJudged}
+use Rattle.ckc_blame_steps.specs.ckc_blame_sound.proofs.Bounded.{is_bounded}
+use Rattle.ckc_blame_steps.specs.ckc_blame_sound.proofs.Functions.{all_made}
+use Rattle.ckc_blame_steps.specs.ckc_blame_sound.proofs.Ranges.{contains_at}
+use Rattle.ckc_blame_steps.specs.ckc_blame_walk.proofs.Placed.{IsLaid, placed_laid}
+use Rattle.ckc_blame_steps.specs.ckc_blame_walk.proofs.Starts.{IsBegun, blocks_begun}
 use Rattle.ckc_build_forms.proofs.SoundTypes.{char_out}
 use Rattle.ckc_build_forms.proofs.FormsOfExprs.{IsShort, AreShort, left_of, right_of}
 

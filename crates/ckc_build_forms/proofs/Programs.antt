@@ -21,32 +21,32 @@ use Rattle.ckc_typed.specs.Types.{type_written}
 use Rattle.ckc_typed_fit.specs.Tests.{item_passes, head_passes, walked, names_declared}
 use Rattle.ckc_typed_welltyped.specs.Noteless.{bare_head, bare_item, bare_stmt}
 use Rattle.ckc_typed_welltyped.specs.Productions.{given_tree}
-use Rattle.ckc_bounds.specs.Frames.{all_of, function_frame, begin_of}
-use Rattle.ckc_bounds.specs.Texts.{body_judged}
-use Rattle.ckc_bounds_known.proofs.Reaching.{and_cases}
-use Rattle.ckc_bounds_points.specs.declared.frame.Frame.{Frame}
+use Rattle.ckc_blame_steps.specs.ckc_bounds.specs.Frames.{all_of, function_frame, begin_of}
+use Rattle.ckc_blame_steps.specs.ckc_bounds.specs.Texts.{body_judged}
+use Rattle.ckc_blame_steps.specs.ckc_bounds_known.proofs.Reaching.{and_cases}
+use Rattle.ckc_blame_steps.specs.ckc_bounds_points.specs.declared.frame.Frame.{Frame}
 use Rattle.ckc_base.specs.Outcomes.{bind}
-use Rattle.ckc_bounds_statements.specs.Paths.{Here, path}
+use Rattle.ckc_blame_steps.specs.ckc_bounds_statements.specs.Paths.{Here, path}
 use Rattle.ckc_source.specs.Code.{Function}
 use Rattle.ckc_checks_operands.specs.Compilable.{HasParams, IsCompilableFunction, IsCompilable}
 use Rattle.ckc_build_elaborate.specs.Elaborated.{elaborated}
 use Rattle.ckc_build_elaborate.specs.Functions.{literals_of_head, function_elaborated, functions_elaborated}
 use Rattle.ckc_build_elaborate.specs.Objects.{count_declared}
 use Rattle.ckc_build_words.specs.Words.{FunctionsFit, WordsFit}
-use Rattle.ckc_blame_sound.specs.JudgedTexts.{IsJudged, IsBodyJudged, globals_in}
-use Rattle.ckc_blame_sound.specs.Settings.{Setting, IsFunction, setting_of, frame_of_text}
-use Rattle.ckc_blame_sound.specs.Words.{HaveWords, HasWords, exprs_in}
-use Rattle.ckc_blame_sound.proofs.Bodies.{bodies_are_typed, declared_known}
-use Rattle.ckc_blame_sound.proofs.Frames.{types_declared, variables_have, variables_moved, named_type, statics_named}
-use Rattle.ckc_blame_sound.proofs.Functions.{all_made, numbered, tree_named}
-use Rattle.ckc_blame_sound.proofs.Literals.{text_strings}
-use Rattle.ckc_blame_sound.proofs.Strings.{NumbersStrings}
+use Rattle.ckc_blame_steps.specs.ckc_blame_sound.specs.JudgedTexts.{IsJudged, IsBodyJudged, globals_in}
+use Rattle.ckc_blame_steps.specs.ckc_blame_sound.specs.Settings.{Setting, IsFunction, setting_of, frame_of_text}
+use Rattle.ckc_blame_steps.specs.ckc_blame_sound.specs.Words.{HaveWords, HasWords, exprs_in}
+use Rattle.ckc_blame_steps.specs.ckc_blame_sound.proofs.Bodies.{bodies_are_typed, declared_known}
+use Rattle.ckc_blame_steps.specs.ckc_blame_sound.proofs.Frames.{types_declared, variables_have, variables_moved, named_type, statics_named}
+use Rattle.ckc_blame_steps.specs.ckc_blame_sound.proofs.Functions.{all_made, numbered, tree_named}
+use Rattle.ckc_blame_steps.specs.ckc_blame_sound.proofs.Literals.{text_strings}
+use Rattle.ckc_blame_steps.specs.ckc_blame_sound.proofs.Strings.{NumbersStrings}
 use Rattle.ckc_blame_steps.proofs.Callees.{callees_known}
 use Rattle.ckc_blame_steps.proofs.GivenBodies.{texts_given}
-use Rattle.ckc_blame_walk.proofs.Frames.{function_frames_same}
-use Rattle.ckc_blame_walk.proofs.Layers.{walk_of}
-use Rattle.ckc_blame_walk.proofs.Sized.{tag_tests}
-use Rattle.ckc_blame_walk.proofs.Texts.{text_same}
+use Rattle.ckc_blame_steps.specs.ckc_blame_walk.proofs.Frames.{function_frames_same}
+use Rattle.ckc_blame_steps.specs.ckc_blame_walk.proofs.Layers.{walk_of}
+use Rattle.ckc_blame_steps.specs.ckc_blame_walk.proofs.Sized.{tag_tests}
+use Rattle.ckc_blame_steps.specs.ckc_blame_walk.proofs.Texts.{text_same}
 use Rattle.ckc_build_forms.proofs.Forms.{CodeForm}
 use Rattle.ckc_build_forms.proofs.FormsOfStatements.{Before, judged_form}
 use Rattle.ckc_build_forms.proofs.FormsOfSteps.{HaveParams}

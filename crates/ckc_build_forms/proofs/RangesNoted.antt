@@ -21,16 +21,16 @@ use Rattle.ckc_typed.specs.Trees.{NotedLimits, NotedNode, NotedExpr, NotedLayer}
 use Rattle.ckc_typed.specs.Types.{is_pointer}
 use Rattle.ckc_typed_welltyped.specs.Expressions.{AnyLimits, AnyNode}
 use Rattle.ckc_typed_welltyped.proofs.Nodes.{node_of, node_rolled, node_out, limits_of, limits_rolled}
-use Rattle.ckc_bounds_points.specs.declared.frame.Frame.{Frame}
-use Rattle.ckc_bounds_points.specs.Flow.{State}
-use Rattle.ckc_bounds_points.specs.Codes.{bad_limits}
-use Rattle.ckc_bounds_ranges.specs.Rows.{range_of_local}
-use Rattle.ckc_bounds_views.specs.Parts.{LimitsView, View, NodeView}
-use Rattle.ckc_bounds_views.specs.Judged.{counts_elements, counts_bytes, limits_judged, all_judged, node_judged, unary_judged, by_fault, noted_range, expr_made}
-use Rattle.ckc_bounds_views.specs.Ranges.{pointer_range}
-use Rattle.ckc_bounds_views.specs.Views.{limits_view, node_view, expr_view, view_of_limits, view_of_node, view}
-use Rattle.ckc_blame_sound.proofs.Every.{LimitsLayer, ExprLayer, EachLimits, EachNode, EachExpr, LimitsParts, NodeParts, AllEach, limits_hold, node_hold, inside}
-use Rattle.ckc_blame_sound.proofs.Judging.{Gives, bound}
+use Rattle.ckc_blame_steps.specs.ckc_bounds_points.specs.declared.frame.Frame.{Frame}
+use Rattle.ckc_blame_steps.specs.ckc_bounds_points.specs.Flow.{State}
+use Rattle.ckc_blame_steps.specs.ckc_bounds_points.specs.Codes.{bad_limits}
+use Rattle.ckc_blame_steps.specs.ckc_bounds_ranges.specs.Rows.{range_of_local}
+use Rattle.ckc_blame_steps.specs.ckc_bounds_views.specs.Parts.{LimitsView, View, NodeView}
+use Rattle.ckc_blame_steps.specs.ckc_bounds_views.specs.Judged.{counts_elements, counts_bytes, limits_judged, all_judged, node_judged, unary_judged, by_fault, noted_range, expr_made}
+use Rattle.ckc_blame_steps.specs.ckc_bounds_views.specs.Ranges.{pointer_range}
+use Rattle.ckc_blame_steps.specs.ckc_bounds_views.specs.Views.{limits_view, node_view, expr_view, view_of_limits, view_of_node, view}
+use Rattle.ckc_blame_steps.specs.ckc_blame_sound.proofs.Every.{LimitsLayer, ExprLayer, EachLimits, EachNode, EachExpr, LimitsParts, NodeParts, AllEach, limits_hold, node_hold, inside}
+use Rattle.ckc_blame_steps.specs.ckc_blame_sound.proofs.Judging.{Gives, bound}
 
 -- no range is noted yet
 abbrev pub HasNoRange : ExprLayer → Type 0

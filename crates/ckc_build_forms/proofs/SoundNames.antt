@@ -27,16 +27,16 @@ use Rattle.ckc_typed_welltyped.specs.Noteless.{bare_decl, bare_item, without_not
 use Rattle.ckc_typed_welltyped.specs.Productions.{given_item, given_tree}
 use Rattle.ckc_typed_welltyped.specs.Texts.{WellTypedItems}
 use Rattle.ckc_source.specs.Code.{Function}
-use Rattle.ckc_blame_sound.specs.Settings.{Setting, IsFunction}
-use Rattle.ckc_blame_sound.specs.JudgedTexts.{IsJudged, globals_in}
-use Rattle.ckc_blame_sound.proofs.Bounded.{layout_kept}
-use Rattle.ckc_blame_sound.proofs.Functions.{item_is, tree_named}
-use Rattle.ckc_blame_sound.proofs.Lists.{found}
-use Rattle.ckc_blame_sound.proofs.Locals.{stmt_declares}
+use Rattle.ckc_blame_steps.specs.ckc_blame_sound.specs.Settings.{Setting, IsFunction}
+use Rattle.ckc_blame_steps.specs.ckc_blame_sound.specs.JudgedTexts.{IsJudged, globals_in}
+use Rattle.ckc_blame_steps.specs.ckc_blame_sound.proofs.Bounded.{layout_kept}
+use Rattle.ckc_blame_steps.specs.ckc_blame_sound.proofs.Functions.{item_is, tree_named}
+use Rattle.ckc_blame_steps.specs.ckc_blame_sound.proofs.Lists.{found}
+use Rattle.ckc_blame_steps.specs.ckc_blame_sound.proofs.Locals.{stmt_declares}
 use Rattle.ckc_blame_steps.proofs.DeclaredTypes.{scalar_parts, names_objects}
 use Rattle.ckc_blame_steps.proofs.Small.{variables_are}
-use Rattle.ckc_blame_walk.proofs.Sized.{tag_tests}
-use Rattle.ckc_blame_walk.proofs.Sizes.{HasMembers, all_members}
+use Rattle.ckc_blame_steps.specs.ckc_blame_walk.proofs.Sized.{tag_tests}
+use Rattle.ckc_blame_steps.specs.ckc_blame_walk.proofs.Sizes.{HasMembers, all_members}
 use Rattle.ckc_build_forms.proofs.SoundTypes.{IsSound, AreSound, void_sound, int_result, object_sound, object_solid}
 use Rattle.ckc_build_forms.proofs.TaggedTypes.{VariablesTagged, HasTags, items_tagged, results_tagged, names_tagged, member_tagged}
 

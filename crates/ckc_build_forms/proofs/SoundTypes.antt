@@ -27,11 +27,11 @@ use Rattle.ckc_typed.specs.Conversions.{is_null}
 use Rattle.ckc_typed.specs.Texts.{is_result_type}
 use Rattle.ckc_typed.specs.Types.{type_written, is_integer, is_integer_form, is_pointer, is_pointer_form, is_scalar, is_unsigned, is_void, is_void_form, kind_in, kind_of, element_in, element_of, pointer_parts, object_parts, integer_object, is_object_type}
 use Rattle.ckc_typed_welltyped.specs.Expressions.{AnyLimits, AnyNode, HasType, unary_row}
-use Rattle.ckc_bounds_views.specs.Judged.{is_counted_kind}
-use Rattle.ckc_blame_sound.specs.Settings.{Setting}
-use Rattle.ckc_blame_sound.specs.Typed.{HasRow}
-use Rattle.ckc_blame_sound.proofs.Every.{ExprLayer, EachNode, EachExpr, NodeParts, node_hold, inside}
-use Rattle.ckc_blame_walk.proofs.Sizes.{sized}
+use Rattle.ckc_blame_steps.specs.ckc_bounds_views.specs.Judged.{is_counted_kind}
+use Rattle.ckc_blame_steps.specs.ckc_blame_sound.specs.Settings.{Setting}
+use Rattle.ckc_blame_steps.specs.ckc_blame_sound.specs.Typed.{HasRow}
+use Rattle.ckc_blame_steps.specs.ckc_blame_sound.proofs.Every.{ExprLayer, EachNode, EachExpr, NodeParts, node_hold, inside}
+use Rattle.ckc_blame_steps.specs.ckc_blame_walk.proofs.Sizes.{sized}
 
 -- whether each structure in a type has a size and only a `_Ptr` points to `void`, and whether the type is `void`
 pub record Sound : Type 0 where

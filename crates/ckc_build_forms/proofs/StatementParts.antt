@@ -13,13 +13,13 @@ use Rattle.ckc_typed.specs.declared.typed.Note.{Note}
 use Rattle.ckc_typed.specs.declared.typed.Typed.{Typed}
 use Rattle.ckc_typed.specs.Trees.{NotedAct, NotedExpr, NotedStmt}
 use Rattle.ckc_typed_welltyped.specs.Productions.{Given}
-use Rattle.ckc_bounds_known.proofs.Reaching.{and_cases}
-use Rattle.ckc_bounds_points.specs.Flow.{State}
-use Rattle.ckc_bounds_ranges.specs.Bundles.{is_bundle}
-use Rattle.ckc_bounds_statements.specs.Paths.{Here, is_good, stated, to_step, Path, ActPath, act_path, stmt_path, path_of_act, path}
+use Rattle.ckc_blame_steps.specs.ckc_bounds_known.proofs.Reaching.{and_cases}
+use Rattle.ckc_blame_steps.specs.ckc_bounds_points.specs.Flow.{State}
+use Rattle.ckc_blame_steps.specs.ckc_bounds_ranges.specs.Bundles.{is_bundle}
+use Rattle.ckc_blame_steps.specs.ckc_bounds_statements.specs.Paths.{Here, is_good, stated, to_step, Path, ActPath, act_path, stmt_path, path_of_act, path}
 use Rattle.ckc_build_elaborate.specs.Statements.{ActPart, Part, act_code, act_parts, stmt_parts, part_of, part_of_act, stmt_elaborated}
-use Rattle.ckc_blame_sound.specs.Settings.{Setting}
-use Rattle.ckc_blame_sound.proofs.Judging.{Gives}
+use Rattle.ckc_blame_steps.specs.ckc_blame_sound.specs.Settings.{Setting}
+use Rattle.ckc_blame_steps.specs.ckc_blame_sound.proofs.Judging.{Gives}
 use Rattle.std.proofs.lemmas.Bool.{leb-true}
 use Rattle.ckc_syntax.specs.declared.tree.Act.TheVariants as act
 

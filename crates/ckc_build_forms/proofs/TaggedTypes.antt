@@ -29,12 +29,12 @@ use Rattle.ckc_typed.specs.Trees.{Decl, Item, TypeTree}
 use Rattle.ckc_typed.specs.Types.{type_written, written_parts}
 use Rattle.ckc_resolve.specs.Trees.{NamedAct, NamedStmt, NamedExpr}
 use Rattle.ckc_typed_fit.specs.Tests.{Tests, Walked, type_parts, type_passes, decl_passes, decls_pass, head_passes, item_passes, pass_in_turn, act_walked, stmt_walked, walked_act, walked, value_passes, names_declared}
-use Rattle.ckc_bounds_known.proofs.Reaching.{and_cases}
-use Rattle.ckc_blame_sound.proofs.Lists.{found}
-use Rattle.ckc_blame_sound.proofs.Members.{members_are}
+use Rattle.ckc_blame_steps.specs.ckc_bounds_known.proofs.Reaching.{and_cases}
+use Rattle.ckc_blame_steps.specs.ckc_blame_sound.proofs.Lists.{found}
+use Rattle.ckc_blame_steps.specs.ckc_blame_sound.proofs.Members.{members_are}
 use Rattle.ckc_blame_steps.proofs.SmallNames.{members_have, members_of_item, shapes_have}
-use Rattle.ckc_blame_walk.proofs.Sized.{tag_tests}
-use Rattle.ckc_blame_walk.proofs.Sizes.{HasMembers, sized, tag_sized}
+use Rattle.ckc_blame_steps.specs.ckc_blame_walk.proofs.Sized.{tag_tests}
+use Rattle.ckc_blame_steps.specs.ckc_blame_walk.proofs.Sizes.{HasMembers, sized, tag_sized}
 use Rattle.ckc_build_forms.proofs.SoundTypes.{parts_tagged, tagged, tagged_pointer, int_out, unsigned_out, char_out, void_out}
 
 module _ (js : List Item) (members : All HasMembers js) where

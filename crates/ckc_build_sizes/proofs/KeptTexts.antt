@@ -6,8 +6,8 @@ use Rattle.ckc_syntax.specs.declared.tree.Item.TheVariants as item
 use Rattle.ckc_syntax_limits.specs.Marks.{function, static, marks_of_init, marks_of_decl, marks_of_stmt, marks_of_head, marks_of_item, marks_of}
 use Rattle.ckc_typed.specs.declared.typed.Typed.{Typed}
 use Rattle.ckc_typed.specs.Trees.{NotedDecl, NotedHead, NotedItem, NotedStmt}
-use Rattle.ckc_bounds_points.specs.declared.frame.Frame.{Frame}
-use Rattle.ckc_bounds_statements.specs.DeclBounds.{bounds_there}
+use Rattle.ckc_bounds.specs.ckc_bounds_points.specs.declared.frame.Frame.{Frame}
+use Rattle.ckc_bounds.specs.ckc_bounds_statements.specs.DeclBounds.{bounds_there}
 use Rattle.ckc_bounds.specs.Declarations.{member_holder, types_in, head_judged, head_bounds}
 use Rattle.ckc_bounds.specs.Frames.{text_frame, function_frame, begin_of}
 use Rattle.ckc_bounds.specs.Texts.{outside, members_judged, object_judged, body_judged, head_kept, item_judged, items_judged, text_judged}

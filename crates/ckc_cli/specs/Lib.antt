@@ -5,3 +5,5 @@ pub mod Checking
 pub mod Sampling
 pub mod Laws
 pub mod Blame
+pub use Rattle.ckc_build
+pub use Rattle.ckc_cli_commands

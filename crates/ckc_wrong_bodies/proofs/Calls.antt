@@ -4,12 +4,12 @@ use Rattle.ckc_base.specs.Places.{at_start, longest_text}
 use Rattle.ckc_image.specs.declared.format.Format.{Format}
 use Rattle.ckc_image.specs.declared.format.Format.TheVariants.{First, Elf}
 use Rattle.ckc_image.specs.Image.{HasMagic}
-use Rattle.ckc_cli_commands.specs.declared.status.Status.{Status}
-use Rattle.ckc_cli_commands.specs.declared.status.Status.TheVariants as status
-use Rattle.ckc_cli_commands.specs.World.{World, Untouched}
-use Rattle.ckc_cli_commands.specs.Words.{Command, Judge, Show}
-use Rattle.ckc_cli_commands.specs.Commands.{Reads, row_of}
-use Rattle.ckc_cli_commands.specs.Causes.{Caused, FailsOnce}
+use Rattle.ckc_cli.specs.ckc_cli_commands.specs.declared.status.Status.{Status}
+use Rattle.ckc_cli.specs.ckc_cli_commands.specs.declared.status.Status.TheVariants as status
+use Rattle.ckc_cli.specs.ckc_cli_commands.specs.World.{World, Untouched}
+use Rattle.ckc_cli.specs.ckc_cli_commands.specs.Words.{Command, Judge, Show}
+use Rattle.ckc_cli.specs.ckc_cli_commands.specs.Commands.{Reads, row_of}
+use Rattle.ckc_cli.specs.ckc_cli_commands.specs.Causes.{Caused, FailsOnce}
 use Rattle.ckc_cli.specs.Laws.{Given}
 use Rattle.ckc_cli.proofs.Always.{refused_always, bad_always}
 use Rattle.ckc_cli.proofs.Statuses.{usage_is}

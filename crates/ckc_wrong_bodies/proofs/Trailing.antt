@@ -5,7 +5,7 @@ use Rattle.ckc_base.specs.Follows.{IsOver}
 use Rattle.ckc_base.specs.Lists.{AreBytes}
 use Rattle.ckc_base.specs.Traces.{Event, Standing, Going, Stuck, Showing}
 use Rattle.ckc_base.proofs.Runs.{shown-later}
-use Rattle.ckc_build.specs.Built.{Built, most_for_a_step}
+use Rattle.ckc_cli.specs.ckc_build.specs.Built.{Built, most_for_a_step}
 use Rattle.ckc_image.specs.declared.format.Format.TheVariants.{First, Elf}
 use Rattle.ckc_image.specs.declared.format.Format.{Format}
 use Rattle.ckc_image.specs.Image.{header, word_bytes, word_at, FirstBad, ImageOf}

@@ -3,7 +3,7 @@ ghost use Rattle.std.specs.Prelude.{◌≡◌, ◌≢◌, ◌+◌, ◌*◌, ◌�
 ghost use Rattle.ckc_base.specs.Follows.{IsOver};
 ghost use Rattle.ckc_base.specs.Lists.{AreBytes};
 ghost use Rattle.ckc_base.specs.Traces.{Stuck};
-ghost use Rattle.ckc_build.specs.Built.{Built, most_for_a_step};
+ghost use Rattle.ckc_cli.specs.ckc_build.specs.Built.{Built, most_for_a_step};
 ghost use Rattle.ckc_emit.specs.Promise.{FollowsPlaced};
 ghost use Rattle.ckc_frame.specs.declared.code.Placed.{Placed};
 ghost use Rattle.ckc_frame.specs.Meaning.{placed_meaning};

@@ -1,7 +1,7 @@
 //! What `ccc` promises of its status.
 ghost use Rattle.std.specs.Prelude.{◌≡◌, ◌⊎◌, ◌<◌, ℕ, IsTrue, List, [], ◌∷◌, length};
 ghost use Rattle.ckc_base.specs.Places.{at_start, longest_text};
-ghost use Rattle.ckc_cli_commands.specs.Words.{Judge, Show};
+ghost use Rattle.ckc_cli.specs.ckc_cli_commands.specs.Words.{Judge, Show};
 ghost use Rattle.ckc_cli.specs.Laws.{FromCall, Given};
 
 use ckc_cli::Status;

@@ -8,10 +8,10 @@ use Rattle.ckc_typed.specs.declared.environment.Globals.{Globals}
 use Rattle.ckc_typed.specs.declared.typed.Note.{Note}
 use Rattle.ckc_typed.specs.Trees.{NotedDecl, NotedExpr, NotedInit}
 use Rattle.ckc_typed.specs.Types.{type_written}
-use Rattle.ckc_bounds_points.specs.declared.frame.Local.{Local}
-use Rattle.ckc_bounds_points.specs.Frames.{local_at}
-use Rattle.ckc_bounds_stores.specs.Targets.{local_of}
-use Rattle.ckc_bounds_statements.specs.Paths.{Here, stated, assign_judged, local_judged}
+use Rattle.ckc_bounds.specs.ckc_bounds_points.specs.declared.frame.Local.{Local}
+use Rattle.ckc_bounds.specs.ckc_bounds_points.specs.Frames.{local_at}
+use Rattle.ckc_bounds.specs.ckc_bounds_stores.specs.Targets.{local_of}
+use Rattle.ckc_bounds.specs.ckc_bounds_statements.specs.Paths.{Here, stated, assign_judged, local_judged}
 use Rattle.ckc_source.specs.Code.{Expr, Number}
 use Rattle.ckc_build_values.specs.Expressions.{expr_elaborated}
 use Rattle.ckc_blame_sound.specs.Settings.{Setting}

@@ -1,6 +1,6 @@
 use Rattle.std.proofs.Common.{◌∙◌, subst}
 use Rattle.ckc_typed.specs.declared.typed.Typed.{Typed}
-use Rattle.ckc_bounds.specs.Phase.{bounding}
+use Rattle.ckc_blame_sound.specs.ckc_bounds.specs.Phase.{bounding}
 use Rattle.ckc_blame_walk.proofs.first_laws.phases_begin_soundly.Goals as goal
 
 pub returns : goal.returns

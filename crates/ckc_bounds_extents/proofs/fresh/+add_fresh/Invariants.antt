@@ -1,5 +1,5 @@
 use Rattle.std.proofs.Common.{◌≡◌, ◌++◌, map, drop}
-use Rattle.ckc_bounds_points.specs.Flow.{state}
+use Rattle.ckc_bounds_views.specs.ckc_bounds_points.specs.Flow.{state}
 use Rattle.ckc_bounds_views.specs.Fresh.{all_fresh}
 use Rattle.ckc_bounds_views.specs.Views.{view}
 use Rattle.ckc_bounds_extents.proofs.fresh.+add_fresh.Given as goal

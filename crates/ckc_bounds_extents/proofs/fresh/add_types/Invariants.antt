@@ -1,5 +1,5 @@
 use Rattle.std.proofs.Common.{◌≡◌, drop}
-use Rattle.ckc_bounds_points.specs.Shown.{known}
+use Rattle.ckc_bounds_views.specs.ckc_bounds_points.specs.Shown.{known}
 use Rattle.ckc_bounds_views.specs.Fresh.{with_types}
 use Rattle.ckc_bounds_extents.proofs.fresh.add_types.Given as goal
 

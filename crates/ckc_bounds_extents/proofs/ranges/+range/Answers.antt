@@ -1,6 +1,6 @@
 use Rattle.std.proofs.Common.{◌≡◌, ◌∙◌, ap, sym, subst}
 use Rattle.std.specs.Prelude.{IfOk}
-use Rattle.ckc_bounds_points.specs.Flow.{state}
+use Rattle.ckc_bounds_views.specs.ckc_bounds_points.specs.Flow.{state}
 use Rattle.ckc_bounds_views.specs.Views.{view_of_node}
 use Rattle.ckc_bounds_extents.proofs.Nodes.{call_is}
 use Rattle.ckc_bounds_extents.proofs.ranges.+range.Goals as goal

@@ -1,8 +1,8 @@
 use Rattle.std.proofs.Common.{◌≡◌, map, drop}
-use Rattle.ckc_bounds_points.specs.Flow.{state}
-use Rattle.ckc_bounds_views.specs.Arguments.{bases_by, variables_by}
-use Rattle.ckc_bounds_views.specs.Judged.{arguments_fault}
-use Rattle.ckc_bounds_views.specs.Views.{view}
+use Rattle.ckc_bounds_extents.specs.ckc_bounds_points.specs.Flow.{state}
+use Rattle.ckc_bounds_extents.specs.ckc_bounds_views.specs.Arguments.{bases_by, variables_by}
+use Rattle.ckc_bounds_extents.specs.ckc_bounds_views.specs.Judged.{arguments_fault}
+use Rattle.ckc_bounds_extents.specs.ckc_bounds_views.specs.Views.{view}
 use Rattle.ckc_bounds_judged.proofs.arguments.arguments_fault.Given as goal
 
 -- what is left gives what the whole gives

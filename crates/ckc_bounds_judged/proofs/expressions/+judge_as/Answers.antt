@@ -1,7 +1,7 @@
 use Rattle.std.proofs.Common.{◌∙◌, ap, sym, subst}
 use Rattle.ckc_base.specs.Outcomes.{AnswersOutcome}
-use Rattle.ckc_bounds_points.specs.Flow.{state}
-use Rattle.ckc_bounds_views.specs.Views.{view_of_node}
+use Rattle.ckc_bounds_extents.specs.ckc_bounds_points.specs.Flow.{state}
+use Rattle.ckc_bounds_extents.specs.ckc_bounds_views.specs.Views.{view_of_node}
 use Rattle.ckc_bounds_judged.proofs.Nodes.{call_is}
 use Rattle.ckc_bounds_judged.proofs.expressions.+judge_as.Goals as goal
 

@@ -1,7 +1,7 @@
 use Rattle.std.proofs.Common.{◌≡◌, map, drop}
-use Rattle.ckc_bounds_points.specs.Flow.{state}
-use Rattle.ckc_bounds_views.specs.Judged.{all_judged}
-use Rattle.ckc_bounds_views.specs.Views.{view}
+use Rattle.ckc_bounds_extents.specs.ckc_bounds_points.specs.Flow.{state}
+use Rattle.ckc_bounds_extents.specs.ckc_bounds_views.specs.Judged.{all_judged}
+use Rattle.ckc_bounds_extents.specs.ckc_bounds_views.specs.Views.{view}
 use Rattle.ckc_base.proofs.Turns.{ahead}
 use Rattle.ckc_bounds_judged.proofs.expressions.+judge_as.Given as goal
 

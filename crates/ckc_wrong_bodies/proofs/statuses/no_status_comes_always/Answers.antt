@@ -1,4 +1,4 @@
-use Rattle.ckc_cli_commands.specs.World.{untouched}
+use Rattle.ckc_cli.specs.ckc_cli_commands.specs.World.{untouched}
 use Rattle.ckc_wrong_bodies.proofs.Calls as by
 use Rattle.ckc_wrong_bodies.proofs.statuses.no_status_comes_always.Goals as goal
 
