@@ -34,7 +34,7 @@ use Rattle.ckc_frame.specs.declared.code.Place.TheVariants as place
 use Rattle.ckc_frame.specs.WellFormed.{IsPlace}
 use Rattle.ckc_emit.specs.code.Lines.{upper_of, lower_of, is_round, both_lines, large_lines, constant_lines, constant_count, move_lines, offset_lines, load_lines, store_lines, ask_lines, holding, stop_lines, check_lines, register_of, source_of, read_lines, write_lines, settle_lines, fetch_lines, register_with, operand_lines, take_lines, const_lines, copy_lines, value_lines, operation_of, apply_lines, negated, near_form, zeros_of, power_form, number_form, form_of, is_exchanged, ending_lines, form_lines, bin_lines, high_op, high_lines, load_op, store_op, data_load_lines, data_store_lines, test_lines, get_lines, put_lines, tests_lines, room_lines, rounded_lines, claim_lines, alloc_lines}
 use Rattle.ckc_emit.proofs.Splits.{upper_small}
-use Rattle.ckc_emit.proofs.Pieces.{Adds, nothing, then_adds, more_adds, plain_adds, either_adds}
+use Rattle.ckc_emit.proofs.Pieces.{Labels, Adds, nothing, then_adds, more_adds, plain_adds, either_adds}
 
 -- ---- what fits
 
@@ -72,7 +72,7 @@ one_or_two false = omega arith
 round_count : (v : ℕ) → constant_count v ≤ 2
 round_count v = one_or_two (upper_of v == 0 || is_round v)
 
-module _ (labels k : ℕ) where
+module _ (labels : Labels) (k : ℕ) where
   abbrev Adding : ℕ → List Line → List Line → Type 0
   Adding most xs ys = Adds labels k k most xs ys
 

@@ -14,10 +14,10 @@ use Rattle.ckc_frame.specs.WellFormed.{IsPlace}
 use Rattle.ckc_emit.specs.code.Lines.{register_of, offset_of}
 use Rattle.ckc_emit.specs.code.CallLines.{place_at, each_lines, is_saved, save_lines, saves_lines, restore_lines, restores_lines, depth_lines, argument_lines, arguments_lines, visit_lines, call_lines, result_lines}
 use Rattle.ckc_emit.proofs.PlaceAt.{place_is}
-use Rattle.ckc_emit.proofs.Pieces.{Adds, nothing, then_adds, more_adds, far_adds, either_adds}
+use Rattle.ckc_emit.proofs.Pieces.{Labels, Adds, nothing, then_adds, more_adds, far_adds, either_adds}
 use Rattle.ckc_emit.proofs.Added.{register_low, lui_adds, reg_adds, move_adds, loads_add, stores_add, near_load_adds, near_store_adds, check_adds, settle_adds}
 
-module _ (labels k : ℕ) where
+module _ (labels : Labels) (k : ℕ) where
   abbrev Adding : ℕ → List Line → List Line → Type 0
   Adding most xs ys = Adds labels k k most xs ys
 
@@ -66,7 +66,7 @@ module _ (labels k : ℕ) where
       (arguments_add homes rs (j + 1) params _ p q (All-tail (λ r. r < length homes) r rs within) (omega arith))
       (argument_adds (place_at homes r) (place_at params j) ys (place_is homes r (All-head (λ r. r < length homes) r rs within) p) (place_is params j (omega arith) q)))
 
-  visit_adds : (label : ℕ) (ys : List Line) → label < labels → Adding 5 (visit_lines label ys) ys
+  visit_adds : (label : ℕ) (ys : List Line) → label < labels.count → Adding 5 (visit_lines label ys) ys
   visit_adds label ys h =
       then_adds labels (move_adds labels k 2 8 _ (omega arith) (omega arith))
       (then_adds labels (far_adds labels k 1 label _ (omega arith) h)
@@ -77,7 +77,7 @@ module _ (labels k : ℕ) where
   result_adds homes (Some t) ys p h = settle_adds labels k (place_at homes t) 10 ys (place_is homes t h p) (omega arith)
 
   pub call_adds : (homes : List Place) (marks : List Bool) (params : List Place) (label : ℕ) (rs : List ℕ) (at : Pos) (target : Option ℕ) (ys : List Line)
-      → All IsPlace homes → All IsPlace params → All (λ r. r < length homes) rs → length rs ≤ length params → label < labels → IfSome target (λ t. t < length homes)
+      → All IsPlace homes → All IsPlace params → All (λ r. r < length homes) rs → length rs ≤ length params → label < labels.count → IfSome target (λ t. t < length homes)
       → Adding (64 + 8 * length rs) (call_lines homes marks params label rs at (result_lines homes target ys)) ys
   call_adds homes marks params label rs at target ys p q within enough below h =
       more_adds labels (64 + 8 * length rs) (omega arith)

@@ -1,5 +1,5 @@
 -- What operations, blocks, functions and programs add.
-use Rattle.std.proofs.Common.{◌≡◌, ℕ, zero, suc, ◌+◌, ◌≤◌, ◌<◌, ◌==◌, List, [], ◌∷◌, length, get_or, Option, Some, None, refl, sym, ap, subst, arith}
+use Rattle.std.proofs.Common.{◌≡◌, ℕ, zero, suc, ◌+◌, ◌≤◌, ◌<◌, ◌==◌, Bool, true, false, List, [], ◌∷◌, append-nil, length, get_or, Option, Some, None, refl, sym, ap, subst, ◌∙◌, arith}
 use Rattle.std.specs.Prelude.{All, IfSome, sum_by, pos}
 use Rattle.std.specs.List.{slice_get}
 use Rattle.std.proofs.lemmas.List.{take_all}
@@ -8,6 +8,7 @@ use Rattle.std.proofs.lemmas.List.Sums.{sum_by-cons, sum_by_more_le}
 use Rattle.ckc_rv_operations.specs.declared.operations.BranchOp.{BranchOp}
 use Rattle.ckc_rv.specs.declared.instructions.Instr.TheVariants as instr
 use Rattle.ckc_asm_lines.specs.declared.lines.Line.{Line}
+use Rattle.ckc_asm_lines.specs.Assembled.{size_of}
 use Rattle.ckc_tac.specs.declared.code.TacFunc.{TacFunc}
 use Rattle.ckc_tac.specs.declared.code.TacBlock.{TacBlock}
 use Rattle.ckc_tac.specs.declared.code.Comparison.{Comparison}
@@ -30,9 +31,11 @@ use Rattle.ckc_emit.specs.declared.places.PlacedOperand.{PlacedOperand}
 use Rattle.ckc_emit.specs.code.Operands.{IsOperand}
 use Rattle.ckc_emit.specs.code.Lines.{register_with}
 use Rattle.ckc_emit.specs.code.CallLines.{place_at}
-use Rattle.ckc_emit.specs.code.ProgramLines.{label_of, homes_of, operand_at, op_lines, ops_lines, over_lines, holding, failing, jump_lines, choice_lines, branch_lines, falls_through, return_lines, end_lines, block_lines, blocks_lines, function_lines, functions_lines, start_lines, program_lines, codes_of}
+use Rattle.ckc_emit.specs.code.ProgramLines.{label_of, homes_of, operand_at, op_lines, ops_lines, over_lines, holding, failing, jump_line, jump_lines, leave_lines, choice_lines, branch_lines, falls_through, return_lines, end_lines, block_lines, blocks_lines, body_lines, is_near, function_lines, functions_lines, start_lines, program_lines, codes_of}
 use Rattle.ckc_emit.proofs.PlaceAt.{place_is}
-use Rattle.ckc_emit.proofs.Pieces.{Adds, nothing, then_adds, more_adds, plain_adds, far_adds, label_adds, either_adds, numbered_adds}
+use Rattle.ckc_emit.proofs.Pieces.{Labels, Adds, nothing, then_adds, more_adds, plain_adds, far_adds, jump_adds, leave_adds, label_adds, either_adds, numbered_adds, front_adds}
+use Rattle.ckc_emit.proofs.Close.{Joins, joins, nothing_joins, then_joins, more_joins, numbered_joins}
+use Rattle.ckc_emit.proofs.Tests.{lt_of}
 use Rattle.ckc_emit.proofs.Added.{near_fits, with_low, reading, operand_adds, take_adds, lui_adds, branch_adds, near_load_adds, near_store_adds, two_ask_adds, const_adds, copy_adds, bin_adds, high_adds, data_load_adds, data_store_adds, test_adds, get_adds, put_adds, alloc_adds}
 use Rattle.ckc_emit.proofs.AddedCalls.{call_adds}
 use Rattle.ckc_emit.proofs.Turning.{labels_in}
@@ -80,159 +83,207 @@ label_fits (g ∷ gs) k h =
     let all = all_labels (g ∷ gs) in
     omega (arith, bound, all)
 
+-- the labels of a program; near ones are those of a function
+abbrev pub labels_for : List PlacedFunc → (near : Bool) → PlacedFunc → (label : ℕ) → Labels
+labels_for functions near f label = record { count = label_of functions (length functions); near = near; low = label; high = label + (length f.code.blocks + 1) }
+
+-- lines with near jumps and branches are short
+short_with : (functions : List PlacedFunc) (f : PlacedFunc) (label : ℕ) (near : Bool) → is_near functions f label ≡ near → near ≡ true → sum_by size_of (body_lines near functions f label) < 4096
+unfolding is_near
+short_with functions f label true e t = lt_of (sum_by size_of (body_lines true functions f label)) 4096 e
+short_with functions f label false e t = absurd cc
+
 module _ (functions : List PlacedFunc) (placed : All IsPlacedWhole functions) (over : All (IsFunctionOver (codes_of functions)) (codes_of functions)) where
   -- how many labels the program has
-  abbrev labels : ℕ
-  labels = label_of functions (length functions)
+  abbrev count : ℕ
+  count = label_of functions (length functions)
 
-  module _ (f : PlacedFunc) (whole : IsPlacedWhole f) (k : ℕ) where
-    abbrev Adding : ℕ → List Line → List Line → Type 0
-    Adding most xs ys = Adds labels k k most xs ys
+  module _ (near : Bool) (f : PlacedFunc) (whole : IsPlacedWhole f) (label : ℕ) (few : label + (length f.code.blocks + 1) ≤ count) where
+    abbrev labels : Labels
+    labels = labels_for functions near f label
 
-    within : (r : ℕ) → r < f.code.regs → r < length f.homes
-    within r h = subst (λ n. r < n) (sym whole.homes) h
+    abbrev first : ℕ
+    first = label + 1
 
-    good : (r : ℕ) → r < f.code.regs → IsPlace (place_at f.homes r)
-    good r h = place_is f.homes r (within r h) whole.places
+    module _ (k : ℕ) where
+      abbrev Adding : ℕ → List Line → List Line → Type 0
+      Adding most xs ys = Adds labels k k most xs ys
 
-    fine : (o : Operand) → IsOperandOver f.code.regs o → IsOperand (operand_at f.homes o)
-    fine (Register r) h = good r h
-    fine (Number n) h = h
+      within : (r : ℕ) → r < f.code.regs → r < length f.homes
+      within r h = subst (λ n. r < n) (sym whole.homes) h
 
-    reading_is : (o : Operand) → reading labels k (operand_at f.homes o) ≡ operand_size o
-    reading_is (Register r) = refl
-    reading_is (Number n) = refl
+      good : (r : ℕ) → r < f.code.regs → IsPlace (place_at f.homes r)
+      good r h = place_is f.homes r (within r h) whole.places
 
-    all_within : (rs : List ℕ) → All (λ r. r < f.code.regs) rs → All (λ r. r < length f.homes) rs
-    all_within rs h = λ i d below. within _ (h i d below)
+      fine : (o : Operand) → IsOperandOver f.code.regs o → IsOperand (operand_at f.homes o)
+      fine (Register r) h = good r h
+      fine (Number n) h = h
 
-    target_within : (target : Option ℕ) → IfSome target (λ t. t < f.code.regs) → IfSome target (λ t. t < length f.homes)
-    target_within None h = h
-    target_within (Some t) h = within t h
+      reading_is : (o : Operand) → reading labels k (operand_at f.homes o) ≡ operand_size o
+      reading_is (Register r) = refl
+      reading_is (Number n) = refl
 
-    pub op_adds : (n : ℕ) (op : TacOp) (ys : List Line) → IsOpOver (codes_of functions) f.code.regs op → Adding (op_size op) (op_lines functions f n op ys) ys
-    op_adds n (Const t v) ys o = const_adds labels k (place_at f.homes t) v ys (good t o.0)
-    op_adds n (Copy t a) ys o = copy_adds labels k (place_at f.homes t) (place_at f.homes a) ys (good t o.0) (good a o.1)
-    op_adds n (Bin b t x y) ys o = bin_adds labels k b (place_at f.homes t) (operand_at f.homes x) (operand_at f.homes y) ys (good t o.0) (fine x o.1) (fine y o.2)
-    op_adds n (High s t x y) ys o = high_adds labels k s (place_at f.homes t) (operand_at f.homes x) (operand_at f.homes y) ys (good t o.0) (fine x o.1) (fine y o.2)
-    op_adds n (Load width t a) ys o = data_load_adds labels k width (place_at f.homes t) (operand_at f.homes a) ys (good t o.0) (fine a o.1)
-    op_adds n (Store width a b) ys o = data_store_adds labels k width (operand_at f.homes a) (operand_at f.homes b) ys (fine a o.0) (fine b o.1)
-    op_adds n (Check check at c a b) ys o =
-        more_adds labels (operand_size a + operand_size b + 10) (omega (arith, reading_is a, reading_is b))
-        (test_adds labels k check at c (operand_at f.homes a) (operand_at f.homes b) ys (fine a o.1) (fine b o.2))
-    op_adds n (Call target callee arguments at) ys o =
-        let c = callable (codes_of functions) functions callee (length arguments) placed over o.1 in
-        let params : homes_of (slice_get functions callee) ≡ c.f.homes = ap homes_of c.is in
-        let all : All IsPlace (homes_of (slice_get functions callee)) = subst (All IsPlace) (sym params) c.placed.places in
-        let enough : length arguments ≤ length (homes_of (slice_get functions callee)) = subst (λ (l : List Place). length arguments ≤ length l) (sym params) c.enough in
-        call_adds labels k f.homes (marks_of (slice_get f.kept n)) (homes_of (slice_get functions callee)) (label_of functions callee) arguments at target ys
-        whole.places all (all_within arguments o.2) enough (label_fits functions callee c.below) (target_within target o.0)
-    op_adds n (Get t) ys o = get_adds labels k (place_at f.homes t) ys (good t o)
-    op_adds n (Put a) ys o = put_adds labels k (operand_at f.homes a) ys (fine a o)
-    op_adds n (Alloc t a size) ys o = alloc_adds labels k (place_at f.homes t) (operand_at f.homes a) size ys (good t o.0) (fine a o.1)
+      all_within : (rs : List ℕ) → All (λ r. r < f.code.regs) rs → All (λ r. r < length f.homes) rs
+      all_within rs h = λ i d below. within _ (h i d below)
 
-    pub ops_add : (n : ℕ) (ops : List TacOp) (ys : List Line) → All (IsOpOver (codes_of functions) f.code.regs) ops → Adding (ops_size ops) (ops_lines functions f n ops ys) ys
-    ops_add n [] ys o = nothing labels k ys
-    ops_add n (op ∷ ops) ys o =
-        more_adds labels (ops_size (op ∷ ops)) (omega (arith, sum_by-cons op_size op ops))
-        (then_adds labels (op_adds n op _ (All-head (IsOpOver (codes_of functions) f.code.regs) op ops o))
-        (ops_add (n + is_call op) ops ys (All-tail (IsOpOver (codes_of functions) f.code.regs) op ops o)))
+      target_within : (target : Option ℕ) → IfSome target (λ t. t < f.code.regs) → IfSome target (λ t. t < length f.homes)
+      target_within None h = h
+      target_within (Some t) h = within t h
 
-    over_adds : (o : BranchOp) (ra rb label : ℕ) (ys : List Line) → ra < 27 → rb < 27 → label < labels → Adding 3 (over_lines o ra rb label ys) ys
-    over_adds o ra rb label ys h i below = then_adds labels (branch_adds labels k o ra rb 3 _ h i (omega arith)) (far_adds labels k 0 label ys (omega arith) below)
+      pub op_adds : (n : ℕ) (op : TacOp) (ys : List Line) → IsOpOver (codes_of functions) f.code.regs op → Adding (op_size op) (op_lines functions f n op ys) ys
+      op_adds n (Const t v) ys o = const_adds labels k (place_at f.homes t) v ys (good t o.0)
+      op_adds n (Copy t a) ys o = copy_adds labels k (place_at f.homes t) (place_at f.homes a) ys (good t o.0) (good a o.1)
+      op_adds n (Bin b t x y) ys o = bin_adds labels k b (place_at f.homes t) (operand_at f.homes x) (operand_at f.homes y) ys (good t o.0) (fine x o.1) (fine y o.2)
+      op_adds n (High s t x y) ys o = high_adds labels k s (place_at f.homes t) (operand_at f.homes x) (operand_at f.homes y) ys (good t o.0) (fine x o.1) (fine y o.2)
+      op_adds n (Load width t a) ys o = data_load_adds labels k width (place_at f.homes t) (operand_at f.homes a) ys (good t o.0) (fine a o.1)
+      op_adds n (Store width a b) ys o = data_store_adds labels k width (operand_at f.homes a) (operand_at f.homes b) ys (fine a o.0) (fine b o.1)
+      op_adds n (Check check at c a b) ys o =
+          more_adds labels (operand_size a + operand_size b + 10) (omega (arith, reading_is a, reading_is b))
+          (test_adds labels k check at c (operand_at f.homes a) (operand_at f.homes b) ys (fine a o.1) (fine b o.2))
+      op_adds n (Call target callee arguments at) ys o =
+          let c = callable (codes_of functions) functions callee (length arguments) placed over o.1 in
+          let params : homes_of (slice_get functions callee) ≡ c.f.homes = ap homes_of c.is in
+          let all : All IsPlace (homes_of (slice_get functions callee)) = subst (All IsPlace) (sym params) c.placed.places in
+          let enough : length arguments ≤ length (homes_of (slice_get functions callee)) = subst (λ (l : List Place). length arguments ≤ length l) (sym params) c.enough in
+          call_adds labels k f.homes (marks_of (slice_get f.kept n)) (homes_of (slice_get functions callee)) (label_of functions callee) arguments at target ys
+          whole.places all (all_within arguments o.2) enough (label_fits functions callee c.below) (target_within target o.0)
+      op_adds n (Get t) ys o = get_adds labels k (place_at f.homes t) ys (good t o)
+      op_adds n (Put a) ys o = put_adds labels k (operand_at f.homes a) ys (fine a o)
+      op_adds n (Alloc t a size) ys o = alloc_adds labels k (place_at f.homes t) (operand_at f.homes a) size ys (good t o.0) (fine a o.1)
 
-    jump_adds : (first next b : ℕ) (ys : List Line) → first + b < labels → Adding 2 (jump_lines first next b ys) ys
-    jump_adds first next b ys h =
-        either_adds labels (b == next) (λ e. more_adds labels 2 (omega arith) (nothing labels k ys)) (λ e. far_adds labels k 0 (first + b) ys (omega arith) h)
+      pub ops_add : (n : ℕ) (ops : List TacOp) (ys : List Line) → All (IsOpOver (codes_of functions) f.code.regs) ops → Adding (ops_size ops) (ops_lines functions f n ops ys) ys
+      ops_add n [] ys o = nothing labels k ys
+      ops_add n (op ∷ ops) ys o =
+          more_adds labels (ops_size (op ∷ ops)) (omega (arith, sum_by-cons op_size op ops))
+          (then_adds labels (op_adds n op _ (All-head (IsOpOver (codes_of functions) f.code.regs) op ops o))
+          (ops_add (n + is_call op) ops ys (All-tail (IsOpOver (codes_of functions) f.code.regs) op ops o)))
 
-    choice_adds : (o : Comparison) (ra rb first next one two : ℕ) (ys : List Line) → ra < 27 → rb < 27 → first + one < labels → first + two < labels
-        → Adding 5 (choice_lines o ra rb first next one two ys) ys
-    choice_adds o ra rb first next one two ys low also h i =
-        either_adds labels (one == next)
-        (λ e. more_adds labels 5 (omega arith) (over_adds (holding o) ra rb (first + two) ys low also i))
-        (λ e. then_adds labels (over_adds (failing o) ra rb (first + one) _ low also h) (jump_adds first next two ys i))
+      over_adds : (o : BranchOp) (ra rb to : ℕ) (ys : List Line) → ra < 27 → rb < 27 → to < count → Adding 3 (over_lines o ra rb to ys) ys
+      over_adds o ra rb to ys h i below = then_adds labels (branch_adds labels k o ra rb 3 _ h i (omega arith)) (far_adds labels k 0 to ys (omega arith) below)
 
-    branch_end_adds : (o : Comparison) (a b : Operand) (first next one two : ℕ) (ys : List Line) → IsOperandOver f.code.regs a → IsOperandOver f.code.regs b
-        → first + one < labels → first + two < labels
-        → Adding (operand_size a + operand_size b + 5) (branch_lines o (operand_at f.homes a) (operand_at f.homes b) first next one two ys) ys
-    branch_end_adds o a b first next one two ys p q h i =
-        let left = operand_at f.homes a in
-        let right = operand_at f.homes b in
-        more_adds labels (operand_size a + operand_size b + 5) (omega (arith, reading_is a, reading_is b))
-        (then_adds labels (operand_adds labels k left 5 _ (omega arith))
-        (then_adds labels (operand_adds labels k right 6 _ (omega arith))
-        (choice_adds o (register_with left 5) (register_with right 6) first next one two ys (with_low left 5 (fine a p) (omega arith)) (with_low right 6 (fine b q) (omega arith)) h i)))
+      abbrev IsOwn : ℕ → Type 0
+      IsOwn b = b < length f.code.blocks
 
-    return_adds : (a : PlacedOperand) (ys : List Line) → IsOperand a → Adding 8 (return_lines a ys) ys
-    return_adds a ys p =
-        more_adds labels 8 (omega arith)
-        (then_adds labels (take_adds labels k 10 a _ p (omega arith))
-        (then_adds labels (near_load_adds labels k 1 2 0 _ (omega arith) (omega arith) (omega arith))
-        (plain_adds labels k (instr.Jalr 0 1 (pos 0)) ys (omega arith, omega arith, near_fits 0 (omega arith)) (omega arith, omega arith))))
+      jump_line_adds : (t : Bool) (b : ℕ) (ys : List Line) → near ≡ t → IsOwn b → Adding 2 (jump_line t (first + b) ∷ ys) ys
+      jump_line_adds true b ys e h = more_adds labels 2 (omega arith) (jump_adds labels k 0 (first + b) ys (omega arith) (e, omega arith, omega arith))
+      jump_line_adds false b ys e h = far_adds labels k 0 (first + b) ys (omega arith) (omega arith)
 
-    pub end_adds : (first next : ℕ) (end : TacEnd) (ys : List Line) → IsEndOver (length f.code.blocks) f.code.regs end → first + length f.code.blocks ≤ labels
-        → Adding (end_size end) (end_lines f first next end ys) ys
-    end_adds first next (Jump b) ys o fits =
-        either_adds labels (falls_through f.code.blocks next b) (λ e. more_adds labels 2 (omega arith) (nothing labels k ys)) (λ e. far_adds labels k 0 (first + b) ys (omega arith) (omega arith))
-    end_adds first next (Branch c a b one two) ys o fits =
-        let one_is = o.2 in
-        let two_is = o.3 in
-        branch_end_adds c a b first next one two ys o.0 o.1 (omega arith) (omega arith)
-    end_adds first next (Return a) ys o fits = return_adds (operand_at f.homes a) ys (fine a o)
+      jump_lines_add : (next b : ℕ) (ys : List Line) → IsOwn b → Adding 2 (jump_lines near first next b ys) ys
+      jump_lines_add next b ys h =
+          either_adds labels (b == next) (λ e. more_adds labels 2 (omega arith) (nothing labels k ys)) (λ e. jump_line_adds near b ys refl h)
 
-  module _ (f : PlacedFunc) (whole : IsPlacedWhole f) where
-    pub block_adds : (first b n : ℕ) (block : TacBlock) (ys : List Line) → IsBlockOver (codes_of functions) (length f.code.blocks) f.code.regs block → first + length f.code.blocks ≤ labels
-        → Adds labels (first + b) (first + b + 1) (block_size block) (block_lines functions f first b n block ys) ys
-    block_adds first b n block ys o fits =
+      leave_lines_add : (t : Bool) (taken other : BranchOp) (ra rb b : ℕ) (ys : List Line) → near ≡ t → ra < 27 → rb < 27 → IsOwn b
+          → Adding 3 (leave_lines t taken other ra rb (first + b) ys) ys
+      leave_lines_add true taken other ra rb b ys e h i own =
+          more_adds labels 3 (omega arith) (leave_adds labels k taken ra rb (first + b) ys h i (e, omega arith, omega arith))
+      leave_lines_add false taken other ra rb b ys e h i own = over_adds other ra rb (first + b) ys h i (omega arith)
+
+      choice_adds : (o : Comparison) (ra rb next one two : ℕ) (ys : List Line) → ra < 27 → rb < 27 → IsOwn one → IsOwn two
+          → Adding 5 (choice_lines near o ra rb first next one two ys) ys
+      choice_adds o ra rb next one two ys low also h i =
+          either_adds labels (one == next)
+          (λ e. more_adds labels 5 (omega arith) (leave_lines_add near (failing o) (holding o) ra rb two ys refl low also i))
+          (λ e. then_adds labels (leave_lines_add near (holding o) (failing o) ra rb one _ refl low also h) (jump_lines_add next two ys i))
+
+      branch_end_adds : (o : Comparison) (a b : Operand) (next one two : ℕ) (ys : List Line) → IsOperandOver f.code.regs a → IsOperandOver f.code.regs b
+          → IsOwn one → IsOwn two
+          → Adding (operand_size a + operand_size b + 5) (branch_lines near o (operand_at f.homes a) (operand_at f.homes b) first next one two ys) ys
+      branch_end_adds o a b next one two ys p q h i =
+          let left = operand_at f.homes a in
+          let right = operand_at f.homes b in
+          more_adds labels (operand_size a + operand_size b + 5) (omega (arith, reading_is a, reading_is b))
+          (then_adds labels (operand_adds labels k left 5 _ (omega arith))
+          (then_adds labels (operand_adds labels k right 6 _ (omega arith))
+          (choice_adds o (register_with left 5) (register_with right 6) next one two ys (with_low left 5 (fine a p) (omega arith)) (with_low right 6 (fine b q) (omega arith)) h i)))
+
+      return_adds : (a : PlacedOperand) (ys : List Line) → IsOperand a → Adding 8 (return_lines a ys) ys
+      return_adds a ys p =
+          more_adds labels 8 (omega arith)
+          (then_adds labels (take_adds labels k 10 a _ p (omega arith))
+          (then_adds labels (near_load_adds labels k 1 2 0 _ (omega arith) (omega arith) (omega arith))
+          (plain_adds labels k (instr.Jalr 0 1 (pos 0)) ys (omega arith, omega arith, near_fits 0 (omega arith)) (omega arith, omega arith))))
+
+      pub end_adds : (next : ℕ) (end : TacEnd) (ys : List Line) → IsEndOver (length f.code.blocks) f.code.regs end → Adding (end_size end) (end_lines near f first next end ys) ys
+      end_adds next (Jump b) ys o =
+          either_adds labels (falls_through f.code.blocks next b) (λ e. more_adds labels 2 (omega arith) (nothing labels k ys)) (λ e. jump_line_adds near b ys refl o)
+      end_adds next (Branch c a b one two) ys o = branch_end_adds c a b next one two ys o.0 o.1 o.2 o.3
+      end_adds next (Return a) ys o = return_adds (operand_at f.homes a) ys (fine a o)
+
+    pub block_adds : (b n : ℕ) (block : TacBlock) (ys : List Line) → IsBlockOver (codes_of functions) (length f.code.blocks) f.code.regs block
+        → Adds labels (first + b) (first + b + 1) (block_size block) (block_lines near functions f first b n block ys) ys
+    block_adds b n block ys o =
         more_adds labels (block_size block) (omega arith)
         (then_adds labels (label_adds labels (first + b) _)
-        (then_adds labels (ops_add f whole (first + b + 1) n block.ops _ o.0) (end_adds f whole (first + b + 1) first (b + 1) block.end ys o.1 fits)))
+        (then_adds labels (ops_add (first + b + 1) n block.ops _ o.0) (end_adds (first + b + 1) (b + 1) block.end ys o.1)))
 
-    pub blocks_add : (first b n : ℕ) (blocks : List TacBlock) (ys : List Line) → All (IsBlockOver (codes_of functions) (length f.code.blocks) f.code.regs) blocks → first + length f.code.blocks ≤ labels
-        → Adds labels (first + b) (first + b + length blocks) (sum_by block_size blocks) (blocks_lines functions f first b n blocks ys) ys
-    blocks_add first b n [] ys o fits = numbered_adds labels (omega arith) (omega arith) (nothing labels (first + b) ys)
-    blocks_add first b n (block ∷ blocks) ys o fits =
+    blocks_add : (b n : ℕ) (blocks : List TacBlock) (ys : List Line) → All (IsBlockOver (codes_of functions) (length f.code.blocks) f.code.regs) blocks
+        → Adds labels (first + b) (first + b + length blocks) (sum_by block_size blocks) (blocks_lines near functions f first b n blocks ys) ys
+    blocks_add b n [] ys o = numbered_adds labels (omega arith) (omega arith) (nothing labels (first + b) ys)
+    blocks_add b n (block ∷ blocks) ys o =
         more_adds labels (sum_by block_size (block ∷ blocks)) (omega (arith, sum_by-cons block_size block blocks))
         (numbered_adds labels refl (omega arith)
-        (then_adds labels (block_adds first b n block _ (All-head (IsBlockOver (codes_of functions) (length f.code.blocks) f.code.regs) block blocks o) fits)
+        (then_adds labels (block_adds b n block _ (All-head (IsBlockOver (codes_of functions) (length f.code.blocks) f.code.regs) block blocks o))
         (numbered_adds labels (omega arith) refl
-        (blocks_add first (b + 1) (n + calls_in block) blocks ys (All-tail (IsBlockOver (codes_of functions) (length f.code.blocks) f.code.regs) block blocks o) fits))))
+        (blocks_add (b + 1) (n + calls_in block) blocks ys (All-tail (IsBlockOver (codes_of functions) (length f.code.blocks) f.code.regs) block blocks o)))))
 
-    pub function_adds : (label : ℕ) (ys : List Line) → IsFunctionOver (codes_of functions) f.code → label + (length f.code.blocks + 1) ≤ labels
-        → Adds labels label (label + (length f.code.blocks + 1)) (function_size f.code) (function_lines functions f label ys) ys
-    function_adds label ys o fits =
+    pub body_adds : IsFunctionOver (codes_of functions) f.code → Adds labels label (label + (length f.code.blocks + 1)) (function_size f.code) (body_lines near functions f label) []
+    body_adds o =
         more_adds labels (function_size f.code) (omega arith)
         (numbered_adds labels refl (omega arith)
         (then_adds labels (label_adds labels label _)
-        (then_adds labels (near_store_adds labels (label + 1) 1 2 0 _ (omega arith) (omega arith) (omega arith))
-        (numbered_adds labels (omega arith) refl (blocks_add (label + 1) 0 0 f.code.blocks ys o.2 (omega arith))))))
+        (then_adds labels (near_store_adds labels first 1 2 0 _ (omega arith) (omega arith) (omega arith))
+        (numbered_adds labels (omega arith) refl (blocks_add 0 0 f.code.blocks [] o.2)))))
 
-  pub functions_add : (label : ℕ) (fs : List PlacedFunc) (ys : List Line) → All IsPlacedWhole fs → All (IsFunctionOver (codes_of functions)) (codes_of fs) → label + sum_by labels_in fs ≤ labels
-      → Adds labels label (label + sum_by labels_in fs) (sum_by function_size (codes_of fs)) (functions_lines functions label fs ys) ys
-  functions_add label [] ys p o fits = numbered_adds labels refl (omega arith) (nothing labels label ys)
-  functions_add label (f ∷ fs) ys p o fits =
+  module _ (f : PlacedFunc) (whole : IsPlacedWhole f) (label : ℕ) (ys : List Line) (o : IsFunctionOver (codes_of functions) f.code) (few : label + (length f.code.blocks + 1) ≤ count) where
+    abbrev near : Bool
+    near = is_near functions f label
+
+    abbrev own : Labels
+    own = labels_for functions near f label
+
+    pub function_adds : Adds own label (label + (length f.code.blocks + 1)) (function_size f.code) (function_lines functions f label ys) ys
+    function_adds = front_adds own ys (body_adds near f whole label few o)
+
+    function_joins : Joins count label (label + (length f.code.blocks + 1)) (function_size f.code) (function_lines functions f label ys) ys
+    unfolding function_adds front_adds
+    function_joins =
+        let body = body_adds near f whole label few o in
+        joins own function_adds few (omega arith) (omega arith)
+        (λ t. subst (λ (l : List Line). sum_by size_of l < 4096) (body.is ∙ append-nil body.front) (short_with functions f label near refl t))
+
+  functions_join : (label : ℕ) (fs : List PlacedFunc) (ys : List Line) → All IsPlacedWhole fs → All (IsFunctionOver (codes_of functions)) (codes_of fs) → label + sum_by labels_in fs ≤ count
+      → Joins count label (label + sum_by labels_in fs) (sum_by function_size (codes_of fs)) (functions_lines functions label fs ys) ys
+  functions_join label [] ys p o few = numbered_joins count refl (omega arith) (nothing_joins count label ys)
+  functions_join label (f ∷ fs) ys p o few =
       let more = sum_by-cons labels_in f fs in
-      more_adds labels (sum_by function_size (codes_of (f ∷ fs))) (omega (arith, sum_by-cons function_size f.code (codes_of fs)))
-      (numbered_adds labels refl (omega arith)
-      (then_adds labels (function_adds f (All-head IsPlacedWhole f fs p) label _ (All-head (IsFunctionOver (codes_of functions)) f.code (codes_of fs) o) (omega arith))
-      (functions_add (label + (length f.code.blocks + 1)) fs ys (All-tail IsPlacedWhole f fs p) (All-tail (IsFunctionOver (codes_of functions)) f.code (codes_of fs) o) (omega arith))))
+      more_joins count (sum_by function_size (codes_of (f ∷ fs))) (omega (arith, sum_by-cons function_size f.code (codes_of fs)))
+      (numbered_joins count refl (omega arith)
+      (then_joins count (function_joins f (All-head IsPlacedWhole f fs p) label _ (All-head (IsFunctionOver (codes_of functions)) f.code (codes_of fs) o) (omega arith))
+      (functions_join (label + (length f.code.blocks + 1)) fs ys (All-tail IsPlacedWhole f fs p) (All-tail (IsFunctionOver (codes_of functions)) f.code (codes_of fs) o) (omega arith))))
 
-pub start_adds : (labels main : ℕ) (ys : List Line) → main < labels → Adds labels 0 1 5 (start_lines main ys) ys
-start_adds labels main ys h =
+-- nothing near
+abbrev pub far_labels : ℕ → Labels
+far_labels count = record { count = count; near = false; low = 0; high = 0 }
+
+pub start_adds : (count main : ℕ) (ys : List Line) → main < count → Adds (far_labels count) 0 1 5 (start_lines main ys) ys
+start_adds count main ys h =
+    let labels = far_labels count in
     more_adds labels 5 (omega arith)
     (then_adds labels (label_adds labels 0 _)
     (then_adds labels (lui_adds labels 1 2 0x3FFC _ (omega arith) (omega arith))
     (then_adds labels (far_adds labels 1 1 main _ (omega arith) h) (two_ask_adds labels 1 0 ys (omega arith)))))
 
 -- the lines of a program have the labels from 0 on, each once, and their size is within that of the program
-pub program_adds : (p : Placed) → IsWellFormed p → Adds (label_of p.funcs (length p.funcs)) 0 (label_of p.funcs (length p.funcs)) (code_size p) (program_lines p) []
-program_adds p w =
+pub program_joins : (p : Placed) → IsWellFormed p → Joins (label_of p.funcs (length p.funcs)) 0 (label_of p.funcs (length p.funcs)) (code_size p) (program_lines p) []
+program_joins p w =
     let main = callable (codes_of p.funcs) p.funcs p.main 0 w.placed w.code.functions w.code.main in
     let all = all_labels p.funcs in
-    more_adds (label_of p.funcs (length p.funcs)) (code_size p) (omega arith)
-    (numbered_adds (label_of p.funcs (length p.funcs)) refl (sym all)
-    (then_adds (label_of p.funcs (length p.funcs)) (start_adds (label_of p.funcs (length p.funcs)) (label_of p.funcs p.main) _ (label_fits p.funcs p.main main.below))
-    (functions_add p.funcs w.placed w.code.functions 1 p.funcs [] w.placed w.code.functions (omega arith))))
+    let count = label_of p.funcs (length p.funcs) in
+    more_joins count (code_size p) (omega arith)
+    (numbered_joins count refl (sym all)
+    (then_joins count
+    (joins (far_labels count) (start_adds count (label_of p.funcs p.main) _ (label_fits p.funcs p.main main.below)) (omega arith) (omega arith) (omega arith) (λ e. absurd cc))
+    (functions_join p.funcs w.placed w.code.functions 1 p.funcs [] w.placed w.code.functions (omega arith))))
 
 -- ---- labels are few
 

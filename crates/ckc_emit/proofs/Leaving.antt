@@ -1,18 +1,18 @@
 -- The ends of blocks that lead to another block are simulated.
 use Rattle.std.proofs.Common.{◌≡◌, ◌≢◌, ◌⊎◌, inl, inr, ℕ, ◌+◌, ◌*◌, ◌≤◌, ◌<◌, ◌==◌, not, if◌then◌else◌, Bool, true, false, List, [], ◌∷◌, length, map, Option, Some, None, refl, sym, ap, subst, ◌∙◌, arith}
-use Rattle.std.specs.Prelude.{All, pos, nat_lt, int_lt}
+use Rattle.std.specs.Prelude.{All, ℤ, pos, nat_lt, int_lt}
 use Rattle.std.specs.List.{slice_get}
 use Rattle.std.proofs.lemmas.List.Elements.{All-get_or, All-nil}
 use Rattle.std.proofs.lemmas.Option.{slice_get_within, get_or_from_slice_get}
 use Rattle.ckc_base.specs.Memory.{data_start}
+use Rattle.ckc_base.specs.Steps.{Goes}
 use Rattle.ckc_base.specs.States.{Travels}
 use Rattle.ckc_base.proofs.Travelling.{one_travel, no_travel, then_travels}
 use Rattle.ckc_rv_operations.specs.declared.operations.BranchOp.{BranchOp}
 use Rattle.ckc_rv.specs.declared.instructions.Instr.TheVariants.{Branch as BranchInstr}
 use Rattle.ckc_rv.specs.Effects.{moved, is_taken}
-use Rattle.ckc_rv.specs.Detailed.{detailed_system}
+use Rattle.ckc_rv.specs.Detailed.{detailed_step, detailed_system}
 use Rattle.ckc_asm_lines.specs.declared.lines.Line.{Line}
-use Rattle.ckc_asm_lines.specs.declared.lines.Line.TheVariants.{Plain, Far}
 use Rattle.ckc_tac.specs.declared.code.TacBlock.{TacBlock}
 use Rattle.ckc_tac.specs.declared.code.TacOp.{TacOp}
 use Rattle.ckc_tac.specs.declared.code.TacEnd.{TacEnd}
@@ -31,9 +31,9 @@ use Rattle.ckc_base.specs.Words.{signed, flag, applied}
 use Rattle.ckc_emit.specs.declared.places.PlacedOperand.{PlacedOperand}
 use Rattle.ckc_emit.specs.code.Operands.{IsOperand}
 use Rattle.ckc_emit.specs.code.Lines.{register_of, register_with}
-use Rattle.ckc_emit.specs.code.ProgramLines.{label_of, ops_lines, end_lines, operand_at, holding, failing, jump_lines, choice_lines, branch_lines, is_passing, is_passing_block, falls_through}
+use Rattle.ckc_emit.specs.code.ProgramLines.{label_of, ops_lines, end_lines, operand_at, holding, failing, jump_line, jump_lines, leave_lines, choice_lines, branch_lines, is_passing, is_passing_block, falls_through, is_near}
 use Rattle.ckc_emit.proofs.Local.{Local, state_of}
-use Rattle.ckc_emit.proofs.Steps.{branch_taken, branch_passed}
+use Rattle.ckc_emit.proofs.Steps.{At, jal_step, branch_taken, branch_passed}
 use Rattle.ckc_emit.proofs.Checking.{holding_is}
 use Rattle.ckc_emit.proofs.Paths.{Code, LinesAt, FarAt}
 use Rattle.ckc_emit.proofs.Homes.{HasValue, framed_kept, keeps_same, register_is}
@@ -131,6 +131,19 @@ module _ (functions : List PlacedFunc) (c : Code) where
         input = g.input;
       }
 
+  -- one instruction leads to the block
+  comes_by : (l : Local) (pc index b : ℕ) → detailed_step c.parts (state_of c.parts l pc) ≡ Goes [] (state_of c.parts l (c.label (block_label functions index b))) → Comes 1 1 l pc index b
+  comes_by l pc index b e = record {
+    to = l;
+    count = 1;
+    many = omega arith;
+    few = omega arith;
+    travels = one_travel (detailed_system c.parts) [] (state_of c.parts l pc) (state_of c.parts l (c.label (block_label functions index b))) e;
+    soft = record { keeps = keeps_same l; has = λ q w i h. h };
+    bytes = refl;
+    input = refl;
+  }
+
   -- in front of it some instructions are run
   then_comes : (first least more : ℕ) (l m : Local) (pc to index b : ℕ) → Travels (detailed_system c.parts) first [] (state_of c.parts l pc) (state_of c.parts m to)
       → IsSoft l m → m.bytes ≡ l.bytes → m.input ≡ l.input → Comes least more m to index b → Comes (first + least) (first + more) l pc index b
@@ -148,6 +161,14 @@ module _ (functions : List PlacedFunc) (c : Code) where
   comes_loosened : (a few d many : ℕ) (l : Local) (pc index b : ℕ) → d ≤ a → few ≤ many → Comes a few l pc index b → Comes d many l pc index b
   comes_loosened a few d many l pc index b g h k = record { to = k.to; count = k.count; many = omega (arith, k.many); few = omega (arith, k.few); travels = k.travels; soft = k.soft; bytes = k.bytes; input = k.input }
 
+  -- a near or a far jump leads to the block
+  comes_jump : (t : Bool) (l : Local) (pc index b : ℕ) (rest : List Line) → LinesAt c pc (jump_line t (block_label functions index b) ∷ rest) → Comes 1 2 l pc index b
+  comes_jump true l pc index b rest at =
+      let n = at.0 in
+      comes_loosened 1 1 1 2 l pc index b (omega arith) (omega arith)
+      (comes_by l pc index b (jal_step c.parts l pc n.offset (c.label (block_label functions index b)) n.here n.leads n.aligned))
+  comes_jump false l pc index b rest at = comes_loosened 2 2 1 2 l pc index b (omega arith) (omega arith) (comes_far l pc index b at.0)
+
   -- ---- the related state at a block
 
   module _ (main : ℕ) (whole : IsWhole main) (s : State) (l : Local) (pc : ℕ) (r : IsRelated functions c s l pc) where
@@ -156,6 +177,9 @@ module _ (functions : List PlacedFunc) (c : Code) where
 
     abbrev index : ℕ
     index = r.at.index
+
+    abbrev near : Bool
+    near = is_near functions f (label_of functions index)
 
     abbrev at_block : ℕ → TacBlock → State
     at_block b block = record s { frame = begins f b s.frame.places block }
@@ -213,7 +237,7 @@ module _ (functions : List PlacedFunc) (c : Code) where
         omega arith
 
     jump_by : (falls : Bool) (b : ℕ) (block : TacBlock) → falls_through f.code.blocks r.at.next b ≡ falls → s.frame.ops ≡ [] → s.frame.end ≡ Jump b → slice_get f.code.blocks b ≡ Some block
-        → LinesAt c pc (if falls then r.at.behind else Far 0 (label_of functions index + 1 + b) ∷ r.at.behind) → Reaches functions c s l pc [] (at_block b block)
+        → LinesAt c pc (if falls then r.at.behind else jump_line near (label_of functions index + 1 + b) ∷ r.at.behind) → Reaches functions c s l pc [] (at_block b block)
     jump_by true b block falls none end e at =
         let same = eq_of b r.at.next (and_first (b == r.at.next) (not (is_passing (slice_get f.code.blocks b))) falls) in
         let busy = not_true (is_passing (slice_get f.code.blocks b)) (and_second (b == r.at.next) (not (is_passing (slice_get f.code.blocks b))) falls) in
@@ -221,13 +245,13 @@ module _ (functions : List PlacedFunc) (c : Code) where
         let k = comes_next l pc index f.code.blocks b block r.at.behind begin e at in
         comes_reach 0 0 b block (omega arith) e k (inr (lower_measure b block none end (sym (passing_is f.code.blocks b block e) ∙ busy)))
     jump_by false b block falls none end e at =
-        let k = comes_far l pc index b at.0 in
-        comes_reach 2 2 b block (omega arith) e k (inl (omega (arith, k.many)))
+        let k = comes_jump near l pc index b r.at.behind at in
+        comes_reach 1 2 b block (omega arith) e k (inl (omega (arith, k.many)))
 
-    pub ends_at : (end : TacEnd) → s.frame.ops ≡ [] → s.frame.end ≡ end → LinesAt c pc (end_lines f (label_of functions index + 1) r.at.next end r.at.behind)
+    pub ends_at : (end : TacEnd) → s.frame.ops ≡ [] → s.frame.end ≡ end → LinesAt c pc (end_lines near f (label_of functions index + 1) r.at.next end r.at.behind)
     ends_at end none e =
-        subst (λ (end : TacEnd). LinesAt c pc (end_lines f (label_of functions index + 1) r.at.next end r.at.behind)) e
-        (subst (λ (ops : List TacOp). LinesAt c pc (ops_lines functions f s.frame.calls_before ops (end_lines f (label_of functions index + 1) r.at.next s.frame.end r.at.behind))) none r.here)
+        subst (λ (end : TacEnd). LinesAt c pc (end_lines near f (label_of functions index + 1) r.at.next end r.at.behind)) e
+        (subst (λ (ops : List TacOp). LinesAt c pc (ops_lines functions f s.frame.calls_before ops (end_lines near f (label_of functions index + 1) r.at.next s.frame.end r.at.behind))) none r.here)
 
     jump_goes : (b : ℕ) (o : Option TacBlock) → slice_get f.code.blocks b ≡ o → s.frame.ops ≡ [] → s.frame.end ≡ Jump b → Simulated functions c s (state_of c.parts l pc) (goes_to s b o)
     jump_goes b (Some block) e none end =
@@ -251,24 +275,24 @@ module _ (functions : List PlacedFunc) (c : Code) where
       soft_here = record { keeps = keeps_same m; has = λ a w i h. h }
 
       -- the branch is not taken
-      passes_to : (i : BranchOp) (b most : ℕ) (more : List Line) → LinesAt c q (Plain (BranchInstr i ra rb (pos 12)) ∷ more) → is_taken i x y ≡ false
+      passes_to : (i : BranchOp) (z : ℤ) (b most : ℕ) → At c.parts q (BranchInstr i ra rb z) → is_taken i x y ≡ false
           → Comes 0 most m (q + 4) index b → Comes 1 (1 + most) m q index b
-      passes_to i b most more at e k =
+      passes_to i z b most at e k =
           then_comes 1 0 most m m q (q + 4) index b
-          (one_travel (detailed_system c.parts) [] (state_of c.parts m q) (state_of c.parts m (q + 4)) (branch_passed c.parts m q i ra rb (pos 12) at.0 low_left low_right (test_is i false e)))
+          (one_travel (detailed_system c.parts) [] (state_of c.parts m q) (state_of c.parts m (q + 4)) (branch_passed c.parts m q i ra rb z at low_left low_right (test_is i false e)))
           soft_here refl refl k
 
       over_is : q + 4 ≤ data_start → moved q (pos 12) ≡ q + 12
       over_is h = omega arith
 
-      -- the branch is taken
-      leads_to : (i : BranchOp) (b most : ℕ) (more : List Line) → LinesAt c q (Plain (BranchInstr i ra rb (pos 12)) ∷ more) → is_taken i x y ≡ true
+      -- the branch over a far jump is taken
+      leads_to : (i : BranchOp) (b most : ℕ) → At c.parts q (BranchInstr i ra rb (pos 12)) → is_taken i x y ≡ true
           → Comes 0 most m (q + 12) index b → Comes 1 (1 + most) m q index b
-      leads_to i b most more at e k =
-          let here = at.0.low in
-          let aligned = at.0.aligned in
+      leads_to i b most at e k =
+          let here = at.low in
+          let aligned = at.aligned in
           then_comes 1 0 most m m q (q + 12) index b
-          (one_travel (detailed_system c.parts) [] (state_of c.parts m q) (state_of c.parts m (q + 12)) (branch_taken c.parts m q i ra rb (pos 12) (q + 12) at.0 low_left low_right (test_is i true e) (over_is here) (omega arith)))
+          (one_travel (detailed_system c.parts) [] (state_of c.parts m q) (state_of c.parts m (q + 12)) (branch_taken c.parts m q i ra rb (pos 12) (q + 12) at low_left low_right (test_is i true e) (over_is here) (omega arith)))
           soft_here refl refl k
 
       behind_far : (rest : List Line) → LinesAt c (q + 4 + 8) rest → LinesAt c (q + 12) rest
@@ -283,40 +307,54 @@ module _ (functions : List PlacedFunc) (c : Code) where
       abbrev behind : List Line
       behind = r.at.behind
 
-      falls_to : (b : ℕ) (block : TacBlock) → slice_get f.code.blocks b ≡ Some block → b ≡ next → LinesAt c (q + 12) behind → Comes 0 2 m (q + 12) index b
-      falls_to b block e same at =
-          comes_loosened 0 0 0 2 m (q + 12) index b (omega arith) (omega arith)
-          (comes_next m (q + 12) index f.code.blocks b block behind (subst (λ p. BeginsWith functions index f.code.blocks p behind) (sym same) r.at.falls) e at)
+      -- it is left to a block
+      leaves : (t : Bool) (taken other : BranchOp) (b : ℕ) (rest : List Line) → LinesAt c q (leave_lines t taken other ra rb (first + b) rest)
+          → is_taken taken x y ≡ true → is_taken other x y ≡ false → Comes 1 3 m q index b
+      leaves true taken other b rest at e g =
+          let n = at.0 in
+          comes_loosened 1 1 1 3 m q index b (omega arith) (omega arith)
+          (comes_by m q index b (branch_taken c.parts m q taken ra rb n.offset (c.label (block_label functions index b)) n.here low_left low_right (test_is taken true e) n.leads n.aligned))
+      leaves false taken other b rest at e g =
+          passes_to other (pos 12) b 2 at.0 g (comes_loosened 2 2 0 2 m (q + 4) index b (omega arith) (omega arith) (comes_far m (q + 4) index b at.1.0))
 
-      far_to : (p b : ℕ) → FarAt c p 0 (first + b) → Comes 0 2 m p index b
-      far_to p b at = comes_loosened 2 2 0 2 m p index b (omega arith) (omega arith) (comes_far m p index b at)
+      -- the lines after it are run
+      goes_on : (t : Bool) (taken other : BranchOp) (label b : ℕ) (rest : List Line) → LinesAt c q (leave_lines t taken other ra rb label rest)
+          → is_taken taken x y ≡ false → is_taken other x y ≡ true → ((p : ℕ) → LinesAt c p rest → Comes 0 2 m p index b) → Comes 1 3 m q index b
+      goes_on true taken other label b rest at e g on = passes_to taken at.0.offset b 2 at.0.here e (on (q + 4) at.1)
+      goes_on false taken other label b rest at e g on = leads_to other b 2 at.0 g (on (q + 12) (behind_far rest at.1.1))
 
-      jump_to : (t : Bool) (b : ℕ) (block : TacBlock) → (b == next) ≡ t → slice_get f.code.blocks b ≡ Some block → LinesAt c (q + 12) (if t then behind else Far 0 (first + b) ∷ behind)
-          → Comes 0 2 m (q + 12) index b
-      jump_to true b block same e at = falls_to b block e (eq_of b next same) at
-      jump_to false b block same e at = far_to (q + 12) b at.0
+      falls_to : (p b : ℕ) (block : TacBlock) → slice_get f.code.blocks b ≡ Some block → b ≡ next → LinesAt c p behind → Comes 0 2 m p index b
+      falls_to p b block e same at =
+          comes_loosened 0 0 0 2 m p index b (omega arith) (omega arith)
+          (comes_next m p index f.code.blocks b block behind (subst (λ k. BeginsWith functions index f.code.blocks k behind) (sym same) r.at.falls) e at)
+
+      jump_to : (t : Bool) (p b : ℕ) (block : TacBlock) → (b == next) ≡ t → slice_get f.code.blocks b ≡ Some block → LinesAt c p (if t then behind else jump_line near (first + b) ∷ behind)
+          → Comes 0 2 m p index b
+      jump_to true p b block same e at = falls_to p b block e (eq_of b next same) at
+      jump_to false p b block same e at = comes_loosened 1 2 0 2 m p index b (omega arith) (omega arith) (comes_jump near m p index b behind at)
 
       abbrev chosen : Bool → ℕ → ℕ → List Line
       chosen t one two =
-          if t then Plain (BranchInstr (holding o) ra rb (pos 12)) ∷ Far 0 (first + two) ∷ behind
-          else (Plain (BranchInstr (failing o) ra rb (pos 12)) ∷ Far 0 (first + one) ∷ jump_lines first next two behind)
+          if t then leave_lines near (failing o) (holding o) ra rb (first + two) behind
+          else leave_lines near (holding o) (failing o) ra rb (first + one) (jump_lines near first next two behind)
 
       to_two : (t : Bool) (one two : ℕ) (block : TacBlock) → slice_get f.code.blocks two ≡ Some block → (v == 0) ≡ true → LinesAt c q (chosen t one two) → Comes 1 3 m q index two
       to_two true one two block e none at =
-          passes_to (holding o) two 2 (Far 0 (first + two) ∷ behind) at (holding_is o x y ∙ ap not none) (far_to (q + 4) two at.1.0)
+          leaves near (failing o) (holding o) two behind at (failing_is o x y ∙ none) (holding_is o x y ∙ ap not none)
       to_two false one two block e none at =
-          leads_to (failing o) two 2 (Far 0 (first + one) ∷ jump_lines first next two behind) at (failing_is o x y ∙ none)
-          (jump_to (two == next) two block refl e (behind_far (jump_lines first next two behind) at.1.1))
+          goes_on near (holding o) (failing o) (first + one) two (jump_lines near first next two behind) at (holding_is o x y ∙ ap not none) (failing_is o x y ∙ none)
+          (λ p there. jump_to (two == next) p two block refl e there)
 
       to_one : (t : Bool) (one two : ℕ) (block : TacBlock) → (one == next) ≡ t → slice_get f.code.blocks one ≡ Some block → (v == 0) ≡ false → LinesAt c q (chosen t one two) → Comes 1 3 m q index one
       to_one true one two block same e some at =
-          leads_to (holding o) one 2 (Far 0 (first + two) ∷ behind) at (holding_is o x y ∙ ap not some) (falls_to one block e (eq_of one next same) (behind_far behind at.1.1))
+          goes_on near (failing o) (holding o) (first + two) one behind at (failing_is o x y ∙ some) (holding_is o x y ∙ ap not some)
+          (λ p there. falls_to p one block e (eq_of one next same) there)
       to_one false one two block same e some at =
-          passes_to (failing o) one 2 (Far 0 (first + one) ∷ jump_lines first next two behind) at (failing_is o x y ∙ some) (far_to (q + 4) one at.1.0)
+          leaves near (holding o) (failing o) one (jump_lines near first next two behind) at (holding_is o x y ∙ ap not some) (failing_is o x y ∙ some)
 
     module _ (o : Comparison) (a b : Operand) (one two x y : ℕ) (left_over : IsOperandOver f.code.regs a) (right_over : IsOperandOver f.code.regs b)
         (left_there : value_in (registers_of s.frame) a ≡ Some x) (right_there : value_in (registers_of s.frame) b ≡ Some y)
-        (lines : LinesAt c pc (branch_lines o (operand_at f.homes a) (operand_at f.homes b) (label_of functions index + 1) r.at.next one two r.at.behind)) where
+        (lines : LinesAt c pc (branch_lines near o (operand_at f.homes a) (operand_at f.homes b) (label_of functions index + 1) r.at.next one two r.at.behind)) where
       abbrev p : PlacedOperand
       p = operand_at f.homes a
 
@@ -336,7 +374,7 @@ module _ (functions : List PlacedFunc) (c : Code) where
       right_is = operand_found f r.at.placed s.frame.places b y right_over right_there
 
       abbrev mid : List Line
-      mid = choice_lines o (register_with p 5) (register_with q 6) (label_of functions index + 1) r.at.next one two r.at.behind
+      mid = choice_lines near o (register_with p 5) (register_with q 6) (label_of functions index + 1) r.at.next one two r.at.behind
 
       -- the operands are read, and then the branch is tested
       after_read : (t : ℕ) → ((m : Local) (at : ℕ) → m.x (register_with p 5) ≡ x → m.x (register_with q 6) ≡ y → LinesAt c at mid → Comes 1 3 m at index t) → Comes 1 9 l pc index t

@@ -2,9 +2,11 @@ pub mod Tests
 pub mod PlaceAt
 pub mod Looping
 pub mod CallsEmitted
+pub mod FunctionEmitted
 pub mod ProgramEmitted
 pub mod Turning
 pub mod Pieces
+pub mod Close
 pub mod Added
 pub mod AddedCalls
 pub mod AddedCode

@@ -9,6 +9,7 @@ use Rattle.ckc_base.proofs.Runs.{one_halt, then_closes}
 use Rattle.ckc_base.proofs.Travelling.{one_travel, no_travel, then_travels}
 use Rattle.ckc_rv.specs.declared.instructions.Instr.{Instr}
 use Rattle.ckc_rv.specs.declared.instructions.Instr.TheVariants.{Auipc, Jalr}
+use Rattle.ckc_rv.specs.declared.instructions.Instr.TheVariants as instr
 use Rattle.ckc_rv.specs.Effects.{moved}
 use Rattle.ckc_rv.specs.Machine.{Parts}
 use Rattle.ckc_rv.specs.Detailed.{MachineEvent, detailed_step, detailed_system}
@@ -31,13 +32,21 @@ pub record FarAt (c : Code) (pc rd label : ℕ) : Type 0 where
   pub leads : moved ((pc + upper * 2 ^ 12) % 2 ^ 32) lower ≡ c.label label
   pub aligned : c.label label % 4 ≡ 0
 
--- The lines stand at an address and after it. Nothing is said of near jumps and branches, which are not emitted.
+-- An instruction that leads to a near label stands at an address.
+pub record NearAt (c : Code) (pc : ℕ) (i : ℤ → Instr) (label : ℕ) : Type 0 where
+  pub offset : ℤ
+  pub here : At c.parts pc (i offset)
+  pub leads : moved pc offset ≡ c.label label
+  pub aligned : c.label label % 4 ≡ 0
+
+-- The lines stand at an address and after it.
 abbrev pub LinesAt : Code → ℕ → List Line → Type 0
 LinesAt c pc [] = Unit {0}
 LinesAt c pc (Label label ∷ lines) = (c.label label ≡ pc) × LinesAt c pc lines
 LinesAt c pc (Plain i ∷ lines) = At c.parts pc i × LinesAt c (pc + 4) lines
-LinesAt c pc (Jump rd label ∷ lines) = LinesAt c (pc + 4) lines
-LinesAt c pc (Branch op rs1 rs2 label ∷ lines) = LinesAt c (pc + 4) lines
+LinesAt c pc (Jump rd label ∷ lines) = NearAt c pc (λ z. instr.Jal rd z) label × LinesAt c (pc + 4) lines
+LinesAt c pc (Branch op rs1 rs2 label ∷ lines) =
+    NearAt c pc (λ z. instr.Branch op rs1 rs2 z) label × LinesAt c (pc + 4) lines
 LinesAt c pc (Far rd label ∷ lines) = FarAt c pc rd label × LinesAt c (pc + 8) lines
 
 -- From an address the machine comes to where lines stand, in so many instructions and with these events.

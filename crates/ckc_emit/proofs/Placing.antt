@@ -1,24 +1,26 @@
 -- Assembled lines stand in the code where their labels say.
 use Rattle.std.proofs.Common.{◌≡◌, ℕ, zero, suc, ◌+◌, ◌-◌, ◌*◌, ◌%◌, ◌^◌, ◌≤◌, ◌<◌, nat_lt, if◌then◌else◌, Bool, true, false, List, [], ◌∷◌, length, take, drop, get_or, Option, Some, None, option_and_then, refl, sym, ap, subst, ◌∙◌, arith}
-use Rattle.std.specs.Prelude.{sum_by}
+use Rattle.std.specs.Prelude.{ℤ, sum_by}
 use Rattle.std.specs.List.{slice_get, position_or_len}
 use Rattle.std.specs.Int.{byte_at}
 use Rattle.std.proofs.lemmas.List.{get_or-take, get_or-drop, take-take, drop-take, drop-drop}
+use Rattle.std.proofs.lemmas.Int.{ints}
 use Rattle.std.proofs.lemmas.Bool.Decides.{nat_tests}
 use Rattle.ckc_rv.specs.declared.instructions.Instr.{Instr}
 use Rattle.ckc_rv.specs.declared.instructions.Instr.TheVariants as instr
+use Rattle.ckc_rv.specs.Effects.{moved}
 use Rattle.ckc_rv.specs.code.Decoded.{decoded}
 use Rattle.ckc_rv.specs.Machine.{Parts, flat, loaded, is_code, code_start}
 use Rattle.ckc_rv.proofs.Rows.{decoded_law}
 use Rattle.ckc_image.specs.Image.{word_bytes}
 use Rattle.ckc_asm_lines.specs.declared.lines.Line.{Line}
 use Rattle.ckc_asm_lines.specs.declared.lines.Line.TheVariants.{Label, Plain, Jump, Branch, Far}
-use Rattle.ckc_asm_lines.specs.Assembled.{size_of, offset_of, address_of, StandsAt, StandsOnce, is_label, IsWord, Assembled}
+use Rattle.ckc_asm_lines.specs.Assembled.{size_of, offset_of, address_of, StandsAt, StandsOnce, is_label, distance, IsWord, Assembled}
 use Rattle.ckc_asm_lines.proofs.LabelPlaces.{address_is}
-use Rattle.ckc_asm_lines.proofs.PlaceTable.{offset_more, offset_within, fours}
+use Rattle.ckc_asm_lines.proofs.PlaceTable.{offset_more, offset_within, offset_all, fours}
 use Rattle.ckc_emit.proofs.Words.{loaded_word}
 use Rattle.ckc_emit.proofs.Steps.{At}
-use Rattle.ckc_emit.proofs.Paths.{Code, LinesAt, FarAt}
+use Rattle.ckc_emit.proofs.Paths.{Code, LinesAt, FarAt, NearAt}
 use Rattle.ckc_emit.proofs.Tests.{lt_of}
 
 -- where the first such label stands
@@ -136,6 +138,22 @@ module _ (lines : List Line) (start : ℕ) (given : List ℕ) (parts : Parts) (b
         aligned = (let p : label_address lines label % 4 ≡ 0 = (let m2 = multiple (position_or_len (is_label label) lines) in omega arith) in p);
       }
 
+  distance_leads : (address target : ℕ) → address < 2 ^ 25 → target < 2 ^ 25 → moved address (distance address target) ≡ target
+  distance_leads address target h i = omega (arith, ints)
+
+  -- an instruction with the distance of a label leads to it
+  near_at : (k label target : ℕ) (i : ℤ → Instr) → offset_of lines k + 4 ≤ length parts.code → StandsAt lines label target
+      → IsWord (i (distance (address_of lines k) target)) (take 4 (drop (offset_of lines k) parts.code)) → NearAt c (address_of lines k) i label
+  near_at k label target i fit at word =
+      let low : target < 2 ^ 25 = omega (arith, offset_all lines at.0, at.2, small) in
+      let m = multiple (position_or_len (is_label label) lines) in
+      record {
+        offset = distance (address_of lines k) target;
+        here = stands_at parts code_small (offset_of lines k) (i (distance (address_of lines k) target)) fit (multiple k) word;
+        leads = distance_leads (address_of lines k) target (omega (arith, fit, code_small)) low ∙ sym (label_is label target at);
+        aligned = (let p : label_address lines label % 4 ≡ 0 = omega arith in p);
+      }
+
   -- the lines from one on stand at its address
   lines_from : (rest : List Line) (k : ℕ) → drop k lines ≡ rest → LinesAt c (address_of lines k) rest
   lines_from [] k e = tt
@@ -148,10 +166,12 @@ module _ (lines : List Line) (start : ℕ) (given : List ℕ) (parts : Parts) (b
       (stands_at parts code_small (offset_of lines k) i (within k (Plain i) r.0) (multiple k) (built.each k (Plain i) r.0), subst (λ q. LinesAt c q more) (next_is k (Plain i) r.0) (lines_from more (suc k) r.1))
   lines_from (Jump rd label ∷ more) k e =
       let r = drop_get lines k (Jump rd label) more e in
-      subst (λ q. LinesAt c q more) (next_is k (Jump rd label) r.0) (lines_from more (suc k) r.1)
+      let w = built.each k (Jump rd label) r.0 in
+      (near_at k label w.0 (λ z. instr.Jal rd z) (within k (Jump rd label) r.0) w.1 w.2, subst (λ q. LinesAt c q more) (next_is k (Jump rd label) r.0) (lines_from more (suc k) r.1))
   lines_from (Branch op rs1 rs2 label ∷ more) k e =
       let r = drop_get lines k (Branch op rs1 rs2 label) more e in
-      subst (λ q. LinesAt c q more) (next_is k (Branch op rs1 rs2 label) r.0) (lines_from more (suc k) r.1)
+      let w = built.each k (Branch op rs1 rs2 label) r.0 in
+      (near_at k label w.0 (λ z. instr.Branch op rs1 rs2 z) (within k (Branch op rs1 rs2 label) r.0) w.1 w.2, subst (λ q. LinesAt c q more) (next_is k (Branch op rs1 rs2 label) r.0) (lines_from more (suc k) r.1))
   lines_from (Far rd label ∷ more) k e =
       let r = drop_get lines k (Far rd label) more e in
       (far_at k rd label r.0, subst (λ q. LinesAt c q more) (next_is k (Far rd label) r.0) (lines_from more (suc k) r.1))

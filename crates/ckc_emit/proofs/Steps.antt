@@ -13,7 +13,7 @@ use Rattle.ckc_rv_operations.specs.declared.operations.BranchOp.{BranchOp}
 use Rattle.ckc_rv_operations.specs.declared.operations.LoadOp.{LoadOp}
 use Rattle.ckc_rv_operations.specs.declared.operations.StoreOp.{StoreOp}
 use Rattle.ckc_rv.specs.declared.instructions.Instr.{Instr}
-use Rattle.ckc_rv.specs.declared.instructions.Instr.TheVariants.{Lui, Auipc, Jalr, Branch, Load, Store, Imm, Reg, Ecall}
+use Rattle.ckc_rv.specs.declared.instructions.Instr.TheVariants.{Lui, Auipc, Jal, Jalr, Branch, Load, Store, Imm, Reg, Ecall}
 use Rattle.ckc_rv.specs.declared.registers.Outcome.{Outcome}
 use Rattle.ckc_rv.specs.declared.registers.Outcome.TheVariants as outcome
 use Rattle.ckc_rv.specs.Effects.{effect_of, following, moved, reg_value, reg_form, is_taken, load_bytes, store_bytes, load_value}
@@ -115,6 +115,15 @@ module _ (parts : Parts) (l : Local) (pc : ℕ) where
       ∙ ap (λ b. let o : Outcome = if b then outcome.Next rd (following pc) target else outcome.BadTarget in with_writes (writes_of o) (by_outcome (state_of parts l pc) o)) good
       ∙ ap (λ (x : List ℕ). Goes [] (let s : State = record { x = x; pc = target; memory = memory_of parts l.bytes l.words; input = l.input } in s)) (set_table l.x rd (following pc) h)
       ∙ ap (λ v. Goes [] (state_of parts (with_x l (set l.x rd v)) target)) (next_pc at.low)
+
+  -- a jump without a link to a multiple of 4
+  pub jal_step : (z : ℤ) (target : ℕ) → At parts pc (Jal 0 z) → moved pc z ≡ target → target % 4 ≡ 0
+      → detailed_step parts (state_of parts l pc) ≡ Goes [] (state_of parts l target)
+  jal_step z target at m r =
+      let good : (target % 4 == 0) ≡ true = grind (arith, nat_tests) in
+      step_at (Jal 0 z) at
+      ∙ ap (λ t. let o : Outcome = if t % 4 == 0 then outcome.Next 0 (following pc) t else outcome.BadTarget in with_writes (writes_of o) (by_outcome (state_of parts l pc) o)) m
+      ∙ ap (λ b. let o : Outcome = if b then outcome.Next 0 (following pc) target else outcome.BadTarget in with_writes (writes_of o) (by_outcome (state_of parts l pc) o)) good
 
   taken_is : (op : BranchOp) (rs1 rs2 : ℕ) (b : Bool) → rs1 < 32 → rs2 < 32 → is_taken op (l.x rs1) (l.x rs2) ≡ b
       → is_taken op (slice_index (table 32 l.x) rs1) (slice_index (table 32 l.x) rs2) ≡ b

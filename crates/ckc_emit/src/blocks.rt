@@ -1,5 +1,5 @@
 //! The lines of operations, of the ends of blocks, and of functions.
-ghost use Rattle.std.specs.Prelude.{◌≡◌, ◌+◌, ◌≤◌, ◌<◌, ◌^◌, All, IfSome, IfOk, length, map, slice_get, sum_by, OnOk};
+ghost use Rattle.std.specs.Prelude.{◌≡◌, ◌+◌, ◌++◌, ◌≤◌, ◌<◌, ◌^◌, All, IfSome, IfOk, length, map, slice_get, sum_by, OnOk};
 ghost use Rattle.ckc_tac.specs.WellFormed.{HasParams, IsOperandOver, IsOpOver, IsEndOver, IsBlockOver, IsFunctionOver};
 ghost use Rattle.ckc_frame.specs.Meaning.{is_call as calls_of, calls_in};
 ghost use Rattle.ckc_frame.specs.WellFormed.{IsPlace, IsPlacedWhole, IsWellFormed};
@@ -7,7 +7,8 @@ ghost use Rattle.ckc_frame.specs.Places.{marks_of};
 ghost use Rattle.ckc_emit.specs.code.Emitting.{Emits};
 ghost use Rattle.ckc_emit.specs.code.Operands.{IsOperand};
 ghost use Rattle.ckc_emit.specs.code.CallLines.{place_at, call_lines, result_lines};
-ghost use Rattle.ckc_emit.specs.code.ProgramLines.{label_of, homes_of, operand_at, op_lines, ops_lines, jump_lines, failing as failing_of, choice_lines, branch_lines, is_passing_block, falls_through, end_lines, block_lines, blocks_lines, function_lines, return_lines, pass_lines, over_lines, AreLabels, codes_of};
+ghost use Rattle.ckc_emit.specs.code.ProgramLines.{label_of, homes_of, operand_at, op_lines, ops_lines, jump_line, jump_lines, failing as failing_of, leave_lines, choice_lines, branch_lines, is_passing_block, falls_through, end_lines, block_lines, blocks_lines, body_lines, are_near as are_near_lines, function_lines, return_lines, pass_lines, AreLabels, codes_of};
+ghost use Rattle.ckc_asm_lines.specs.Assembled.{size_of};
 
 use crate::allocation::put_alloc;
 use crate::calls::{put_call, put_result};
@@ -155,6 +156,7 @@ fn put_ops(
 /// The lines of a block's end, if another block or function follows.
 fn put_end(
     out: &mut Vec<Line>,
+    near: bool,
     f: &PlacedFunc,
     first: u32,
     next: u32,
@@ -163,12 +165,22 @@ fn put_end(
     requires placed { IsPlacedWhole f.now }
     requires over { IsEndOver (length f.now.code.blocks) f.now.code.regs end }
     requires fits { first + length f.now.code.blocks < 2 ^ 32 }
-    ensures { OnOk result (Emits out.old.items out.new.items (end_lines f.now first next end)) }
+    ensures { OnOk result (Emits out.old.items out.new.items (end_lines near f.now first next end)) }
 {
     match end {
-        TacEnd::Jump(b) => put_pass(out, f.code.blocks.as_slice(), first, next, b),
+        TacEnd::Jump(b) => put_pass(out, near, f.code.blocks.as_slice(), first, next, b),
         TacEnd::Branch(c, a, b, one, two) => {
-            put_branch(out, c, operand(f, a), operand(f, b), first, next, one, two)
+            put_branch(
+                out,
+                near,
+                c,
+                operand(f, a),
+                operand(f, b),
+                first,
+                next,
+                one,
+                two,
+            )
         }
         TacEnd::Return(a) => put_return(out, operand(f, a)),
     }
@@ -203,6 +215,7 @@ fn is_left_out(blocks: &[TacBlock], next: u32, b: u32) -> bool
 /// A jump at the end of a block.
 fn put_pass(
     out: &mut Vec<Line>,
+    near: bool,
     blocks: &[TacBlock],
     first: u32,
     next: u32,
@@ -210,21 +223,39 @@ fn put_pass(
 ) -> Result<(), AllocError>
     requires within { b < length blocks.now }
     requires fits { first + length blocks.now < 2 ^ 32 }
-    ensures { OnOk result (Emits out.old.items out.new.items (pass_lines blocks.now first next b)) }
+    ensures { OnOk result
+        (Emits out.old.items out.new.items (pass_lines near blocks.now first next b)) }
 {
     if !is_left_out(blocks, next, b) {
-        out.push(Line::Far(0, first + b))?;
+        out.push(jump_line(near, first + b))?;
     }
     Ok(())
 }
 
+/// A jump to a label, near or far.
+fn jump_line(near: bool, label: u32) -> Line
+    ensures { result ≡ jump_line near label }
+{
+    if near {
+        Line::Jump(0, label)
+    } else {
+        Line::Far(0, label)
+    }
+}
+
 /// A jump to a block, if it does not come next.
-fn put_jump(out: &mut Vec<Line>, first: u32, next: u32, b: u32) -> Result<(), AllocError>
+fn put_jump(
+    out: &mut Vec<Line>,
+    near: bool,
+    first: u32,
+    next: u32,
+    b: u32,
+) -> Result<(), AllocError>
     requires { first + b < 2 ^ 32 }
-    ensures { OnOk result (Emits out.old.items out.new.items (jump_lines first next b)) }
+    ensures { OnOk result (Emits out.old.items out.new.items (jump_lines near first next b)) }
 {
     if b != next {
-        out.push(Line::Far(0, first + b))?;
+        out.push(jump_line(near, first + b))?;
     }
     Ok(())
 }
@@ -244,6 +275,7 @@ fn failing(c: Comparison) -> BranchOp
 /// Goes to a block if a comparison of two operands holds, and else to another one.
 fn put_branch(
     out: &mut Vec<Line>,
+    near: bool,
     c: Comparison,
     a: PlacedOperand,
     b: PlacedOperand,
@@ -257,16 +289,17 @@ fn put_branch(
     requires one { first + one < 2 ^ 32 }
     requires two { first + two < 2 ^ 32 }
     ensures { OnOk result
-        (Emits out.old.items out.new.items (branch_lines c a b first next one two)) }
+        (Emits out.old.items out.new.items (branch_lines near c a b first next one two)) }
 {
     put_operand(out, a, 5)?;
     put_operand(out, b, 6)?;
     let (ra, rb) = (register_of_operand(a, 5), register_of_operand(b, 6));
-    put_choice(out, c, ra, rb, first, next, one, two)
+    put_choice(out, near, c, ra, rb, first, next, one, two)
 }
 
 fn put_choice(
     out: &mut Vec<Line>,
+    near: bool,
     c: Comparison,
     ra: u8,
     rb: u8,
@@ -278,28 +311,42 @@ fn put_choice(
     requires one { first + one < 2 ^ 32 }
     requires two { first + two < 2 ^ 32 }
     ensures { OnOk result
-        (Emits out.old.items out.new.items (choice_lines c ra rb first next one two)) }
+        (Emits out.old.items out.new.items (choice_lines near c ra rb first next one two)) }
 {
     if one == next {
-        put_over(out, holding(c), ra, rb, first + two)
+        put_leave(out, near, failing(c), holding(c), ra, rb, first + two)
     } else {
-        put_over(out, failing(c), ra, rb, first + one)?;
-        put_jump(out, first, next, two)
+        put_leave(out, near, holding(c), failing(c), ra, rb, first + one)?;
+        put_jump(out, near, first, next, two)
     }
 }
 
-/// A far jump, and a branch over it.
-fn put_over(out: &mut Vec<Line>, op: BranchOp, ra: u8, rb: u8, label: u32) -> Result<(), AllocError>
-    ensures { OnOk result (Emits out.old.items out.new.items (over_lines op ra rb label)) }
+/// A branch to a label; if that is far, a far jump with the opposite branch over it.
+fn put_leave(
+    out: &mut Vec<Line>,
+    near: bool,
+    taken: BranchOp,
+    other: BranchOp,
+    ra: u8,
+    rb: u8,
+    label: u32,
+) -> Result<(), AllocError>
+    ensures { OnOk result
+        (Emits out.old.items out.new.items (leave_lines near taken other ra rb label)) }
 {
-    put(out, Instr::Branch(op, ra, rb, 12))?;
-    out.push(Line::Far(0, label))?;
+    if near {
+        out.push(Line::Branch(taken, ra, rb, label))?;
+    } else {
+        put(out, Instr::Branch(other, ra, rb, 12))?;
+        out.push(Line::Far(0, label))?;
+    }
     Ok(())
 }
 
 /// The lines of a block, with so many calls before it in the function; and how many calls stand before the next one.
 fn put_block(
     out: &mut Vec<Line>,
+    near: bool,
     p: &Placed,
     labels: &[u32],
     f: &PlacedFunc,
@@ -318,18 +365,19 @@ fn put_block(
     requires fits { first + length f.now.code.blocks < 2 ^ 32 }
     ensures lines { OnOk result
         (Emits out.old.items out.new.items
-        (block_lines p.now.funcs f.now first b before block.now)) }
+        (block_lines near p.now.funcs f.now first b before block.now)) }
     ensures calls { IfOk result (λ n. n ≡ before + calls_in block.now) }
 {
     out.push(Line::Label(first + b))?;
     let calls = put_ops(out, p, labels, f, before, block.ops.as_slice())?;
-    put_end(out, f, first, b + 1, block.end)?;
+    put_end(out, near, f, first, b + 1, block.end)?;
     Ok(calls)
 }
 
 /// The lines of the blocks of a function.
 fn put_blocks(
     out: &mut Vec<Line>,
+    near: bool,
     p: &Placed,
     labels: &[u32],
     f: &PlacedFunc,
@@ -342,18 +390,40 @@ fn put_blocks(
     requires fits { first + length f.now.code.blocks < 2 ^ 32 }
     ensures { OnOk result
         (Emits out.old.items out.new.items
-        (blocks_lines p.now.funcs f.now first 0 0 f.now.code.blocks)) }
+        (blocks_lines near p.now.funcs f.now first 0 0 f.now.code.blocks)) }
 {
     let mut calls = 0;
     let mut b = 0;
     for block in f.code.blocks.as_slice() {
-        calls = put_block(out, p, labels, f, first, b, calls, block)?;
+        calls = put_block(out, near, p, labels, f, first, b, calls, block)?;
         b += 1;
     }
     Ok(())
 }
 
 /// The lines of a function: its label, the store of the return address, and its blocks.
+fn put_body(
+    out: &mut Vec<Line>,
+    near: bool,
+    p: &Placed,
+    labels: &[u32],
+    f: &PlacedFunc,
+    label: u32,
+) -> Result<(), AllocError>
+    requires whole { IsWellFormed p.now }
+    requires labelled { AreLabels p.now.funcs labels.now }
+    requires placed { IsPlacedWhole f.now }
+    requires over { IsFunctionOver (codes_of p.now.funcs) f.now.code }
+    requires fits { label + 1 + length f.now.code.blocks < 2 ^ 32 }
+    ensures { OnOk result
+        (out.new.items ≡ out.old.items ++ body_lines near p.now.funcs f.now label) }
+{
+    out.push(Line::Label(label))?;
+    put_store(out, 1, SP, 0)?;
+    put_blocks(out, near, p, labels, f, label + 1)
+}
+
+/// The lines of a function, with near jumps and branches if it is short with them.
 pub fn put_function(
     out: &mut Vec<Line>,
     p: &Placed,
@@ -369,7 +439,36 @@ pub fn put_function(
     ensures { OnOk result
         (Emits out.old.items out.new.items (function_lines p.now.funcs f.now label)) }
 {
-    out.push(Line::Label(label))?;
-    put_store(out, 1, SP, 0)?;
-    put_blocks(out, p, labels, f, label + 1)
+    let start = out.len();
+    put_body(out, true, p, labels, f, label)?;
+    if !are_near(&out[start..]) {
+        out.truncate(start);
+        put_body(out, false, p, labels, f, label)?;
+    }
+    Ok(())
+}
+
+/// How many bytes a line takes.
+fn size(line: Line) -> u32
+    ensures { result ≡ size_of line }
+{
+    match line {
+        Line::Label(_) => 0,
+        Line::Plain(_) | Line::Jump(_, _) | Line::Branch(_, _, _, _) => 4,
+        Line::Far(_, _) => 8,
+    }
+}
+
+/// Whether lines take less than 4,096 bytes, so that a branch leads from each of them to each other.
+fn are_near(lines: &[Line]) -> bool
+    ensures { result ≡ are_near_lines lines.now }
+{
+    let mut bytes = 0;
+    for line in lines {
+        bytes += size(*line);
+        if bytes >= 4096 {
+            return false;
+        }
+    }
+    true
 }

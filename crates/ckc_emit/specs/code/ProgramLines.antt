@@ -1,12 +1,14 @@
 -- The lines of blocks, functions and programs. Labels are numbers: 0 is the start, then each function has one, and
 -- after it one for each of its blocks.
-use Rattle.std.specs.Prelude.{ℕ, ◌+◌, ◌==◌, not, ◌&&◌, if◌then◌else◌, Bool, true, false, List, [], ◌∷◌, length, slice_get, sum_by, take, Option, Some, None, pos, ◌≡◌, ◌<◌, map, slice_index}
+use Rattle.std.specs.Prelude.{ℕ, ◌+◌, ◌==◌, nat_lt, not, ◌&&◌, if◌then◌else◌, Bool, true, false, List, [], ◌∷◌, ◌++◌, length, slice_get, sum_by, take, Option, Some, None, pos, ◌≡◌, ◌<◌, map, slice_index}
 use Rattle.ckc_rv_operations.specs.declared.operations.BranchOp.{BranchOp}
 use Rattle.ckc_rv_operations.specs.declared.operations.BranchOp.TheVariants.{Beq, Bne, Bge, Bgeu}
 use Rattle.ckc_rv.specs.declared.instructions.Instr.TheVariants.{Jalr, Branch as BranchInstr}
 use Rattle.ckc_asm_lines.specs.declared.lines.Labelled.{Labelled}
 use Rattle.ckc_asm_lines.specs.declared.lines.Line.{Line}
 use Rattle.ckc_asm_lines.specs.declared.lines.Line.TheVariants.{Label, Plain, Far}
+use Rattle.ckc_asm_lines.specs.declared.lines.Line.TheVariants as line
+use Rattle.ckc_asm_lines.specs.Assembled.{size_of}
 use Rattle.ckc_tac.specs.declared.code.TacBlock.{TacBlock}
 use Rattle.ckc_tac.specs.declared.code.Comparison.{Comparison}
 use Rattle.ckc_tac.specs.declared.code.Comparison.TheVariants.{LtS, LtU, Eq, Ne}
@@ -76,9 +78,15 @@ ops_lines functions f n [] rest = rest
 ops_lines functions f n (op ∷ ops) rest =
     op_lines functions f n op (ops_lines functions f (n + is_call op) ops rest)
 
+-- a jump to a label: one instruction if it is near, else two
+abbrev pub jump_line : (near : Bool) → (label : ℕ) → Line
+jump_line true label = line.Jump 0 label
+jump_line false label = Far 0 label
+
 -- to a block; nothing if it comes next
-abbrev pub jump_lines : (first next b : ℕ) → List Line → List Line
-jump_lines first next b rest = if b == next then rest else Far 0 (first + b) ∷ rest
+abbrev pub jump_lines : (near : Bool) → (first next b : ℕ) → List Line → List Line
+jump_lines near first next b rest =
+    if b == next then rest else jump_line near (first + b) ∷ rest
 
 -- a branch over a far jump of two instructions
 abbrev pub over_lines : BranchOp → (ra rb label : ℕ) → List Line → List Line
@@ -91,18 +99,26 @@ failing LtU = Bgeu
 failing Eq = Bne
 failing Ne = Beq
 
--- to one of two blocks by a comparison of two registers
-abbrev pub choice_lines : Comparison → (ra rb first next one two : ℕ) → List Line → List Line
-choice_lines c ra rb first next one two rest =
-    if one == next then over_lines (holding c) ra rb (first + two) rest
-    else over_lines (failing c) ra rb (first + one) (jump_lines first next two rest)
+-- to a label if a branch is taken; a far label is left out by the branch that is taken else
+abbrev pub leave_lines : (near : Bool) → (taken other : BranchOp) → (ra rb label : ℕ) → List Line
+    → List Line
+leave_lines true taken other ra rb label rest = line.Branch taken ra rb label ∷ rest
+leave_lines false taken other ra rb label rest = over_lines other ra rb label rest
 
-abbrev pub branch_lines : Comparison → PlacedOperand → PlacedOperand → (first next one two : ℕ)
-    → List Line → List Line
-branch_lines c a b first next one two rest =
+-- to one of two blocks by a comparison of two registers
+abbrev pub choice_lines : (near : Bool) → Comparison → (ra rb first next one two : ℕ) → List Line
+    → List Line
+choice_lines near c ra rb first next one two rest =
+    if one == next then leave_lines near (failing c) (holding c) ra rb (first + two) rest
+    else leave_lines near (holding c) (failing c) ra rb (first + one)
+    (jump_lines near first next two rest)
+
+abbrev pub branch_lines : (near : Bool) → Comparison → PlacedOperand → PlacedOperand
+    → (first next one two : ℕ) → List Line → List Line
+branch_lines near c a b first next one two rest =
     operand_lines a 5
     (operand_lines b 6
-    (choice_lines c (register_with a 5) (register_with b 6) first next one two rest))
+    (choice_lines near c (register_with a 5) (register_with b 6) first next one two rest))
 
 -- a block without operations that jumps on
 abbrev pub is_passing_end : TacEnd → Bool
@@ -122,40 +138,55 @@ is_passing None = true
 abbrev pub falls_through : List TacBlock → (next b : ℕ) → Bool
 falls_through blocks next b = b == next && not (is_passing (slice_get blocks b))
 
-abbrev pub pass_lines : List TacBlock → (first next b : ℕ) → List Line → List Line
-pass_lines blocks first next b rest =
-    if falls_through blocks next b then rest else Far 0 (first + b) ∷ rest
+abbrev pub pass_lines : (near : Bool) → List TacBlock → (first next b : ℕ) → List Line → List Line
+pass_lines near blocks first next b rest =
+    if falls_through blocks next b then rest else jump_line near (first + b) ∷ rest
 
 -- back to the caller, with a value in x10
 abbrev pub return_lines : PlacedOperand → List Line → List Line
 return_lines a rest = take_lines 10 a (load_lines 1 2 0 (Plain (Jalr 0 1 (pos 0)) ∷ rest))
 
-abbrev pub end_lines : PlacedFunc → (first next : ℕ) → TacEnd → List Line → List Line
-end_lines f first next (Jump b) rest = pass_lines f.code.blocks first next b rest
-end_lines f first next (Branch c a b one two) rest =
-    branch_lines c (operand_at f.homes a) (operand_at f.homes b) first next one two rest
-end_lines f first next (Return a) rest = return_lines (operand_at f.homes a) rest
+abbrev pub end_lines : (near : Bool) → PlacedFunc → (first next : ℕ) → TacEnd → List Line
+    → List Line
+end_lines near f first next (Jump b) rest = pass_lines near f.code.blocks first next b rest
+end_lines near f first next (Branch c a b one two) rest =
+    branch_lines near c (operand_at f.homes a) (operand_at f.homes b) first next one two rest
+end_lines near f first next (Return a) rest = return_lines (operand_at f.homes a) rest
 
 -- ---- blocks, functions, programs
 
 -- a block before which so many calls stand in the function
-abbrev pub block_lines : List PlacedFunc → PlacedFunc → (first b calls_before : ℕ) → TacBlock
-    → List Line → List Line
-block_lines functions f first b n block rest =
-    Label (first + b) ∷ ops_lines functions f n block.ops (end_lines f first (b + 1) block.end rest)
+abbrev pub block_lines : (near : Bool) → List PlacedFunc → PlacedFunc → (first b calls_before : ℕ)
+    → TacBlock → List Line → List Line
+block_lines near functions f first b n block rest =
+    Label (first + b) ∷ ops_lines functions f n block.ops
+    (end_lines near f first (b + 1) block.end rest)
 
 -- the blocks from one on
-abbrev pub blocks_lines : List PlacedFunc → PlacedFunc → (first b calls_before : ℕ) → List TacBlock
-    → List Line → List Line
-blocks_lines functions f first b n [] rest = rest
-blocks_lines functions f first b n (block ∷ blocks) rest =
-    block_lines functions f first b n block
-    (blocks_lines functions f first (b + 1) (n + calls_in block) blocks rest)
+abbrev pub blocks_lines : (near : Bool) → List PlacedFunc → PlacedFunc
+    → (first b calls_before : ℕ) → List TacBlock → List Line → List Line
+blocks_lines near functions f first b n [] rest = rest
+blocks_lines near functions f first b n (block ∷ blocks) rest =
+    block_lines near functions f first b n block
+    (blocks_lines near functions f first (b + 1) (n + calls_in block) blocks rest)
 
--- a function stores the return address first
+-- the lines of a function, which stores the return address first; jumps and branches to its blocks are near or far
+abbrev pub body_lines : (near : Bool) → List PlacedFunc → PlacedFunc → (label : ℕ) → List Line
+body_lines near functions f label =
+    Label label ∷ store_lines 1 2 0
+    (blocks_lines near functions f (label + 1) 0 0 f.code.blocks [])
+
+-- lines that take less than 4,096 bytes: a branch leads from each of them to each other
+abbrev pub are_near : List Line → Bool
+are_near lines = nat_lt (sum_by size_of lines) 4096
+
+-- the jumps and branches of a function are near if its lines are short with them
+unfoldable pub is_near : List PlacedFunc → PlacedFunc → (label : ℕ) → Bool
+is_near functions f label = are_near (body_lines true functions f label)
+
 abbrev pub function_lines : List PlacedFunc → PlacedFunc → (label : ℕ) → List Line → List Line
 function_lines functions f label rest =
-    Label label ∷ store_lines 1 2 0 (blocks_lines functions f (label + 1) 0 0 f.code.blocks rest)
+    body_lines (is_near functions f label) functions f label ++ rest
 
 abbrev pub functions_lines : List PlacedFunc → (label : ℕ) → List PlacedFunc → List Line → List Line
 functions_lines functions label [] rest = rest
