@@ -20,16 +20,16 @@ use Rattle.ckc_typed.specs.Raw.{is_raw, raw_in_form, has_raw}
 use Rattle.ckc_typed.specs.Trees.{NotedLayer}
 use Rattle.ckc_typed.specs.Types.{is_integer, is_object_type, is_pointer, is_pointer_form, is_void, is_scalar, kind_of, kind_in, element_of}
 use Rattle.ckc_typed_welltyped.specs.Expressions.{HasType}
-use Rattle.ckc_blame_steps.specs.ckc_bounds_ranges.specs.Rows.{range_of_local}
-use Rattle.ckc_blame_steps.specs.ckc_bounds_views.specs.declared.variables.Own.{Own}
-use Rattle.ckc_blame_steps.specs.ckc_bounds_views.specs.Fresh.{member_in}
-use Rattle.ckc_blame_steps.specs.ckc_bounds_views.specs.Judged.{fault_if, is_missing}
-use Rattle.ckc_blame_steps.specs.ckc_bounds_views.specs.Ranges.{range_of_name, range_of_member, range_by_type}
+use Rattle.ckc_build_forms.specs.ckc_blame_steps.specs.ckc_bounds_ranges.specs.Rows.{range_of_local}
+use Rattle.ckc_build_forms.specs.ckc_blame_steps.specs.ckc_bounds_views.specs.declared.variables.Own.{Own}
+use Rattle.ckc_build_forms.specs.ckc_blame_steps.specs.ckc_bounds_views.specs.Fresh.{member_in}
+use Rattle.ckc_build_forms.specs.ckc_blame_steps.specs.ckc_bounds_views.specs.Judged.{fault_if, is_missing}
+use Rattle.ckc_build_forms.specs.ckc_blame_steps.specs.ckc_bounds_views.specs.Ranges.{range_of_name, range_of_member, range_by_type}
 use Rattle.ckc_source.specs.Code.{Program}
 use Rattle.ckc_build_values.specs.Kinds.{count_of_kind, tag_of}
 use Rattle.ckc_build_values.specs.Members.{count_of_member}
 use Rattle.ckc_build_values.specs.Names.{address_of, array_of, count_of_static}
-use Rattle.ckc_blame_steps.specs.ckc_blame_sound.specs.Settings.{Setting}
+use Rattle.ckc_build_forms.specs.ckc_blame_steps.specs.ckc_blame_sound.specs.Settings.{Setting}
 use Rattle.ckc_build_wellformed.specs.WellFormed.{HasObjectAt}
 use Rattle.ckc_build_wellformed.proofs.Nodes.{is_there_form}
 use Rattle.ckc_build_wellformed.proofs.Parts.{different, unlike, int_kind, unsigned_kind, integer_kind, kind_pointer, arithmetic_kind}

@@ -16,6 +16,7 @@ use Rattle.ckc_types.specs.declared.types.CType.{CType, CType-F, out-CType}
 use Rattle.ckc_types.specs.declared.types.CType.TheVariants as ctype
 use Rattle.ckc_types.specs.declared.types.MemberBounds.{MemberBounds}
 use Rattle.ckc_types.specs.declared.types.MemberBounds.TheVariants as mbounds
+use Rattle.ckc_types.specs.declared.types.MemberShape.{MemberShape}
 use Rattle.ckc_types.specs.declared.types.Structs.{Structs}
 use Rattle.ckc_syntax.specs.declared.tree.Item.TheVariants as item
 use Rattle.ckc_syntax.specs.declared.tree.Length.{Length}
@@ -36,46 +37,46 @@ use Rattle.ckc_typed.specs.Declarations.{is_checked_kind}
 use Rattle.ckc_typed.specs.Environment.{getchar, putchar, kind_of_array, variable_declared, variables_of, object_named, same_name, signatures_of, signatures_of_item, signature_named, type_of_name, used, variable_named}
 use Rattle.ckc_typed.specs.Expressions.{is_no_array}
 use Rattle.ckc_typed.specs.Operands.{dot_type}
+use Rattle.ckc_typed.specs.Statics.{strings_of_item}
 use Rattle.ckc_typed.specs.Texts.{globals_of, is_result_type}
 use Rattle.ckc_typed.specs.Trees.{Item, NotedDecl, NotedItem, NotedExpr, NotedLimits, NotedNode, Tree}
-use Rattle.ckc_typed.specs.Types.{type_written, is_integer_form, is_pointer_form, is_scalar, is_scalar_type, is_object_type, is_void, kind_of}
+use Rattle.ckc_typed.specs.Types.{is_integer, type_written, is_integer_form, is_pointer_form, is_scalar, is_scalar_type, is_object_type, is_void, kind_of}
 use Rattle.ckc_typed_welltyped.specs.Noteless.{bare_item, without_notes}
 use Rattle.ckc_typed_welltyped.specs.Texts.{WellTypedItems}
 use Rattle.ckc_source.specs.declared.expr.Count.{Count}
 use Rattle.ckc_source.specs.Code.{Function}
 use Rattle.ckc_source.specs.Eval.{Store}
 use Rattle.ckc_build_values.specs.Kinds.{tag_of, tag_in}
-use Rattle.ckc_build_values.specs.Members.{count_by, count_in, count_of_member}
+use Rattle.ckc_build_values.specs.Members.{member_named, count_by, count_in, count_of_member}
 use Rattle.ckc_build_values.specs.Names.{address_in, address_of, array_in, array_of, count_declared, count_of_static}
 use Rattle.ckc_build_elaborate.specs.Elaborated.{elaborated}
 use Rattle.ckc_build_elaborate.specs.Objects.{object_elaborated, objects_elaborated}
-use Rattle.ckc_blame_steps.specs.ckc_bounds.specs.Frames.{all_of}
-use Rattle.ckc_blame_steps.specs.ckc_blame_sound.specs.ckc_bounds_declared.specs.Written.{bounds_of_kind, takes_bounds_kind}
-use Rattle.ckc_blame_steps.specs.ckc_bounds_points.specs.declared.frame.Local.{Local}
-use Rattle.ckc_blame_steps.specs.ckc_bounds_points.specs.Frames.{local_at}
-use Rattle.ckc_blame_steps.specs.ckc_bounds_ranges.specs.Rows.{range_by, range_of_local, range_of_array}
-use Rattle.ckc_blame_steps.specs.ckc_bounds_views.specs.declared.variables.Member.{Member}
-use Rattle.ckc_blame_steps.specs.ckc_bounds_views.specs.declared.variables.Own.{Own}
-use Rattle.ckc_blame_steps.specs.ckc_bounds_views.specs.Fresh.{is_checked, member_bounds, member_in}
-use Rattle.ckc_blame_steps.specs.ckc_bounds_views.specs.Judged.{is_missing}
-use Rattle.ckc_blame_steps.specs.ckc_bounds_views.specs.Ranges.{range_in_struct, range_of_member, range_of_name, range_of_object, range_of_static}
-use Rattle.ckc_blame_steps.specs.Statics.{IsStatic, range_counted}
-use Rattle.ckc_blame_steps.specs.Told.{IsTold}
-use Rattle.ckc_blame_steps.specs.ckc_blame_sound.specs.JudgedTexts.{IsJudged, globals_in}
-use Rattle.ckc_blame_steps.specs.ckc_blame_sound.specs.Settings.{Setting, IsFunction, setting_of}
-use Rattle.ckc_blame_steps.specs.ckc_blame_sound.proofs.Frames.{frames_agree, locals_are_there, named_type, statics_named, types_declared, variables_moved}
-use Rattle.ckc_blame_steps.specs.ckc_blame_sound.proofs.Functions.{numbered, tree_named}
-use Rattle.ckc_blame_steps.specs.ckc_blame_sound.proofs.Lists.{found}
-use Rattle.ckc_blame_steps.specs.ckc_blame_sound.proofs.Ranges.{contains_at}
-use Rattle.ckc_blame_steps.specs.ckc_blame_declared.proofs.Integers.{members_count_integers}
-use Rattle.ckc_blame_steps.proofs.DeclaredTypes.{names_objects, scalar_parts}
-use Rattle.ckc_blame_steps.proofs.NamedObjects.{object_static, typed_name, variable_local}
-use Rattle.ckc_blame_steps.proofs.Ones.{ones_declared}
-use Rattle.ckc_blame_steps.proofs.Runs.{runs_free}
-use Rattle.ckc_blame_steps.proofs.Small.{few_locals, variables_are}
-use Rattle.ckc_blame_steps.proofs.Texts.{texts_are_told}
-use Rattle.ckc_blame_steps.proofs.Told.{statics_told}
-use Rattle.ckc_blame_given.specs.ckc_blame_pointers.specs.Covered.{IsIntegerMember, IsPointerMember, KeepRunsFree}
+use Rattle.ckc_build_forms.specs.ckc_blame_steps.specs.ckc_bounds.specs.Frames.{all_of}
+use Rattle.ckc_build_forms.specs.ckc_blame_steps.specs.ckc_blame_sound.specs.ckc_bounds_declared.specs.Written.{bounds_of_kind, takes_bounds_kind}
+use Rattle.ckc_build_forms.specs.ckc_blame_steps.specs.ckc_bounds_points.specs.declared.frame.Local.{Local}
+use Rattle.ckc_build_forms.specs.ckc_blame_steps.specs.ckc_bounds_points.specs.Frames.{local_at}
+use Rattle.ckc_build_forms.specs.ckc_blame_steps.specs.ckc_bounds_ranges.specs.Rows.{range_by, range_of_local, range_of_array}
+use Rattle.ckc_build_forms.specs.ckc_blame_steps.specs.ckc_bounds_views.specs.declared.variables.Member.{Member}
+use Rattle.ckc_build_forms.specs.ckc_blame_steps.specs.ckc_bounds_views.specs.declared.variables.Own.{Own}
+use Rattle.ckc_build_forms.specs.ckc_blame_steps.specs.ckc_bounds_views.specs.Fresh.{is_checked, member_bounds, member_in}
+use Rattle.ckc_build_forms.specs.ckc_blame_steps.specs.ckc_bounds_views.specs.Judged.{is_missing}
+use Rattle.ckc_build_forms.specs.ckc_blame_steps.specs.ckc_bounds_views.specs.Ranges.{range_in_struct, range_of_member, range_of_name, range_of_object, range_of_static}
+use Rattle.ckc_build_forms.specs.ckc_blame_steps.specs.Statics.{IsStatic, range_counted}
+use Rattle.ckc_build_forms.specs.ckc_blame_steps.specs.Told.{IsTold}
+use Rattle.ckc_build_forms.specs.ckc_blame_steps.specs.ckc_blame_sound.specs.JudgedTexts.{IsJudged, globals_in}
+use Rattle.ckc_build_forms.specs.ckc_blame_steps.specs.ckc_blame_sound.specs.Settings.{Setting, AreStrings, IsFunction, setting_of}
+use Rattle.ckc_build_forms.specs.ckc_blame_steps.specs.ckc_blame_sound.proofs.Frames.{frames_agree, locals_are_there, named_type, statics_named, types_declared, variables_moved}
+use Rattle.ckc_build_forms.specs.ckc_blame_steps.specs.ckc_blame_sound.proofs.Functions.{numbered, tree_named}
+use Rattle.ckc_build_forms.specs.ckc_blame_steps.specs.ckc_blame_sound.proofs.Lists.{found}
+use Rattle.ckc_build_forms.specs.ckc_blame_steps.specs.ckc_blame_sound.proofs.Ranges.{contains_at}
+use Rattle.ckc_build_forms.specs.ckc_blame_steps.specs.ckc_blame_declared.proofs.Integers.{members_count_integers}
+use Rattle.ckc_build_forms.specs.ckc_blame_steps.proofs.DeclaredTypes.{names_objects, scalar_parts}
+use Rattle.ckc_build_forms.specs.ckc_blame_steps.proofs.NamedObjects.{object_static, typed_name, variable_local}
+use Rattle.ckc_build_forms.specs.ckc_blame_steps.proofs.Ones.{ones_declared}
+use Rattle.ckc_build_forms.specs.ckc_blame_steps.proofs.Runs.{runs_free}
+use Rattle.ckc_build_forms.specs.ckc_blame_steps.proofs.Small.{few_locals, variables_are}
+use Rattle.ckc_build_forms.specs.ckc_blame_steps.proofs.Texts.{texts_are_told}
+use Rattle.ckc_build_forms.specs.ckc_blame_steps.proofs.Told.{statics_told}
 use Rattle.ckc_build_wellformed.specs.WellFormed.{HasObjectAt}
 use Rattle.ckc_build_wellformed.proofs.Nodes.{is_there_form}
 use Rattle.ckc_build_wellformed.proofs.Parts.{different, unlike, int_out, integer_kind, pointer_kind}
@@ -205,16 +206,28 @@ integer_missing s t none None own = refl
 integer_missing s t none (Some m) own =
     ap (λ k. is_missing (if is_checked k then range_in_struct (kind_of t) (member_bounds s.frame.structs m) own else range.Missing)) none
 
-module _ (s : Setting) (store : Store) (u t : CType) (n : Name) where
-  integer_known : IsIntegerMember s u t n → KnowsMember s u t n
-  integer_known m =
-      let none = integer_kind t m.integer in
+-- a pointer that is a member, as it is judged and as the program counts its elements
+record IsHeld (s : Setting) (u t : CType) (n : Name) : Type 0 where
+  pub tag : ℕ
+  pub struct : out-CType u ≡ CType-F.Struct tag
+  pub number : ℕ
+  pub named : n ≡ name.Member number
+  pub member : MemberShape
+  pub found : member_named s.text.layout tag n ≡ Some member
+  pub type : member.ctype ≡ t
+  pub judged : member_bounds s.frame.structs (record { tag = tag; number = number }) ≡ member.bounds
+  pub single : kind_of t ≡ Some kind.One → member.bounds ≡ mbounds.Nothing
+
+module _ (s : Setting) (u t : CType) (n : Name) where
+  integer_known : is_integer t ≡ true → KnowsMember s u t n
+  integer_known i =
+      let none = integer_kind t i in
       record {
         single = λ one. some_none (sym one ∙ none);
         ranged = λ c own. integer_missing s t none (member_in n (out-CType u)) own;
       }
 
-  module _ (m : IsPointerMember s store u t n) where
+  module _ (m : IsHeld s u t n) where
     count_is : count_of_member s.text.layout (tag_of u) n ≡ count_by s.text.layout m.tag t m.member.bounds
     count_is =
         ap (λ x. count_of_member s.text.layout (tag_in x) n) m.struct ∙ ap (count_in s.text.layout m.tag) m.found
@@ -256,10 +269,28 @@ module _ (p : Typed) (j : IsJudged p) (small : Small j.named.tree) (s : Setting)
   none_there : {X A : Type 0} (k : ℕ) (x : A) → slice_get [] k ≡ Some x → X
   none_there k x e = absurd cc
 
+  abbrev here : Setting
+  here = setting_of p is.head is.body
+
+  is_here : IsFunction p here f
+  is_here = record {
+    head = is.head;
+    body = is.body;
+    literals = is.literals;
+    there = is.there;
+    judged = refl;
+    runs = is.runs;
+    strings = subst (λ z. AreStrings z is.literals (strings_of_item (item.Function is.head is.body))) is.judged is.strings;
+  }
+
+  told_here : IsTold (globals_in p) here empty []
+  unfolding setting_of
+  told_here =
+      texts_are_told p here f empty [] j is_here (members_count_integers p j) (ones_declared p here f j is_here) (runs_free p j) (λ number i b slot at less there. none_there number b at)
+      (λ k c. absurd (omega (arith, c.1)))
+
   told : IsTold (globals_in p) s empty []
-  told =
-      texts_are_told p s f empty [] j is (members_count_integers p j) (ones_declared p s f j is) (subst KeepRunsFree (sym text_is) (runs_free p j))
-      (λ number i b slot at less there. none_there number b at) (λ k c. absurd (omega (arith, c.1)))
+  told = subst (λ z. IsTold (globals_in p) z empty []) (sym is.judged) told_here
 
   one_range : (k : ℕ) (widened : List ℕ) (l : Local) → local_at s.frame k ≡ Some l → kind_of l.ctype ≡ Some kind.One → is_missing (range_of_local s.frame k widened) ≡ false
   one_range k widened l at one =
@@ -328,7 +359,18 @@ module _ (p : Typed) (j : IsJudged p) (small : Small j.named.tree) (s : Setting)
   names_known = record {
     statics = λ k t e. static_known p s text_is t k (statics_told p s f t k j is e);
     members = λ u t n e.
-        ⊎_elim (λ m. integer_known s empty u t n m) (λ m. pointer_known s empty u t n m) (told.members u t n (subst (λ (x : Structs). dot_type x u n ≡ Some t) told.structs e));
+        ⊎_elim (λ m. integer_known s u t n m.integer)
+        (λ m. pointer_known s u t n (record {
+          tag = m.tag;
+          struct = m.struct;
+          number = m.number;
+          named = m.named;
+          member = m.member;
+          found = m.found;
+          type = m.type;
+          judged = m.judged;
+          single = m.single;
+        })) (told.members u t n (subst (λ (x : Structs). dot_type x u n ≡ Some t) told.structs e));
     structures = λ u t n e x mode row. structure_there (globals_in p) s.variables names_there results_there mode x u row (dot_struct (globals_in p).structs u t n e);
     objects = objects_there;
     targets = targets_there;

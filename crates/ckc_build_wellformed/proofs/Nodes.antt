@@ -11,13 +11,13 @@ use Rattle.ckc_typed.specs.declared.typed.Note.{Note}
 use Rattle.ckc_typed.specs.declared.typed.Range.TheVariants as range
 use Rattle.ckc_typed.specs.Conversions.{is_null_form, is_string_form, is_allocation_form}
 use Rattle.ckc_typed.specs.Trees.{NotedExpr}
-use Rattle.ckc_blame_steps.specs.ckc_bounds_points.specs.declared.frame.Bounds.{Bounds}
-use Rattle.ckc_blame_steps.specs.ckc_bounds_points.specs.declared.frame.Bounds.TheVariants as bounds
-use Rattle.ckc_blame_steps.specs.ckc_bounds_points.specs.declared.frame.Frame.{Frame}
-use Rattle.ckc_blame_steps.specs.ckc_bounds_points.specs.declared.frame.Local.{Local}
-use Rattle.ckc_blame_steps.specs.ckc_bounds_points.specs.Forms.{moved_form}
-use Rattle.ckc_blame_steps.specs.ckc_bounds_points.specs.Frames.{local_at}
-use Rattle.ckc_blame_steps.specs.ckc_bounds_ranges.specs.Rows.{range_by, range_moved, range_of_bounds, range_of_local, range_widened}
+use Rattle.ckc_build_forms.specs.ckc_blame_steps.specs.ckc_bounds_points.specs.declared.frame.Bounds.{Bounds}
+use Rattle.ckc_build_forms.specs.ckc_blame_steps.specs.ckc_bounds_points.specs.declared.frame.Bounds.TheVariants as bounds
+use Rattle.ckc_build_forms.specs.ckc_blame_steps.specs.ckc_bounds_points.specs.declared.frame.Frame.{Frame}
+use Rattle.ckc_build_forms.specs.ckc_blame_steps.specs.ckc_bounds_points.specs.declared.frame.Local.{Local}
+use Rattle.ckc_build_forms.specs.ckc_blame_steps.specs.ckc_bounds_points.specs.Forms.{moved_form}
+use Rattle.ckc_build_forms.specs.ckc_blame_steps.specs.ckc_bounds_points.specs.Frames.{local_at}
+use Rattle.ckc_build_forms.specs.ckc_blame_steps.specs.ckc_bounds_ranges.specs.Rows.{range_by, range_moved, range_of_bounds, range_of_local, range_widened}
 
 -- what has a place: an object of file scope by its name, an element or a member
 abbrev pub is_there_form : {A L M E : Type 0} → Node-F Name A L M E → Bool

@@ -21,24 +21,24 @@ use Rattle.ckc_checks_operands.specs.Compilable.{HasParams}
 use Rattle.ckc_build_elaborate.specs.Elaborated.{elaborated}
 use Rattle.ckc_build_elaborate.specs.Functions.{literals_of_head, function_elaborated, functions_elaborated}
 use Rattle.ckc_build_elaborate.specs.Objects.{count_declared}
-use Rattle.ckc_blame_steps.specs.Accepted.{IsAccepted}
-use Rattle.ckc_blame_steps.specs.ckc_bounds.specs.Frames.{function_frame, begin_of}
-use Rattle.ckc_blame_steps.specs.ckc_bounds.specs.Phase.{bounding}
-use Rattle.ckc_blame_steps.specs.ckc_bounds.specs.Texts.{body_judged}
-use Rattle.ckc_blame_steps.specs.ckc_bounds_points.specs.declared.frame.Frame.{Frame}
-use Rattle.ckc_blame_steps.specs.ckc_bounds_statements.specs.Paths.{Here, path}
-use Rattle.ckc_blame_steps.specs.ckc_blame_sound.specs.JudgedTexts.{IsJudged, IsBodyJudged, globals_in}
-use Rattle.ckc_blame_steps.specs.ckc_blame_sound.specs.Safe.{AreSafe}
-use Rattle.ckc_blame_steps.specs.ckc_blame_sound.specs.Settings.{Setting, IsFunction, setting_of, frame_of_text}
-use Rattle.ckc_blame_steps.specs.ckc_blame_sound.proofs.Bodies.{bodies_are_typed, declared_known}
-use Rattle.ckc_blame_steps.specs.ckc_blame_sound.proofs.Literals.{text_strings}
-use Rattle.ckc_blame_steps.specs.ckc_blame_sound.proofs.Strings.{NumbersStrings}
-use Rattle.ckc_blame_steps.specs.ckc_blame_walk.proofs.Frames.{function_frames_same}
-use Rattle.ckc_blame_steps.specs.ckc_blame_walk.proofs.Texts.{text_same}
-use Rattle.ckc_blame_steps.proofs.Accepted.{accepted_known}
-use Rattle.ckc_blame_steps.proofs.Callees.{callees_known}
-use Rattle.ckc_blame_steps.proofs.Scoped.{texts_are_safe}
-use Rattle.ckc_blame_steps.proofs.Told.{local_named}
+use Rattle.ckc_build_forms.specs.ckc_blame_steps.specs.Accepted.{IsAccepted}
+use Rattle.ckc_build_forms.specs.ckc_blame_steps.specs.ckc_bounds.specs.Frames.{function_frame, begin_of}
+use Rattle.ckc_build_forms.specs.ckc_blame_steps.specs.ckc_bounds.specs.Phase.{bounding}
+use Rattle.ckc_build_forms.specs.ckc_blame_steps.specs.ckc_bounds.specs.Texts.{body_judged}
+use Rattle.ckc_build_forms.specs.ckc_blame_steps.specs.ckc_bounds_points.specs.declared.frame.Frame.{Frame}
+use Rattle.ckc_build_forms.specs.ckc_blame_steps.specs.ckc_bounds_statements.specs.Paths.{Here, path}
+use Rattle.ckc_build_forms.specs.ckc_blame_steps.specs.ckc_blame_sound.specs.JudgedTexts.{IsJudged, IsBodyJudged, globals_in}
+use Rattle.ckc_build_forms.specs.ckc_blame_steps.specs.ckc_blame_sound.specs.Safe.{AreSafe}
+use Rattle.ckc_build_forms.specs.ckc_blame_steps.specs.ckc_blame_sound.specs.Settings.{Setting, IsFunction, setting_of, frame_of_text}
+use Rattle.ckc_build_forms.specs.ckc_blame_steps.specs.ckc_blame_sound.proofs.Bodies.{bodies_are_typed, declared_known}
+use Rattle.ckc_build_forms.specs.ckc_blame_steps.specs.ckc_blame_sound.proofs.Literals.{text_strings}
+use Rattle.ckc_build_forms.specs.ckc_blame_steps.specs.ckc_blame_sound.proofs.Strings.{NumbersStrings}
+use Rattle.ckc_build_forms.specs.ckc_blame_steps.specs.ckc_blame_walk.proofs.Frames.{function_frames_same}
+use Rattle.ckc_build_forms.specs.ckc_blame_steps.specs.ckc_blame_walk.proofs.Texts.{text_same}
+use Rattle.ckc_build_forms.specs.ckc_blame_steps.proofs.Accepted.{accepted_known}
+use Rattle.ckc_build_forms.specs.ckc_blame_steps.proofs.Callees.{callees_known}
+use Rattle.ckc_build_forms.specs.ckc_blame_steps.proofs.Scoped.{texts_are_safe}
+use Rattle.ckc_build_forms.specs.ckc_blame_steps.proofs.Told.{local_named}
 use Rattle.ckc_build_forms.proofs.FunctionsSmall.{each_function, main_there}
 use Rattle.ckc_build_wellformed.specs.WellFormed.{IsWellFormedCode, HasWellFormedBody, BeginsAsBytes, IsWellFormed}
 use Rattle.ckc_build_wellformed.proofs.Names.{names_known}

@@ -26,22 +26,22 @@ use Rattle.ckc_typed_welltyped.specs.Declarations.{StartsLocal, WellTypedInit}
 use Rattle.ckc_typed_welltyped.specs.Expressions.{IsNoted, WellTypedExpr}
 use Rattle.ckc_typed_welltyped.specs.Statements.{IsCondition, IsTarget, act_rows, WellTypedStmt}
 use Rattle.ckc_typed_welltyped.proofs.ByParts.{stmt_by_parts}
-use Rattle.ckc_blame_steps.specs.ckc_bounds_points.specs.Codes.{bad_bundle, not_contained}
-use Rattle.ckc_blame_steps.specs.ckc_bounds_points.specs.Flow.{State}
-use Rattle.ckc_blame_steps.specs.ckc_bounds_statements.specs.Paths.{Here, is_good, expr_judged, value_judged, maybe_judged, bounds_judged, init_judged, starts_within, declared_here, decl_judged, stated, sides_judged, behind_stores, stores_judged, is_returned, gone, Branch, Start, branched, for_started, to_step, Path, ActPath, act_declared, all_judged, parts_judged, bundle_judged, part_judged, act_path, stmt_path, path_of_act, path, local_judged, call_judged, return_judged, check_judged, if_judged, while_judged, for_judged, loop_head}
-use Rattle.ckc_blame_steps.specs.ckc_bounds_views.specs.Views.{view}
+use Rattle.ckc_build_forms.specs.ckc_blame_steps.specs.ckc_bounds_points.specs.Codes.{bad_bundle, not_contained}
+use Rattle.ckc_build_forms.specs.ckc_blame_steps.specs.ckc_bounds_points.specs.Flow.{State}
+use Rattle.ckc_build_forms.specs.ckc_blame_steps.specs.ckc_bounds_statements.specs.Paths.{Here, is_good, expr_judged, value_judged, maybe_judged, bounds_judged, init_judged, starts_within, declared_here, decl_judged, stated, sides_judged, behind_stores, stores_judged, is_returned, gone, Branch, Start, branched, for_started, to_step, Path, ActPath, act_declared, all_judged, parts_judged, bundle_judged, part_judged, act_path, stmt_path, path_of_act, path, local_judged, call_judged, return_judged, check_judged, if_judged, while_judged, for_judged, loop_head}
+use Rattle.ckc_build_forms.specs.ckc_blame_steps.specs.ckc_bounds_views.specs.Views.{view}
 use Rattle.ckc_source.specs.Code.{Target, Right, Code, End, Program, chained}
 use Rattle.ckc_build_elaborate.specs.Literals.{literals_of_bounds}
 use Rattle.ckc_build_elaborate.specs.Steps.{spot, nowhere, destination_for, destination_of, is_terminated}
 use Rattle.ckc_build_elaborate.specs.Statements.{Part, act_code, part_of, one, alone, code_if, literals_if, all_code, all_assigns, turns, stmt_elaborated}
 use Rattle.ckc_build_values.specs.Expressions.{literals_of}
-use Rattle.ckc_blame_steps.specs.ckc_blame_sound.specs.Safe.{IsSafePart, IsSafe}
-use Rattle.ckc_blame_steps.specs.ckc_blame_sound.specs.Settings.{Setting}
-use Rattle.ckc_blame_steps.specs.ckc_blame_sound.specs.Words.{exprs_in, exprs_of_act}
-use Rattle.ckc_blame_steps.specs.ckc_blame_sound.proofs.Every.{EachExpr, each_follows}
-use Rattle.ckc_blame_steps.specs.ckc_blame_sound.proofs.Judging.{Gives, bound}
-use Rattle.ckc_blame_steps.specs.ckc_blame_sound.proofs.Words.{exprs_inside, exprs_are}
-use Rattle.ckc_blame_steps.specs.ckc_blame_walk.proofs.Layers.{act_paths, declared_are}
+use Rattle.ckc_build_forms.specs.ckc_blame_steps.specs.ckc_blame_sound.specs.Safe.{IsSafePart, IsSafe}
+use Rattle.ckc_build_forms.specs.ckc_blame_steps.specs.ckc_blame_sound.specs.Settings.{Setting}
+use Rattle.ckc_build_forms.specs.ckc_blame_steps.specs.ckc_blame_sound.specs.Words.{exprs_in, exprs_of_act}
+use Rattle.ckc_build_forms.specs.ckc_blame_steps.specs.ckc_blame_sound.proofs.Every.{EachExpr, each_follows}
+use Rattle.ckc_build_forms.specs.ckc_blame_steps.specs.ckc_blame_sound.proofs.Judging.{Gives, bound}
+use Rattle.ckc_build_forms.specs.ckc_blame_steps.specs.ckc_blame_sound.proofs.Words.{exprs_inside, exprs_are}
+use Rattle.ckc_build_forms.specs.ckc_blame_steps.specs.ckc_blame_walk.proofs.Layers.{act_paths, declared_are}
 use Rattle.ckc_build_forms.proofs.NodesOfStatements.{chained-append}
 use Rattle.ckc_build_forms.proofs.StatementParts.{act_inside, part_act, part_if, code_is, assigns_is, kept, if_kept, nothing, some_same, none_some, Layer, act_out, step_off, path_is}
 use Rattle.ckc_build_wellformed.specs.WellFormed.{AreWellFormedAssigns, IsWellFormedCode}

@@ -38,17 +38,17 @@ use Rattle.ckc_typed.specs.Trees.{NotedLimits, NotedNode, NotedExpr, NotedLayer}
 use Rattle.ckc_typed.specs.Types.{type_written, is_pointer, is_char, kind_of, element_of}
 use Rattle.ckc_typed_welltyped.specs.Expressions.{AnyLimits, AnyNode, HasType}
 use Rattle.ckc_typed_welltyped.proofs.Nodes.{node_of, node_rolled, node_out, limits_of, limits_rolled}
-use Rattle.ckc_blame_steps.specs.ckc_bounds_points.specs.declared.frame.Frame.{Frame}
-use Rattle.ckc_blame_steps.specs.ckc_bounds_points.specs.Codes.{bad_limits, unknown_bounds}
-use Rattle.ckc_blame_steps.specs.ckc_bounds_points.specs.Flow.{State}
-use Rattle.ckc_blame_steps.specs.ckc_bounds_ranges.specs.Rows.{range_of_local}
-use Rattle.ckc_blame_steps.specs.ckc_bounds_views.specs.declared.variables.Own.{Own}
-use Rattle.ckc_blame_steps.specs.ckc_bounds_views.specs.Fresh.{member_in}
-use Rattle.ckc_blame_steps.specs.ckc_bounds_views.specs.Parts.{LimitsView, View, NodeView, capped, fresh_behind}
-use Rattle.ckc_blame_steps.specs.ckc_bounds_views.specs.Conditions.{right_point}
-use Rattle.ckc_blame_steps.specs.ckc_bounds_views.specs.Judged.{counts_elements, counts_bytes, limits_judged, all_judged, node_judged, by_fault, access_fault, is_counted_kind, is_missing, noted_range, expr_made}
-use Rattle.ckc_blame_steps.specs.ckc_bounds_views.specs.Ranges.{pointer_range, range_of_name, range_of_member, range_of_operand, range_by_type, own_numbers}
-use Rattle.ckc_blame_steps.specs.ckc_bounds_views.specs.Views.{limits_view, node_view, expr_view, view_of_limits, view_of_node, view}
+use Rattle.ckc_build_forms.specs.ckc_blame_steps.specs.ckc_bounds_points.specs.declared.frame.Frame.{Frame}
+use Rattle.ckc_build_forms.specs.ckc_blame_steps.specs.ckc_bounds_points.specs.Codes.{bad_limits, unknown_bounds}
+use Rattle.ckc_build_forms.specs.ckc_blame_steps.specs.ckc_bounds_points.specs.Flow.{State}
+use Rattle.ckc_build_forms.specs.ckc_blame_steps.specs.ckc_bounds_ranges.specs.Rows.{range_of_local}
+use Rattle.ckc_build_forms.specs.ckc_blame_steps.specs.ckc_bounds_views.specs.declared.variables.Own.{Own}
+use Rattle.ckc_build_forms.specs.ckc_blame_steps.specs.ckc_bounds_views.specs.Fresh.{member_in}
+use Rattle.ckc_build_forms.specs.ckc_blame_steps.specs.ckc_bounds_views.specs.Parts.{LimitsView, View, NodeView, capped, fresh_behind}
+use Rattle.ckc_build_forms.specs.ckc_blame_steps.specs.ckc_bounds_views.specs.Conditions.{right_point}
+use Rattle.ckc_build_forms.specs.ckc_blame_steps.specs.ckc_bounds_views.specs.Judged.{counts_elements, counts_bytes, limits_judged, all_judged, node_judged, by_fault, access_fault, is_counted_kind, is_missing, noted_range, expr_made}
+use Rattle.ckc_build_forms.specs.ckc_blame_steps.specs.ckc_bounds_views.specs.Ranges.{pointer_range, range_of_name, range_of_member, range_of_operand, range_by_type, own_numbers}
+use Rattle.ckc_build_forms.specs.ckc_blame_steps.specs.ckc_bounds_views.specs.Views.{limits_view, node_view, expr_view, view_of_limits, view_of_node, view}
 use Rattle.ckc_source.specs.declared.expr.Count.{Count}
 use Rattle.ckc_source.specs.Code.{Expr, Number, Array, Choice, Tested, Trusted, Program}
 use Rattle.ckc_build_values.specs.Kinds.{integer_of, count_of_kind, size_behind, pointee_of, tag_of, through_kind}
@@ -57,9 +57,9 @@ use Rattle.ckc_build_values.specs.Names.{address_of, array_of, bytes_of, count_o
 use Rattle.ckc_build_values.specs.Operators.{outside, cast, unary, of_operands}
 use Rattle.ckc_build_values.specs.Places.{Place, object_place, element_place, target_place, member_place, read_at}
 use Rattle.ckc_build_values.specs.Expressions.{local_in, static_in, Part, NodePart, LimitsPart, limits_parts, node_parts, expr_parts, form_if, part_of, part_of_node, part_of_limits}
-use Rattle.ckc_blame_steps.specs.ckc_blame_sound.specs.Settings.{Setting}
-use Rattle.ckc_blame_steps.specs.ckc_blame_sound.proofs.Every.{LimitsLayer, ExprLayer, EachLimits, EachNode, EachExpr, LimitsParts, NodeParts, AllEach, limits_hold, node_hold, inside}
-use Rattle.ckc_blame_steps.specs.ckc_blame_sound.proofs.Judging.{Gives, bound}
+use Rattle.ckc_build_forms.specs.ckc_blame_steps.specs.ckc_blame_sound.specs.Settings.{Setting}
+use Rattle.ckc_build_forms.specs.ckc_blame_steps.specs.ckc_blame_sound.proofs.Every.{LimitsLayer, ExprLayer, EachLimits, EachNode, EachExpr, LimitsParts, NodeParts, AllEach, limits_hold, node_hold, inside}
+use Rattle.ckc_build_forms.specs.ckc_blame_steps.specs.ckc_blame_sound.proofs.Judging.{Gives, bound}
 use Rattle.ckc_build_wellformed.specs.Ranges.{GivesRange}
 use Rattle.ckc_build_wellformed.specs.WellFormed.{IsWellFormedAccess, IsWellFormedExpr}
 use Rattle.ckc_build_wellformed.proofs.Nodes.{no_any, is_there_form, is_there, is_plain_form, is_plain, name_in, call_in}

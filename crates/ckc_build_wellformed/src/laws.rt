@@ -10,7 +10,7 @@ ghost use Rattle.ckc_source.specs.declared.outcome.Value.{Value};
 ghost use Rattle.ckc_source.specs.Code.{Expr, Program};
 ghost use Rattle.ckc_source.specs.Eval.{Store, evaluated, element_through, tests};
 ghost use Rattle.ckc_typed.specs.declared.typed.Typed.{Typed};
-ghost use Rattle.ckc_blame_steps.specs.Accepted.{IsAccepted};
+ghost use Rattle.ckc_build_forms.specs.ckc_blame_steps.specs.Accepted.{IsAccepted};
 ghost use Rattle.ckc_build_elaborate.specs.Elaborated.{elaborated};
 ghost use Rattle.ckc_build_wellformed.specs.Ranges.{GivesRange, IsNullOrRanged};
 ghost use Rattle.ckc_build_wellformed.specs.WellFormed.{IsWellFormed, IsWellFormedAccess};
