@@ -1,5 +1,5 @@
 -- The program of a text that the phases accept is well formed.
-use Rattle.std.proofs.Common.{◌≡◌, ◌∙◌, sym, ap, subst, refl, ℕ, ◌+◌, false, List, [], ◌∷◌, ◌++◌, map, length, replicate}
+use Rattle.std.proofs.Common.{◌≡◌, ◌∙◌, sym, ap, subst, refl, arith, le_refl, ℕ, ◌+◌, ◌≤◌, false, List, [], ◌∷◌, ◌++◌, map, length, replicate}
 use Rattle.std.specs.Prelude.{All, Ok, ◌-◌, ◌*◌}
 use Rattle.std.specs.List.{Contains}
 use Rattle.std.proofs.lemmas.List.{length-map}
@@ -14,9 +14,9 @@ use Rattle.ckc_typed.specs.Environment.{variable_declared}
 use Rattle.ckc_typed.specs.Trees.{NotedDecl, NotedHead, NotedStmt}
 use Rattle.ckc_typed.specs.Types.{type_written}
 use Rattle.ckc_source.specs.declared.program.Object.{Object}
-use Rattle.ckc_source.specs.Blocks.{block_of}
+use Rattle.ckc_source.specs.Blocks.{block_of, end_of, first_place, place_behind}
 use Rattle.ckc_source.specs.Code.{Function}
-use Rattle.ckc_source.specs.LaidOut.{HoldBytes}
+use Rattle.ckc_source.specs.LaidOut.{AreApart, HoldBytes}
 use Rattle.ckc_checks_operands.specs.Compilable.{HasParams}
 use Rattle.ckc_build_elaborate.specs.Elaborated.{elaborated}
 use Rattle.ckc_build_elaborate.specs.Functions.{literals_of_head, function_elaborated, functions_elaborated}
@@ -55,6 +55,12 @@ begin_as_bytes : (os : List Object) → HoldBytes (map block_of os) → All Begi
 begin_as_bytes [] h = All-nil BeginsAsBytes
 begin_as_bytes (o ∷ os) h =
     All-cons BeginsAsBytes o os (front_bytes o.initial (replicate (o.size * o.count - length o.initial) 0) h.0) (begin_as_bytes os h.1)
+
+lie_from : (first low place : ℕ) (os : List Object) → first ≤ low → AreApart low (map block_of os) place → All (λ (o : Object). first ≤ o.at) os
+lie_from first low place [] less h = All-nil (λ (o : Object). first ≤ o.at)
+lie_from first low place (o ∷ os) less h =
+    let here = h.0 in
+    All-cons (λ (o : Object). first ≤ o.at) o os (omega (arith, less, here)) (lie_from first (end_of (block_of o) + 1) place os (omega (arith, less, here)) h.1)
 
 -- ---- functions
 
@@ -121,5 +127,6 @@ accepted_formed text p a =
     record {
       main = main_there p j;
       bodies = bodies_formed p j k.1.small safe;
+      placed = lie_from first_place first_place (place_behind first_place (map block_of (elaborated p).objects)) (elaborated p).objects (le_refl first_place) k.1.laid_out.apart;
       objects = begin_as_bytes (elaborated p).objects k.1.laid_out.bytes;
     }

@@ -1,9 +1,10 @@
 -- Programs that are well formed: what an access, a bounds cast or a call names is there. An access through a checked
 -- pointer, and a cast that tests bounds, has a pointer that is null or has a range; an access by name goes to an object of
 -- the program; a call names a function and has as many arguments as that has parameters.
-use Rattle.std.specs.Prelude.{◌≡◌, ℕ, List, [], ◌∷◌, length, slice_get, Option, Some, None, All}
+use Rattle.std.specs.Prelude.{◌≡◌, ℕ, ◌≤◌, List, [], ◌∷◌, length, slice_get, Option, Some, None, All}
 use Rattle.std.specs.List.{Contains}
 use Rattle.ckc_base.specs.Lists.{AreBytes}
+use Rattle.ckc_base.specs.MemoryMap.{first_place}
 use Rattle.ckc_source.specs.declared.expr.Through.{Through}
 use Rattle.ckc_source.specs.declared.expr.Through.TheVariants as through
 use Rattle.ckc_source.specs.declared.program.Object.{Object}
@@ -118,13 +119,18 @@ IsWellFormedCode p (Check spot e rest) = IsWellFormedExpr p e × IsWellFormedCod
 abbrev pub HasWellFormedBody : Program → Function → Type 0
 HasWellFormedBody p f = IsWellFormedCode p f.body
 
+-- An object lies in the data region, from the first place for objects on; so none lies at 0.
+abbrev pub LiesInData : Object → Type 0
+LiesInData o = first_place ≤ o.at
+
 -- the first bytes of an object are bytes
 abbrev pub BeginsAsBytes : Object → Type 0
 BeginsAsBytes o = AreBytes o.initial
 
--- A program is well formed: `main` is there and has no parameters, the body of each function is well formed, and the first
--- bytes of each object are bytes.
+-- A program is well formed: `main` is there and has no parameters, the body of each function is well formed, and each object
+-- lies in the data region and begins as bytes.
 pub record IsWellFormed (p : Program) : Type 0 where
   pub main : HasParams 0 (slice_get p.functions p.main)
   pub bodies : All (HasWellFormedBody p) p.functions
+  pub placed : All LiesInData p.objects
   pub objects : All BeginsAsBytes p.objects
