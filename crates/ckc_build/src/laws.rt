@@ -54,8 +54,8 @@ pub fn programs_are_laid_out()
     accepted_texts_are_blamed();
 }
 
-/// The program of a text is well formed: what it names is there, and its checked pointers have ranges. So its meaning is
-/// stuck at no call, and at no access or bounds cast for want of a range.
+/// The program of a text is well formed: what it names is there, and its checked pointers have ranges.
+/// So a call in it is not stuck for want of a function, nor an access or a bounds cast for want of a range.
 pub fn programs_are_well_formed()
     ensures { (text : List ℕ) (p : Program) → HasMeaning text p → IsWellFormed p }
 {
