@@ -12,7 +12,7 @@ use Rattle.ckc_source.specs.Code.{Program}
 use Rattle.ckc_source.specs.LaidOut.{IsLaidOut}
 use Rattle.ckc_typed.specs.Texts.{named_typed}
 use Rattle.ckc_typed_welltyped.specs.Texts.{TypedAs}
-use Rattle.ckc_build_forms.specs.ckc_blame_steps.specs.Accepted.{IsAccepted}
+use Rattle.ckc_build_wellformed.specs.ckc_blame_steps.specs.Accepted.{IsAccepted}
 use Rattle.ckc_typed.specs.declared.typed.Typed.{Typed}
 use Rattle.ckc_build_elaborate.specs.Elaborated.{elaborated}
 use Rattle.ckc_build.specs.Meanings.{judging, HasMeaning, IsWhollyChecked}

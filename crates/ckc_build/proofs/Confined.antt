@@ -1,7 +1,6 @@
 -- Stores stay inside, if what is planned lies in blocks.
-use Rattle.std.proofs.Common.{◌≡◌, ◌⊎◌, inl, inr, refl, sym, ap, subst, ◌∙◌, ℕ, List, [], ◌∷◌}
+use Rattle.std.proofs.Common.{◌≡◌, ◌⊎◌, inl, inr, refl, sym, subst, ℕ, List, [], ◌∷◌}
 use Rattle.std.specs.Prelude.{IsTrue, Result, Ok, Err}
-use Rattle.std.specs.List.{All}
 use Rattle.std.proofs.lemmas.List.Elements.{All-head, All-tail, All-weaker}
 use Rattle.ckc_base.specs.declared.arithmetic.Width.{Width}
 use Rattle.ckc_base.specs.Lists.{AreBytes}
@@ -19,7 +18,7 @@ use Rattle.ckc_source.specs.Code.{Program}
 use Rattle.ckc_source.specs.Source.{source_system, first_state}
 use Rattle.ckc_source.specs.States.{State, settled}
 use Rattle.ckc_source.specs.Steps.{Write}
-use Rattle.ckc_build_forms.specs.ckc_blame_steps.specs.Stores.{LiesThere, LieThere, PlansLieAt, PlansLie}
+use Rattle.ckc_build_wellformed.specs.ckc_blame_steps.specs.Stores.{LiesThere, LieThere, PlansLieAt, PlansLie}
 use Rattle.ckc_build.specs.Confined.{StaysInside, StoresStayInside}
 
 of_lies : (blocks : List Block) (to : Place) (n at : ℕ) (width : Width) (value : ℕ) → LiesThere blocks to → IsOf to n at width value → IsTrue (lies_in width at blocks)

@@ -11,7 +11,7 @@ use Rattle.ckc_typed.specs.Texts.{named_typed}
 use Rattle.ckc_bounds.specs.Phase.{bounding}
 use Rattle.ckc_build_elaborate.specs.Elaborated.{elaborated}
 use Rattle.ckc_checks_operands.specs.Weights.{program_weight}
-use Rattle.ckc_build_forms.specs.ckc_build_sizes.specs.Nodes.{text_nodes}
+use Rattle.ckc_build_wellformed.specs.ckc_build_sizes.specs.Nodes.{text_nodes}
 use Rattle.ckc_build.specs.Meanings.{HasMeaning}
 
 module _

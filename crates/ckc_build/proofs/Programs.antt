@@ -15,7 +15,7 @@ use Rattle.ckc_build_compile.specs.Confined.{ConfinesStores, NeverFaults}
 use Rattle.ckc_build.specs.Meanings.{IsWhollyChecked, judging, elaborating, meanings}
 use Rattle.ckc_build.specs.Built.{IsImage, building}
 use Rattle.ckc_build.specs.Sizes.{HasShortCode}
-use Rattle.ckc_build_forms.specs.ckc_blame_steps.specs.Stores.{PlansLie}
+use Rattle.ckc_build_wellformed.specs.ckc_blame_steps.specs.Stores.{PlansLie}
 use Rattle.ckc_build.proofs.Confined.{stores_stay}
 use Rattle.ckc_build.proofs.Chain.{judging_exact, exact_err}
 

@@ -4,23 +4,27 @@ ghost use Rattle.ckc_base.specs.declared.places.Refusal.{Refusal};
 ghost use Rattle.ckc_base.specs.Phases.{IsExact};
 ghost use Rattle.ckc_parser.specs.Phase.{SpelledTree};
 ghost use Rattle.ckc_source.specs.Code.{Program};
+ghost use Rattle.ckc_base.specs.States.{state_at};
 ghost use Rattle.ckc_source.specs.LaidOut.{IsLaidOut};
+ghost use Rattle.ckc_source.specs.Source.{first_state, source_system, IsOrderly};
 ghost use Rattle.ckc_checks_operands.specs.Compilable.{IsCompilable};
 ghost use Rattle.ckc_checks_operands.specs.Weights.{program_weight, most_weight};
 ghost use Rattle.ckc_blame.specs.Blamed.{IsBlamed, IsNeverStuck};
 ghost use Rattle.ckc_blame.specs.Checked.{WhollyChecked};
-ghost use Rattle.ckc_build_forms.specs.ckc_blame_steps.specs.Stores.{PlansLie};
-ghost use Rattle.ckc_build_forms.specs.ckc_blame_steps.specs.Unchecked.{AreStoresBlamed};
+ghost use Rattle.ckc_build_wellformed.specs.ckc_blame_steps.specs.Stores.{PlansLie};
+ghost use Rattle.ckc_build_wellformed.specs.ckc_blame_steps.specs.Unchecked.{AreStoresBlamed};
 ghost use Rattle.ckc_build_elaborate.specs.Elaborated.{elaborated};
+ghost use Rattle.ckc_build_wellformed.specs.WellFormed.{IsWellFormed};
 ghost use Rattle.ckc_build_words.specs.Words.{WordsFit};
 ghost use Rattle.ckc_typed.specs.declared.typed.Typed.{Typed};
 ghost use Rattle.ckc_build.specs.Codes.{IsTextCode};
 ghost use Rattle.ckc_build.specs.Meanings.{HasMeaning, IsWhollyChecked, judging, reading};
 
-use ckc_build_forms::{
-    accepted_stores_lie, accepted_texts_are_blamed, accepted_texts_have_the_form, marks_stay,
-    programs_are_small, stores_are_to_blame,
+use ckc_build_wellformed::{
+    accepted_stores_lie, accepted_texts_are_blamed, accepted_texts_are_well_formed,
+    accepted_texts_have_the_form, marks_stay, programs_are_small, stores_are_to_blame,
 };
+use ckc_source::laws::states_are_orderly;
 use ckc_typed_fit::small_stays;
 use ckc_typed_welltyped::{counts_stay, texts_exactly};
 
@@ -48,6 +52,24 @@ pub fn programs_are_laid_out()
 {
     texts_exactly();
     accepted_texts_are_blamed();
+}
+
+/// The program of a text is well formed: what it names is there, and its checked pointers have ranges.
+/// So a call in it is not stuck for want of a function, nor an access or a bounds cast for want of a range.
+pub fn programs_are_well_formed()
+    ensures { (text : List ℕ) (p : Program) → HasMeaning text p → IsWellFormed p }
+{
+    texts_exactly();
+    accepted_texts_are_well_formed();
+}
+
+/// Each state of a run of the program of a text is orderly.
+pub fn states_of_texts_are_orderly()
+    ensures { (text : List ℕ) (p : Program) (input : List ℕ) (n : ℕ) → HasMeaning text p
+        → IsOrderly (state_at (source_system p) (first_state p input) n) }
+{
+    programs_are_laid_out();
+    states_are_orderly();
 }
 
 /// The program of a text that has a meaning weighs no more than an image has room for: the size limits of texts see to

@@ -4,10 +4,11 @@ ghost use Rattle.ckc_base.specs.Phases.{Exact, IsExact, viewed};
 ghost use Rattle.ckc_source.specs.Code.{program_of};
 ghost use Rattle.ckc_source.specs.LaidOut.{IsLaidOut};
 ghost use Rattle.ckc_build_elaborate.specs.Elaborated.{elaborated};
+ghost use Rattle.ckc_build_wellformed.specs.WellFormed.{IsWellFormed};
 ghost use Rattle.ckc_build.specs.Meanings.{meanings};
 
 use crate::front::judge;
-use crate::laws::programs_are_laid_out;
+use crate::laws::{programs_are_laid_out, programs_are_well_formed};
 use ckc_base::Fault;
 use ckc_build_elaborate::elaborate;
 use ckc_source::Program;
@@ -21,6 +22,8 @@ pub fn program(alloc: Global, text: &[u8]) -> Result<Program, Fault>
     ensures exact { Exact meanings text.now (viewed program_of result) }
     // The static objects lie apart, as a run of the program needs them.
     ensures laid_out { IfOk result (λ p. IsLaidOut (program_of p)) }
+    // What the program names is there, and its checked pointers have ranges.
+    ensures well_formed { IfOk result (λ p. IsWellFormed (program_of p)) }
 {
     match judge(alloc, text) {
         Err(fault) => Err(fault),
@@ -28,6 +31,7 @@ pub fn program(alloc: Global, text: &[u8]) -> Result<Program, Fault>
             Err(_) => Err(Fault::Memory),
             Ok(p) => {
                 programs_are_laid_out();
+                programs_are_well_formed();
                 Ok(p)
             }
         },

@@ -1,6 +1,6 @@
 use Rattle.ckc_blame.specs.Blamed.{IsBlamed, IsNeverStuck}
 use Rattle.ckc_blame.specs.Checked.{WhollyChecked}
-use Rattle.ckc_build_forms.specs.ckc_blame_steps.specs.Unchecked.{AreStoresBlamed}
+use Rattle.ckc_build_wellformed.specs.ckc_blame_steps.specs.Unchecked.{AreStoresBlamed}
 use Rattle.ckc_build_elaborate.specs.Elaborated.{elaborated}
 use Rattle.ckc_build.proofs.Blame.{if_judged}
 use Rattle.ckc_build.proofs.front.judge.Goals as goal

@@ -1,4 +1,4 @@
-use Rattle.ckc_build_forms.specs.ckc_blame_steps.specs.Stores.{PlansLie}
+use Rattle.ckc_build_wellformed.specs.ckc_blame_steps.specs.Stores.{PlansLie}
 use Rattle.ckc_build.proofs.Blame.{accepted, checked_by}
 use Rattle.ckc_build.proofs.laws.checked_stores_lie_in_blocks.Goals as goal
 

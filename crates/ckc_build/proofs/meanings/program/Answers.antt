@@ -16,3 +16,8 @@ pub returns-in-Ok-elaborated-clause-laid_out : goal.returns-in-Ok-elaborated-cla
 returns-in-Ok-elaborated-clause-laid_out c =
     let p = program_of c.in-Ok-elaborated.p in
     c.programs_are_laid_out.ensures c.args.text.now p (means c.args.text.now c.in-Ok.typed p c.in-Ok.ensures.exact c.in-Ok-elaborated.ensures).answers
+
+pub returns-in-Ok-elaborated-clause-well_formed : goal.returns-in-Ok-elaborated-clause-well_formed
+returns-in-Ok-elaborated-clause-well_formed c =
+    let p = program_of c.in-Ok-elaborated.p in
+    c.programs_are_well_formed.ensures c.args.text.now p (means c.args.text.now c.in-Ok.typed p c.in-Ok.ensures.exact c.in-Ok-elaborated.ensures).answers

@@ -1,0 +1,174 @@
+-- What is known of the names of a function, and what ranges and the rows of the table of types say.
+use Rattle.std.proofs.Common.{◌≡◌, ◌⊎◌, ◌∙◌, refl, sym, ap, ℕ, Bool, true, false, List}
+use Rattle.std.specs.Prelude.{◌==◌, not, ◌&&◌, ◌||◌, if◌then◌else◌, Option, Some, None, is_some}
+use Rattle.std.proofs.lemmas.Bool.{and_parts, eqb-true}
+use Rattle.ckc_base.specs.declared.arithmetic.Mode.{Mode}
+use Rattle.ckc_base.specs.declared.places.Pos.{Pos}
+use Rattle.ckc_types.specs.declared.types.Kind.{Kind}
+use Rattle.ckc_types.specs.declared.types.Kind.TheVariants as kind
+use Rattle.ckc_types.specs.declared.types.CType.{CType, CType-F, out-CType, fold_out-CType, map-CType}
+use Rattle.ckc_syntax.specs.declared.tree.Name.{Name}
+use Rattle.ckc_syntax.specs.declared.tree.Name.TheVariants as name
+use Rattle.ckc_typed.specs.declared.environment.Globals.{Globals}
+use Rattle.ckc_typed.specs.declared.typed.Range.{Range}
+use Rattle.ckc_typed.specs.declared.typed.Range.TheVariants as range
+use Rattle.ckc_typed.specs.Declarations.{is_checked_kind}
+use Rattle.ckc_typed.specs.Environment.{object_named, type_of_name, variable_named}
+use Rattle.ckc_typed.specs.Expressions.{is_no_array, number_type}
+use Rattle.ckc_typed.specs.Operands.{is_raw_kind, is_cast, target_type, dot_type, choice_type, arithmetic_type}
+use Rattle.ckc_typed.specs.Raw.{is_raw, raw_in_form, has_raw}
+use Rattle.ckc_typed.specs.Trees.{NotedLayer}
+use Rattle.ckc_typed.specs.Types.{is_integer, is_object_type, is_pointer, is_pointer_form, is_void, is_scalar, kind_of, kind_in, element_of}
+use Rattle.ckc_typed_welltyped.specs.Expressions.{HasType}
+use Rattle.ckc_build_forms.specs.ckc_blame_steps.specs.ckc_bounds_ranges.specs.Rows.{range_of_local}
+use Rattle.ckc_build_forms.specs.ckc_blame_steps.specs.ckc_bounds_views.specs.declared.variables.Own.{Own}
+use Rattle.ckc_build_forms.specs.ckc_blame_steps.specs.ckc_bounds_views.specs.Fresh.{member_in}
+use Rattle.ckc_build_forms.specs.ckc_blame_steps.specs.ckc_bounds_views.specs.Judged.{fault_if, is_missing}
+use Rattle.ckc_build_forms.specs.ckc_blame_steps.specs.ckc_bounds_views.specs.Ranges.{range_of_name, range_of_member, range_by_type}
+use Rattle.ckc_source.specs.Code.{Program}
+use Rattle.ckc_build_values.specs.Kinds.{count_of_kind, tag_of}
+use Rattle.ckc_build_values.specs.Members.{count_of_member}
+use Rattle.ckc_build_values.specs.Names.{address_of, array_of, count_of_static}
+use Rattle.ckc_build_forms.specs.ckc_blame_steps.specs.ckc_blame_sound.specs.Settings.{Setting}
+use Rattle.ckc_build_wellformed.specs.WellFormed.{HasObjectAt}
+use Rattle.ckc_build_wellformed.proofs.Nodes.{is_there_form}
+use Rattle.ckc_build_wellformed.proofs.Parts.{different, unlike, int_kind, unsigned_kind, integer_kind, kind_pointer, arithmetic_kind}
+
+-- ---- names
+
+-- What is known of an object of file scope with a type: it lies in the program; an array is of a kind that is no `_Ptr`; and
+-- of a pointer the program has the number of elements where it is a `_Ptr` or where its range is known.
+pub record KnowsStatic (s : Setting) (g : Program) (t : CType) (k : ℕ) : Type 0 where
+  pub there : HasObjectAt g (address_of s.text k)
+  pub array : (j : Kind) → array_of s.text k ≡ Some j → (kind_of t ≡ Some j) × (j ≡ kind.One → ⊥)
+  pub single : array_of s.text k ≡ None → kind_of t ≡ Some kind.One → count_of_static s.text t (name.Static k) ≡ None → ⊥
+  pub ranged : array_of s.text k ≡ None → count_of_static s.text t (name.Static k) ≡ None → (own : ℕ) (widened : List ℕ)
+      → is_missing (range_of_name s.frame (name.Static k) t own widened) ≡ true
+
+-- The same of a member.
+pub record KnowsMember (s : Setting) (u t : CType) (n : Name) : Type 0 where
+  pub single : kind_of t ≡ Some kind.One → count_of_member s.text.layout (tag_of u) n ≡ None → ⊥
+  pub ranged : count_of_member s.text.layout (tag_of u) n ≡ None → (own : Own) → is_missing (range_of_member s.frame.structs t (member_in n (out-CType u)) own) ≡ true
+
+-- What is known of the names of a function.
+pub record Knows (globals : Globals) (s : Setting) (g : Program) : Type 0 where
+  pub statics : (k : ℕ) (t : CType) → type_of_name globals s.variables (name.Static k) ≡ Some t → KnowsStatic s g t k
+  pub members : (u t : CType) (n : Name) → dot_type globals.structs u n ≡ Some t → KnowsMember s u t n
+  pub structures : (u t : CType) (n : Name) → dot_type globals.structs u n ≡ Some t → (e : NotedLayer) (mode : Mode) → HasType globals s.variables mode e u → is_there_form e ≡ true
+  pub objects : (n : Name) → is_no_array (object_named globals n) ≡ true → (k : ℕ) × (n ≡ name.Static k)
+  pub targets : (n : Name) → (is_some (variable_named s.variables n) || is_no_array (object_named globals n)) ≡ true
+      → ((k : ℕ) × (n ≡ name.Local k)) ⊎ ((k : ℕ) × (n ≡ name.Static k))
+  pub ones : (k : ℕ) (t : CType) → type_of_name globals s.variables (name.Local k) ≡ Some t → kind_of t ≡ Some kind.One → (widened : List ℕ) → is_missing (range_of_local s.frame k widened) ≡ false
+
+-- ---- ranges
+
+-- a range that is not missing is the one behind a choice
+pub chosen : (b : Bool) (x : Range) → is_missing (if b then x else range.Missing) ≡ false → is_missing x ≡ false
+chosen true x h = h
+chosen false x h = unlike h
+
+pub not_chosen : (b : Bool) (x : Range) → is_missing (if b then range.Missing else x) ≡ false → is_missing x ≡ false
+not_chosen true x h = unlike h
+not_chosen false x h = h
+
+pub none_is : {A X : Type 0} {a : A} → ◌≡◌ {A = Option A} None (Some a) → X
+none_is e = absurd cc
+
+pub some_same : {A : Type 0} {x y : A} → ◌≡◌ {A = Option A} (Some x) (Some y) → x ≡ y
+some_same e = cc
+
+pub no_fault : (b : Bool) (code : ℕ) (pos : Pos) → fault_if b code pos ≡ None → b ≡ false
+no_fault true code pos h = absurd cc
+no_fault false code pos h = refl
+
+pub counted_there : (a m : Bool) → a ≡ true → (a && m) ≡ false → m ≡ false
+counted_there true m h e = e
+counted_there false m h e = different h
+
+-- a type without unchecked pointers is no unchecked pointer
+pub no_raw_kind : (t : CType) → has_raw t ≡ false → is_pointer t ≡ true → is_checked_kind (kind_of t) ≡ true
+no_raw_kind t h p = by (out-CType t) (sym (fold_out-CType Bool raw_in_form t) ∙ h) p
+  where
+    pointer : (k : Kind) (b : Bool) → (is_raw k || b) ≡ false → is_checked_kind (Some k) ≡ true
+    pointer kind.Raw b e = absurd cc
+    pointer kind.One b e = refl
+    pointer kind.Arr b e = refl
+    pointer kind.Nt b e = refl
+
+    by : (x : CType-F CType) → raw_in_form (map-CType CType Bool has_raw x) ≡ false → is_pointer_form x ≡ true → is_checked_kind (kind_in x) ≡ true
+    by (CType-F.Pointer k u) e q = pointer k (has_raw u) e
+    by CType-F.Int e q = absurd cc
+    by CType-F.Unsigned e q = absurd cc
+    by CType-F.Char e q = absurd cc
+    by CType-F.Void e q = absurd cc
+    by (CType-F.Struct tag) e q = absurd cc
+
+-- ---- what rows say
+
+pub zero : (n : ℕ) → ((n == 0) || (false || false)) ≡ true → n ≡ 0
+zero n h = by (n == 0) refl h
+  where
+    by : (b : Bool) → (n == 0) ≡ b → (b || (false || false)) ≡ true → n ≡ 0
+    by true e f = eqb-true n 0 e
+    by false e f = different f
+
+pub number_kind : (u : Bool) (t : CType) → t ≡ number_type u → kind_of t ≡ None
+number_kind true t is = ap kind_of is ∙ unsigned_kind
+number_kind false t is = ap kind_of is ∙ int_kind
+
+pub checked_pointer : (t : CType) → is_checked_kind (kind_of t) ≡ true → is_pointer t ≡ true
+checked_pointer t h = by (kind_of t) refl h
+  where
+    by : (k : Option Kind) → kind_of t ≡ k → is_checked_kind k ≡ true → is_pointer t ≡ true
+    by (Some k) is c = kind_pointer t k is
+    by None is c = different c
+
+pub if_true : (b : Bool) (x : Range) → b ≡ true → (if b then x else range.Missing) ≡ x
+if_true true x h = refl
+if_true false x h = different h
+
+pub count_missing : (c : Option Kind) (own : ℕ) → count_of_kind c ≡ None → is_missing (range_by_type c own) ≡ true
+count_missing (Some kind.Raw) own h = refl
+count_missing (Some kind.One) own h = absurd cc
+count_missing (Some kind.Arr) own h = refl
+count_missing (Some kind.Nt) own h = absurd cc
+count_missing None own h = refl
+
+pub one_counts : (t : CType) → kind_of t ≡ Some kind.One → count_of_kind (kind_of t) ≡ None → ⊥
+one_counts t is none = some_none (ap count_of_kind (sym is) ∙ none)
+  where
+    some_none : count_of_kind (Some kind.One) ≡ None → ⊥
+    some_none e = cc
+
+pub target_pointer : (t r : CType) → target_type t ≡ Some r → is_pointer t ≡ true
+target_pointer t r h = by (is_pointer t) refl (not (is_void (element_of t))) h
+  where
+    by : (b : Bool) → is_pointer t ≡ b → (c : Bool) → (if b && c then Some (element_of t) else None) ≡ Some r → is_pointer t ≡ true
+    by true e c x = e
+    by false e c x = absurd cc
+
+pub if_first : (b : Bool) (x y : Range) → b ≡ true → is_missing (if b then x else y) ≡ false → is_missing x ≡ false
+if_first true x y h m = m
+if_first false x y h m = different h
+
+pub if_second : (b : Bool) (x y : Range) → b ≡ false → is_missing (if b then x else y) ≡ false → is_missing y ≡ false
+if_second true x y h m = unlike h
+if_second false x y h m = m
+
+pub choice_kind : (t u r v : CType) → choice_type t u r ≡ Some v → kind_of v ≡ None
+choice_kind t u r v h = by (is_scalar t) h
+  where
+    by : (b : Bool) → (if b then arithmetic_type u r else None) ≡ Some v → kind_of v ≡ None
+    by true e = arithmetic_kind u r v e
+    by false e = none_is e
+
+pub cast_kind : (t u : CType) (m : Bool) → is_cast t u m ≡ true → is_checked_kind (kind_of t) ≡ false
+cast_kind t u m h = by (is_integer t) refl (kind_of t) refl (and_parts (is_object_type t) ((is_integer t && is_integer u) || (is_raw_kind (kind_of t) && (is_pointer u || m))) h).1
+  where
+    by : (b : Bool) → is_integer t ≡ b → (k : Option Kind) → kind_of t ≡ k → ((b && is_integer u) || (is_raw_kind k && (is_pointer u || m))) ≡ true → is_checked_kind k ≡ false
+    by true e k is q = ap is_checked_kind (sym is ∙ integer_kind t e)
+    by false e (Some kind.Raw) is q = refl
+    by false e (Some kind.One) is q = different q
+    by false e (Some kind.Arr) is q = different q
+    by false e (Some kind.Nt) is q = different q
+    by false e None is q = refl

@@ -1,0 +1,10 @@
+pub mod Given
+pub mod Nodes
+pub mod Parts
+pub mod Known
+pub mod Structures
+pub mod Values
+pub mod Steps
+pub mod Statements
+pub mod Names
+pub mod Programs

@@ -1,0 +1,132 @@
+-- The program of a text that the phases accept is well formed.
+use Rattle.std.proofs.Common.{◌≡◌, ◌∙◌, sym, ap, subst, refl, arith, le_refl, ℕ, ◌+◌, ◌≤◌, false, List, [], ◌∷◌, ◌++◌, map, length, replicate}
+use Rattle.std.specs.Prelude.{All, Ok, ◌-◌, ◌*◌}
+use Rattle.std.specs.List.{Contains}
+use Rattle.std.proofs.lemmas.List.{length-map}
+use Rattle.std.proofs.lemmas.List.Elements.{All-nil, All-cons}
+use Rattle.ckc_base.specs.Lists.{AreBytes}
+use Rattle.ckc_base.specs.Outcomes.{bind}
+use Rattle.ckc_syntax.specs.declared.tree.Name.TheVariants as name
+use Rattle.ckc_syntax.specs.declared.tree.Item.TheVariants as item
+use Rattle.ckc_syntax_limits.specs.Small.{Small}
+use Rattle.ckc_typed.specs.declared.typed.Typed.{Typed}
+use Rattle.ckc_typed.specs.Environment.{variable_declared}
+use Rattle.ckc_typed.specs.Trees.{NotedDecl, NotedHead, NotedStmt}
+use Rattle.ckc_typed.specs.Types.{type_written}
+use Rattle.ckc_source.specs.declared.program.Object.{Object}
+use Rattle.ckc_source.specs.Blocks.{block_of, end_of, first_place, place_behind}
+use Rattle.ckc_source.specs.Code.{Function}
+use Rattle.ckc_source.specs.LaidOut.{AreApart, HoldBytes}
+use Rattle.ckc_checks_operands.specs.Compilable.{HasParams}
+use Rattle.ckc_build_elaborate.specs.Elaborated.{elaborated}
+use Rattle.ckc_build_elaborate.specs.Functions.{literals_of_head, function_elaborated, functions_elaborated}
+use Rattle.ckc_build_elaborate.specs.Objects.{count_declared}
+use Rattle.ckc_build_forms.specs.ckc_blame_steps.specs.Accepted.{IsAccepted}
+use Rattle.ckc_build_forms.specs.ckc_blame_steps.specs.ckc_bounds.specs.Frames.{function_frame, begin_of}
+use Rattle.ckc_build_forms.specs.ckc_blame_steps.specs.ckc_bounds.specs.Phase.{bounding}
+use Rattle.ckc_build_forms.specs.ckc_blame_steps.specs.ckc_bounds.specs.Texts.{body_judged}
+use Rattle.ckc_build_forms.specs.ckc_blame_steps.specs.ckc_bounds_points.specs.declared.frame.Frame.{Frame}
+use Rattle.ckc_build_forms.specs.ckc_blame_steps.specs.ckc_bounds_statements.specs.Paths.{Here, path}
+use Rattle.ckc_build_forms.specs.ckc_blame_steps.specs.ckc_blame_sound.specs.JudgedTexts.{IsJudged, IsBodyJudged, globals_in}
+use Rattle.ckc_build_forms.specs.ckc_blame_steps.specs.ckc_blame_sound.specs.Safe.{AreSafe}
+use Rattle.ckc_build_forms.specs.ckc_blame_steps.specs.ckc_blame_sound.specs.Settings.{Setting, IsFunction, setting_of, frame_of_text}
+use Rattle.ckc_build_forms.specs.ckc_blame_steps.specs.ckc_blame_sound.proofs.Bodies.{bodies_are_typed, declared_known}
+use Rattle.ckc_build_forms.specs.ckc_blame_steps.specs.ckc_blame_sound.proofs.Literals.{text_strings}
+use Rattle.ckc_build_forms.specs.ckc_blame_steps.specs.ckc_blame_sound.proofs.Strings.{NumbersStrings}
+use Rattle.ckc_build_forms.specs.ckc_blame_steps.specs.ckc_blame_walk.proofs.Frames.{function_frames_same}
+use Rattle.ckc_build_forms.specs.ckc_blame_steps.specs.ckc_blame_walk.proofs.Texts.{text_same}
+use Rattle.ckc_build_forms.specs.ckc_blame_steps.proofs.Accepted.{accepted_known}
+use Rattle.ckc_build_forms.specs.ckc_blame_steps.proofs.Callees.{callees_known}
+use Rattle.ckc_build_forms.specs.ckc_blame_steps.proofs.Scoped.{texts_are_safe}
+use Rattle.ckc_build_forms.specs.ckc_blame_steps.proofs.Told.{local_named}
+use Rattle.ckc_build_forms.proofs.FunctionsSmall.{each_function, main_there}
+use Rattle.ckc_build_wellformed.specs.WellFormed.{IsWellFormedCode, HasWellFormedBody, BeginsAsBytes, IsWellFormed}
+use Rattle.ckc_build_wellformed.proofs.Names.{names_known}
+use Rattle.ckc_build_wellformed.proofs.Statements.{Before, judged_form}
+use Rattle.ckc_build_wellformed.proofs.Steps.{HaveParams}
+
+-- ---- the first bytes of objects
+
+front_bytes : (xs ys : List ℕ) → AreBytes (xs ++ ys) → AreBytes xs
+front_bytes [] ys h = tt
+front_bytes (x ∷ xs) ys h = (h.0, front_bytes xs ys h.1)
+
+begin_as_bytes : (os : List Object) → HoldBytes (map block_of os) → All BeginsAsBytes os
+begin_as_bytes [] h = All-nil BeginsAsBytes
+begin_as_bytes (o ∷ os) h =
+    All-cons BeginsAsBytes o os (front_bytes o.initial (replicate (o.size * o.count - length o.initial) 0) h.0) (begin_as_bytes os h.1)
+
+lie_from : (first low place : ℕ) (os : List Object) → first ≤ low → AreApart low (map block_of os) place → All (λ (o : Object). first ≤ o.at) os
+lie_from first low place [] less h = All-nil (λ (o : Object). first ≤ o.at)
+lie_from first low place (o ∷ os) less h =
+    let here = h.0 in
+    All-cons (λ (o : Object). first ≤ o.at) o os (omega (arith, less, here)) (lie_from first (end_of (block_of o) + 1) place os (omega (arith, less, here)) h.1)
+
+-- ---- functions
+
+module _ (p : Typed) (j : IsJudged p) (small : Small j.named.tree) (safe : AreSafe p) where
+  module _ (k : ℕ) (h : NotedHead) (body : NotedStmt) (there : Contains p.tree.items (item.Function h body))
+      (strings : NumbersStrings (count_declared p.tree.items) p.tree.items k (item.Function h body)) where
+    abbrev s : Setting
+    s = setting_of p h body
+
+    abbrev f : Function
+    f = function_elaborated p k h body
+
+    is_function : IsFunction p s f
+    is_function = record {
+      head = h;
+      body = body;
+      literals = k;
+      there = there;
+      judged = refl;
+      runs = refl;
+      strings = strings s (text_strings j.typed p h body j.has_types.typed j.has_bounds);
+    }
+
+    callees : HaveParams (globals_in p) s (elaborated p)
+    unfolding setting_of
+    callees m t is =
+        let c = callees_known p j s f m t is_function is in
+        let many = ap (λ (g : Function). g.params) c.function.runs ∙ sym (length-map c.function.head.params (λ (d : NotedDecl). type_written d.ctype)) ∙ sym (ap length c.types) in
+        subst (HasParams (length t.params)) (sym c.there) many
+
+    module _ (b : IsBodyJudged (globals_in p) j.typed h body) where
+      locals : (d : NotedDecl) → Contains (path b.before).declared d → (m : ℕ) × (d.name ≡ name.Local m)
+      unfolding setting_of
+      locals d c = local_named p j s f (variable_declared d) is_function (declared_known (globals_in p) j.typed h body b d c)
+
+      before : Before (globals_in p) s (elaborated p) (names_known p j small s f is_function) callees b.before b.mode false
+      unfolding setting_of
+      before = record { typed = b.fits; safe = safe j.typed h b.before j.has_bounds b.there; locals = locals }
+
+      judged : body_judged (frame_of_text p) h b.before ≡ Ok body
+      judged = ap (λ g. body_judged g h b.before) (text_same j.typed p j.has_bounds).frame ∙ b.judged
+
+      inside : function_frame (frame_of_text p) h b.before ≡ function_frame (frame_of_text p) h body
+      inside = sym (function_frames_same (frame_of_text p) h b.before body judged)
+
+      body_formed : IsWellFormedCode (elaborated p) f.body
+      unfolding setting_of
+      body_formed =
+          judged_form (globals_in p) s (elaborated p) (names_known p j small s f is_function) callees b.before body b.mode before (begin_of (frame_of_text p) h b.before) refl
+          (subst (λ (g : Frame). bind ((path b.before).judged g s.head (begin_of (frame_of_text p) h b.before)) (λ (q : NotedStmt × Here). Ok q.0) ≡ Ok body) inside judged)
+          (k + literals_of_head h)
+
+    function_formed : HasWellFormedBody (elaborated p) f
+    function_formed = body_formed (bodies_are_typed p j h body there)
+
+  pub bodies_formed : All (HasWellFormedBody (elaborated p)) (functions_elaborated p)
+  bodies_formed = each_function p (HasWellFormedBody (elaborated p)) function_formed
+
+pub accepted_formed : (text : List ℕ) (p : Typed) → IsAccepted text p → IsWellFormed (elaborated p)
+accepted_formed text p a =
+    let k = accepted_known text p a in
+    let j = k.0.granted.judged in
+    let safe : AreSafe p = texts_are_safe a.typed p a.has_bounds.1.0 (subst (λ (q : Typed). bounding.Makes q p) a.has_bounds.1.1 a.has_bounds.2) in
+    record {
+      main = main_there p j;
+      bodies = bodies_formed p j k.1.small safe;
+      placed = lie_from first_place first_place (place_behind first_place (map block_of (elaborated p).objects)) (elaborated p).objects (le_refl first_place) k.1.laid_out.apart;
+      objects = begin_as_bytes (elaborated p).objects k.1.laid_out.bytes;
+    }

@@ -1,0 +1,10 @@
+//! The program of a text that the phases accept is well formed: what it names is there, and checked pointers have ranges.
+#![tactic(auto)]
+
+mod laws;
+
+pub use ckc_build_forms::{
+    accepted_stores_lie, accepted_texts_are_blamed, accepted_texts_have_the_form, marks_stay,
+    programs_are_small, stores_are_to_blame,
+};
+pub use laws::{accepted_texts_are_well_formed, ranges_are_given};
