@@ -1,5 +1,3 @@
 pub mod Answering
-pub mod Making
+pub mod Built
 pub mod Once
-pub mod Putting
-pub mod Turns

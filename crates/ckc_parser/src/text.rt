@@ -1,16 +1,27 @@
-ghost use Rattle.std.specs.Prelude.{map};
+ghost use Rattle.std.specs.Prelude.{◌≡◌, [], get_or, map, IfOk};
 ghost use Rattle.ckc_base.specs.Phases.{Exact};
 ghost use Rattle.ckc_syntax.specs.Spelled.{spelled};
 ghost use Rattle.ckc_parser.specs.Phase.{parsing};
 
-use crate::items::items;
 use ckc_base::{Fault, Pos, Seq};
-use ckc_parser_grammar::{Reader, Stop};
-use ckc_syntax::{Spelling, Token, Tree};
-use std::alloc::Global;
+use ckc_parser_items::build;
+use ckc_parser_trace::recognise;
+use ckc_parser_values::{Held, turned};
+use ckc_syntax::{Item, Spelling, Token, Tree};
+use std::alloc::{AllocError, Global};
+
+/// The items that are left when a whole text is built.
+fn text_of<'a>(alloc: Global, held: Held<'a>) -> Result<Seq<Item<Spelling<'a>, ()>>, AllocError>
+    ensures { IfOk result (λ items. items ≡ get_or held.entry.items 0 []) }
+{
+    let mut held = held;
+    let list = held.items.take()?;
+    turned(alloc, list)
+}
 
 /// The tree that the tokens of a text derive, which is the only one; or E120 at the first token that no
 /// continuation admits, and at `end`, the place just past the text, where the tokens run out.
+#[tactic(auto, using(crate::proofs::Built::built_answer, crate::proofs::Built::refused_answer, crate::proofs::Built::memory_answer, crate::proofs::Built::counted))]
 pub fn parse<'a>(
     alloc: Global,
     tokens: &'a [Token<'a>],
@@ -18,17 +29,14 @@ pub fn parse<'a>(
 ) -> Result<Tree<Spelling<'a>, ()>, Fault>
     ensures exact { Exact parsing (record { list = map spelled tokens.now; end = end }) result }
 {
-    let mut reader = Reader::new(tokens);
-    let mut all = Seq::new(alloc);
-    match items(&mut reader, alloc, &mut all) {
-        Ok(()) => {
-            if reader.is_at_end() {
-                Ok(Tree { items: all })
-            } else {
-                Err(Fault::Refused(reader.refusal(end)))
-            }
-        }
-        Err(Stop::Syntax) => Err(Fault::Refused(reader.refusal(end))),
-        Err(Stop::Memory) => Err(Fault::Memory),
+    match recognise(alloc, tokens, end) {
+        Err(fault) => Err(fault),
+        Ok(trace) => match build(alloc, tokens, trace) {
+            Err(_) => Err(Fault::Memory),
+            Ok(held) => match text_of(alloc, held) {
+                Err(_) => Err(Fault::Memory),
+                Ok(items) => Ok(Tree { items }),
+            },
+        },
     }
 }

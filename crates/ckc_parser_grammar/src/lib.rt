@@ -20,6 +20,8 @@ pub use make::{
 pub use operators::{
     begins_post, begins_step, begins_type, binary_op, is_greater, is_sign, sign_op,
 };
-pub use parts::{Arms, Bounds, CType, Declaration, Expression, Operation, Rest, Statement, Stop};
+pub use parts::{
+    Arms, Bounds, CType, Declaration, Expression, Operation, Post, Rest, Statement, Stop,
+};
 pub use reader::{Class, Reader, SYNTAX_ERROR, is_name, token_kind};
 pub use trace::TOKEN;

@@ -54,7 +54,7 @@ numbers = refl
 number_at : (i : ℕ) → i < 71 → number (get_or all_kinds i kind.End) ≡ i
 number_at i h = sym (get_map all_kinds i 0 kind.End h) ∙ ap (λ z. get_or z i 0) numbers ∙ get_upto 0 71 i 0 h ∙ zero-add i
 
-not_same : (a b : ℕ) (x : Bool) → (a == b) ≡ x → a ≢ b → x ≡ false
+pub not_same : (a b : ℕ) (x : Bool) → (a == b) ≡ x → a ≢ b → x ≡ false
 not_same a b true e h = absurd (h (same_number a b e))
 not_same a b false e h = refl
 
@@ -64,7 +64,7 @@ other_one w c h ne =
     ap (λ b. if b then Some taken else None) (sym (not_same (number k) (number c) (number k == number c) refl (λ e. ne (sym (number_at w h) ∙ e))))
 
 -- the tables
-rows_at : {X Y : Type 0} (f : Y → List X) (m : ℕ) → ((y : Y) → length (f y) ≡ m) → (ys : List Y) (i j k : ℕ) (d : X) (e : Y) → i < length ys → j < m → k ≡ i * m + j → get_or (flat_map f ys) k d ≡ get_or (f (get_or ys i e)) j d
+pub rows_at : {X Y : Type 0} (f : Y → List X) (m : ℕ) → ((y : Y) → length (f y) ≡ m) → (ys : List Y) (i j k : ℕ) (d : X) (e : Y) → i < length ys → j < m → k ≡ i * m + j → get_or (flat_map f ys) k d ≡ get_or (f (get_or ys i e)) j d
 rows_at f m each [] i j k d e h l w = absurd (grind (arith))
 rows_at f m each (y ∷ ys) zero j k d e h l w =
     let same : k ≡ j = grind (arith) in
@@ -77,7 +77,7 @@ rows_at f m each (y ∷ ys) (suc i) j k d e h l w =
     past : (i m j : ℕ) → suc i * m + j ≡ m + (i * m + j)
     past i m j = grind (arith)
 
-found : {X : Type 0} (g : ℕ → X) (table : List ℕ) (k b : ℕ) (d : X) → slice_get table k ≡ Some b → get_or (map g table) k d ≡ g b
+pub found : {X : Type 0} (g : ℕ → X) (table : List ℕ) (k b : ℕ) (d : X) → slice_get table k ≡ Some b → get_or (map g table) k d ≡ g b
 found g table k b d e = get_or_from_slice_get (map g table) k (g b) d (slice_get-map g table k ∙ ap (λ o. option_map g o) e)
 
 small : (c : Kind) → number c < 71
@@ -116,7 +116,7 @@ at_or f [] i d e h = h
 at_or f (x ∷ xs) zero d e h = (and_true (f x) (all f xs) e).0
 at_or f (x ∷ xs) (suc i) d e h = at_or f xs i d (and_true (f x) (all f xs) e).1 h
 
-all_rule : (f : Rule → Bool) → all f all_rules ≡ true → (r : Rule) → f r ≡ true
+pub all_rule : (f : Rule → Bool) → all f all_rules ≡ true → (r : Rule) → f r ≡ true
 all_rule f e r = subst (λ q. f q ≡ true) (rule_at r) (at_or f all_rules (rule_number r) g.Text e (and_true _ _ e).0)
 
 ten : (r : Rule) → length (right_row r) ≡ 10
@@ -126,7 +126,7 @@ event_of : (b : ℕ) → b ≢ 254 → b ≢ 255 → turn_of b ≡ Some (opened 
 event_of b e f =
     ap (λ q. if q then None else Some (event b)) (not_same b 254 (b == 254) refl e) ∙ ap (λ q. Some (if q then taken else opened (rule_of b))) (not_same b 255 (b == 255) refl f)
 
-events_more : (trace : List ℕ) (b : ℕ) → events (trace ++ b ∷ []) ≡ events trace ++ event b ∷ []
+pub events_more : (trace : List ℕ) (b : ℕ) → events (trace ++ b ∷ []) ≡ events trace ++ event b ∷ []
 events_more trace b = map-append event trace (b ∷ [])
 
 pub reads : (s : Symbol) (ss : List Symbol) (x : Sign) (a b : List Sign) (was trace : List ℕ) → turn_of 255 ≡ turn s (kind_of a) → a ≡ x ∷ b → trace ≡ was ++ 255 ∷ [] →
@@ -144,19 +144,19 @@ opens s ss ts a was trace b e no_none no_token w stack old q =
     ap events w ∙ events_more was b ∙ ap (λ z. events was ++ z ∷ []) (ap (λ q. if q then taken else opened (rule_of b)) (not_same b 255 (b == 255) refl no_token)) in
     subst (λ z. Runs old z a (events trace)) (sym stack) (subst (λ z. Runs old (right (rule_of b) ++ ss) a z) (sym same) moved)
 
-below_plain : (k a b : ℕ) → k < a → a + b ≡ 10 → k < 10
+pub below_plain : (k a b : ℕ) → k < a → a + b ≡ 10 → k < 10
 below_plain k a b h e = grind (arith)
 
-length_there : (rs : List Rule) (i m : ℕ) (d : Rule) → slice_get (map right_length rs) i ≡ Some m → m ≡ right_length (get_or rs i d)
-length_there [] i m d e = absurd (cc)
-length_there (r ∷ rs) zero m d e = cc
-length_there (r ∷ rs) (suc i) m d e = length_there rs i m d e
+length_there : (f : Rule → ℕ) (rs : List Rule) (i m : ℕ) (d : Rule) → slice_get (map f rs) i ≡ Some m → m ≡ f (get_or rs i d)
+length_there f [] i m d e = absurd (cc)
+length_there f (r ∷ rs) zero m d e = cc
+length_there f (r ∷ rs) (suc i) m d e = length_there f rs i m d e
 
-length_is : (lengths : List ℕ) (rule size : ℕ) → lengths ≡ map right_length all_rules → Some size ≡ slice_get lengths rule → size ≡ right_length (rule_of rule)
-length_is lengths rule size w e = length_there all_rules rule size g.Text (sym (e ∙ ap (λ z. slice_get z rule) w))
+pub length_is : (f : Rule → ℕ) (lengths : List ℕ) (rule size : ℕ) → lengths ≡ map f all_rules → Some size ≡ slice_get lengths rule → size ≡ f (rule_of rule)
+length_is f lengths rule size w e = length_there f all_rules rule size g.Text (sym (e ∙ ap (λ z. slice_get z rule) w))
 
-within : (lengths : List ℕ) (i m : ℕ) → lengths ≡ map right_length all_rules → Some m ≡ slice_get lengths i → i < length all_rules
-within lengths i m w e = slice_get_within (map right_length all_rules) i m (sym (e ∙ ap (λ z. slice_get z i) w))
+pub within : (f : Rule → ℕ) (lengths : List ℕ) (i m : ℕ) → lengths ≡ map f all_rules → Some m ≡ slice_get lengths i → i < length all_rules
+within f lengths i m w e = slice_get_within (map f all_rules) i m (sym (e ∙ ap (λ z. slice_get z i) w))
 
 below : (k : ℕ) (xs ys : List Symbol) → k < length xs → length (xs ++ ys) ≡ 10 → k < 10
 below k xs ys h e = let both = sym (length-append xs ys) ∙ e in below_plain k (length xs) (length ys) h both
@@ -167,8 +167,8 @@ byte_is : (lengths rights : List ℕ) (rule size k b : ℕ) → lengths ≡ map 
     (k < length (reverse (right (rule_of rule)))) × (symbol_of b ≡ get_or (reverse (right (rule_of rule))) k (n g.text))
 byte_is lengths rights rule size k b wl wr el h e =
     let r = rule_of rule in
-    let there : rule < length all_rules = within lengths rule size wl el in
-    let short : k < length (reverse (right r)) = subst (λ q. k < q) (length_is lengths rule size wl el ∙ sym (length-reverse (right r))) h in (
+    let there : rule < length all_rules = within right_length lengths rule size wl el in
+    let short : k < length (reverse (right r)) = subst (λ q. k < q) (length_is right_length lengths rule size wl el ∙ sym (length-reverse (right r))) h in (
       short,
       sym (found symbol_of rights (rule * 10 + k) b (n g.text) (sym e)) ∙ ap (λ z. get_or z (rule * 10 + k) (n g.text)) wr
           ∙ rows_at right_row 10 ten all_rules rule k (rule * 10 + k) (n g.text) g.Text there (below k (reverse (right r)) (replicate (10 - right_length r) (n g.text)) short (ten r)) refl
@@ -200,7 +200,7 @@ pub all_symbols : (lengths : List ℕ) (rule size k : ℕ) (stack : List ℕ) (r
     symbols_on stack ≡ reverse (take k (reverse (right (rule_of rule)))) ++ rest → symbols_on stack ≡ right (rule_of rule) ++ rest
 all_symbols lengths rule size k stack rest wl el h w =
     let r = rule_of rule in
-    let far : length (reverse (right r)) ≤ k = subst (λ q. q ≤ k) (length_is lengths rule size wl el ∙ sym (length-reverse (right r))) h in
+    let far : length (reverse (right r)) ≤ k = subst (λ q. q ≤ k) (length_is right_length lengths rule size wl el ∙ sym (length-reverse (right r))) h in
     w ∙ ap (λ z. reverse z ++ rest) (take_all k (reverse (right r)) far) ∙ ap (λ z. z ++ rest) (reverse-reverse (right r))
 
 pub row_turn_of : (table : List ℕ) (row k : ℕ) (c : Kind) (o : Option ℕ) → map turn_of table ≡ flat_map turns_of rows → row < 80 → k ≡ number c → o ≡ slice_get table (row * 71 + k) →

@@ -16,7 +16,7 @@ use Rattle.ckc_parser_grammar.specs.code.Marked.{place_of}
 use Rattle.ckc_parser_grammar.specs.code.Text.{start}
 use Rattle.ckc_parser_grammar.specs.code.Trace.{Event, events, values_of, tokens_in}
 use Rattle.ckc_parser_trace.specs.code.Turns.{turn}
-use Rattle.ckc_parser_trace.specs.code.Runs.{tokens_of, TakesOne, Runs, Traces, Ends, IsFaultOf, Steps, Recognises}
+use Rattle.ckc_parser_trace.specs.code.Runs.{tokens_of, Lays, done, TakesOne, Runs, Traces, Ends, IsFaultOf, Steps, Recognises}
 use Rattle.ckc_parser_trace.proofs.Running.{begin, stopped, emptied}
 use Rattle.ckc_parser_trace.proofs.Top.{more_answer, stop_answer}
 
@@ -38,6 +38,7 @@ whole_of xs bytes o = record {
   takes = o.takes;
   makes = ap (λ z. values_of z xs []) (sym (append-nil (events bytes))) ∙ ap (λ z. values_of (events bytes ++ []) z []) (sym (tokens_are xs)) ∙ o.makes [] [];
   counts = sym (add-zero (tokens_in (events bytes))) ∙ o.counts ∙ sym (length_of (signs xs)) ∙ ap length (tokens_are xs);
+  lays = subst (λ z. Lays (n start ∷ []) z xs []) (append-nil (events bytes)) (subst (λ z. Lays (n start ∷ []) (events bytes ++ []) z []) (tokens_are xs) (o.lays [] [] [] done));
 }
 
 pub started : (xs : List Spelled) (a : List Sign) → a ≡ signs xs → Runs (signs xs) (n start ∷ []) a []

@@ -1,5 +1,6 @@
 -- One move of the first pass keeps what its stack stands for.
 use Rattle.std.proofs.Common.{◌≡◌, ℕ, suc, ◌+◌, length, List, [], ◌∷◌, ◌++◌, ◌⊎◌, inl, inr, Bool, true, false, refl, sym, ap, subst, ◌∙◌, Option, None, Some, append_assoc, append-nil, take, drop, arith, if◌then◌else◌, zero-add}
+use Rattle.ckc_syntax.specs.Spelled.{Spelled}
 use Rattle.ckc_parser_grammar.specs.declared.kind.Kind.{Kind}
 use Rattle.ckc_parser_grammar.specs.code.Fits.{fits}
 use Rattle.ckc_parser_grammar.specs.code.Grammar.{Terminal, Part, Symbol, t, n, Rule, right, allowed, not_else}
@@ -11,7 +12,8 @@ use Rattle.ckc_parser_grammar.specs.code.Reading as T
 use Rattle.ckc_parser_grammar.specs.code.Text.{start}
 use Rattle.ckc_parser_grammar.specs.code.Trace.{Event, taken, opened, closed, values_of, tokens_in}
 use Rattle.ckc_parser_grammar.proofs.Tables.{all_kind, implies, implied, picks, pick_left}
-use Rattle.ckc_parser_trace.specs.code.Runs.{tokens_of, TakesOne, Empties, Fails, Runs}
+use Rattle.ckc_parser_trace.specs.code.Runs.{tokens_of, Lays, TakesOne, Empties, Fails, Runs}
+use Rattle.ckc_parser_trace.specs.code.Runs as L
 use Rattle.ckc_parser_trace.specs.code.Turns.{turn, opening}
 
 pub takes_both : {xs ss : List Symbol} {a m b : List Sign} {us vs : List Value} → Takes xs a us m → Takes ss m vs b → Takes (xs ++ ss) a (us ++ vs) b
@@ -38,6 +40,7 @@ record TakesAll (ss : List Symbol) (a : List Sign) (es : List Event) (b : List S
   makes : (later : List Event) (vs : List Value) → values_of (es ++ later) (tokens_of a) vs ≡ values ++ values_of later (tokens_of b) vs
   each : length values ≡ length ss
   counts : tokens_in es + length b ≡ length a
+  lays : (ts : List Symbol) (later : List Event) (ys : List Spelled) → Lays ts later (tokens_of b) ys → Lays (ss ++ ts) (es ++ later) (tokens_of a) ys
 
 tokens_both : (es fs : List Event) → tokens_in (es ++ fs) ≡ tokens_in es + tokens_in fs
 tokens_both [] fs = grind (arith)
@@ -54,6 +57,7 @@ all_of [] a b es h = record {
   makes = λ later vs. ap (λ z. values_of (z ++ later) (tokens_of a) vs) h.1 ∙ ap (λ z. values_of later (tokens_of z) vs) h.0;
   each = refl;
   counts = ap (λ z. tokens_in z + length b) h.1 ∙ zero-add (length b) ∙ ap length (sym h.0);
+  lays = λ ts later ys d. subst (λ z. Lays ts (z ++ later) (tokens_of a) ys) (sym h.1) (subst (λ z. Lays ts later (tokens_of z) ys) (sym h.0) d);
 }
 all_of (s ∷ ss) a b es h =
     let q = all_of ss h.2 b h.1 h.5 in
@@ -65,6 +69,9 @@ all_of (s ∷ ss) a b es h =
           ∙ o.makes (h.1 ++ later) vs ∙ ap (λ z. o.value ∷ z) (q.makes later vs);
       each = ap suc q.each;
       counts = count_both (tokens_in es) (tokens_in h.0) (tokens_in h.1) (length h.2) (length b) (length a) (ap tokens_in h.3 ∙ tokens_both h.0 h.1) q.counts o.counts;
+      lays = λ ts later ys d.
+          subst (λ z. Lays (s ∷ (ss ++ ts)) z (tokens_of a) ys) (sym (ap (λ z. z ++ later) h.3 ∙ append_assoc h.0 h.1 later))
+          (o.lays (ss ++ ts) (h.1 ++ later) ys (q.lays ts later ys d));
     }
 
 -- events that empty two lists of symbols are cut in two
@@ -108,7 +115,7 @@ drop_front : (ws rest : List Value) → drop (length ws) (ws ++ rest) ≡ rest
 drop_front [] rest = refl
 drop_front (w ∷ ws) rest = drop_front ws rest
 
-closed_of : (r : Rule) (ws rest : List Value) → length ws ≡ length (right r) → closed r (ws ++ rest) ≡ made r ws ∷ rest
+pub closed_of : (r : Rule) (ws rest : List Value) → length ws ≡ length (right r) → closed r (ws ++ rest) ≡ made r ws ∷ rest
 closed_of r ws rest e =
     ap (λ k. made r (take k (ws ++ rest)) ∷ drop k (ws ++ rest)) (sym e) ∙ ap (λ z. made r z ∷ drop (length ws) (ws ++ rest)) (take_front ws rest)
     ∙ ap (λ z. made r ws ∷ z) (drop_front ws rest)
@@ -120,13 +127,14 @@ opened_one p r a m first pk h =
       takes = T.by r m q.values pk q.takes (allows r p a m q.values pk q.takes) refl (T.done refl);
       makes = λ later vs. ap (λ z. closed r z) (q.makes later vs) ∙ closed_of r q.values (values_of later (tokens_of m) vs) q.each;
       counts = q.counts;
+      lays = λ ss later ys d. L.by r (pick_left p (kind_of a) r pk) (q.lays ss later ys d);
     }
 
 one_more : (k : ℕ) → (1 + 0) + k ≡ suc k
 one_more k = grind (arith)
 
 read_one : (c : Terminal) (x : Sign) (a : List Sign) → fits c x.kind ≡ true → TakesOne (t c) (x ∷ a) (taken ∷ []) a
-read_one c x a f = record { value = token x.token; takes = T.read f (T.done refl); makes = λ later vs. refl; counts = one_more (length a) }
+read_one c x a f = record { value = token x.token; takes = T.read f (T.done refl); makes = λ later vs. refl; counts = one_more (length a); lays = λ ss later ys d. L.read d }
 
 -- where two lists of symbols stop
 split_fails : (xs ss : List Symbol) (a b : List Sign) → Fails (xs ++ ss) a b → Stops xs a b ⊎ ((ws : List Value) × (m : List Sign) × Takes xs a ws m × Fails ss m b)

@@ -6,7 +6,7 @@ use Rattle.ckc_base.specs.declared.fault.Fault.TheVariants as fault
 use Rattle.ckc_syntax.specs.Spelled.{Spelled}
 use Rattle.ckc_grammar.specs.Text.{FirstFault, syntax_error}
 use Rattle.ckc_parser_grammar.specs.code.Marked.{place_of}
-use Rattle.ckc_parser_grammar.specs.code.Grammar.{Symbol, n}
+use Rattle.ckc_parser_grammar.specs.code.Grammar.{Terminal, Part, Symbol, t, n, Rule, left, right}
 use Rattle.ckc_parser_grammar.specs.code.Values.{Value}
 use Rattle.ckc_parser_grammar.specs.code.Derives.{Sign}
 use Rattle.ckc_parser_grammar.specs.code.Reading.{kind_of, Takes, Stops}
@@ -14,11 +14,17 @@ use Rattle.ckc_parser_grammar.specs.code.Signs.{signs}
 use Rattle.ckc_parser_grammar.specs.declared.parts.Stop.{Stop}
 use Rattle.ckc_parser_grammar.specs.declared.parts.Stop.TheVariants as stop
 use Rattle.ckc_parser_grammar.specs.code.Text.{start}
-use Rattle.ckc_parser_grammar.specs.code.Trace.{Event, events, values_of, tokens_in}
+use Rattle.ckc_parser_grammar.specs.code.Trace.{Event, taken, opened, events, values_of, tokens_in}
 use Rattle.ckc_parser_trace.specs.code.Turns.{symbol_of, turn}
 
 abbrev pub tokens_of : List Sign → List Spelled
 tokens_of a = map (λ x. x.token) a
+
+-- The events and tokens stand for the symbols, each production before what it is made of.
+pub data Lays : List Symbol → List Event → List Spelled → List Spelled → Type 0 where
+  done : {xs : List Spelled} → Lays [] [] xs xs
+  read : {c : Terminal} {ss : List Symbol} {es : List Event} {x : Spelled} {xs ys : List Spelled} → Lays ss es xs ys → Lays (t c ∷ ss) (taken ∷ es) (x ∷ xs) ys
+  by : {p : Part} {ss : List Symbol} {es : List Event} {xs ys : List Spelled} (r : Rule) → left r ≡ p → Lays (right r ++ ss) es xs ys → Lays (n p ∷ ss) (opened r ∷ es) xs ys
 
 -- A symbol is taken by the events, which make its value.
 pub record TakesOne (s : Symbol) (a : List Sign) (es : List Event) (b : List Sign) : Type 0 where
@@ -26,6 +32,7 @@ pub record TakesOne (s : Symbol) (a : List Sign) (es : List Event) (b : List Sig
   pub takes : Takes (s ∷ []) a (value ∷ []) b
   pub makes : (later : List Event) (vs : List Value) → values_of (es ++ later) (tokens_of a) vs ≡ value ∷ values_of later (tokens_of b) vs
   pub counts : tokens_in es + length b ≡ length a
+  pub lays : (ss : List Symbol) (later : List Event) (ys : List Spelled) → Lays ss later (tokens_of b) ys → Lays (s ∷ ss) (es ++ later) (tokens_of a) ys
 
 -- A list of symbols is taken by the events.
 abbrev pub Empties : List Symbol → List Sign → List Event → List Sign → Type 0
@@ -58,6 +65,7 @@ pub record Traces (xs : List Spelled) (bytes : List ℕ) : Type 0 where
   pub takes : Takes (n start ∷ []) (signs xs) (value ∷ []) []
   pub makes : values_of (events bytes) xs [] ≡ value ∷ []
   pub counts : tokens_in (events bytes) ≡ length xs
+  pub lays : Lays (n start ∷ []) (events bytes) xs []
 
 -- what is answered where reading stops
 abbrev pub IsFaultOf : Stop → List Sign → Pos → Fault → Type 0

@@ -1,4 +1,0 @@
-pub mod Between
-pub mod Callocs
-pub mod Exits
-pub mod Postfix

@@ -1,0 +1,642 @@
+-- What is held for each part of a text: what a value is made of, where the value is a function of what stands before.
+use Rattle.std.specs.Prelude.{ℕ, List, [], ◌∷◌, ◌++◌, Option, None, Some, Bool, true, false, if◌then◌else◌}
+use Rattle.ckc_base.specs.declared.places.Pos.{Pos}
+use Rattle.ckc_base.specs.declared.arithmetic.Mode.{Mode}
+use Rattle.ckc_syntax.specs.Spelled.{Spelled}
+use Rattle.ckc_syntax.specs.code.Decoded.{decoded}
+use Rattle.ckc_syntax.specs.declared.tree.Item.TheVariants as item
+use Rattle.ckc_syntax.specs.declared.tree.TypeTree.TheVariants as ctype
+use Rattle.ckc_syntax.specs.declared.tree.Length.{Length}
+use Rattle.ckc_syntax.specs.declared.tree.Length.TheVariants as lengths
+use Rattle.ckc_syntax.specs.declared.tree.Init.TheVariants as inits
+use Rattle.ckc_syntax.specs.declared.tree.Limits.TheVariants as bounds
+use Rattle.ckc_syntax.specs.declared.tree.Node.TheVariants as node
+use Rattle.ckc_syntax.specs.declared.tree.Act.TheVariants as act
+use Rattle.ckc_syntax.specs.declared.tree.TreeOp.TheVariants as op
+use Rattle.ckc_parser_grammar.specs.declared.parts.Arms.{Arms}
+use Rattle.ckc_parser_grammar.specs.declared.parts.Post.{Post}
+use Rattle.ckc_parser_grammar.specs.declared.parts.Post.TheVariants as behind
+use Rattle.ckc_parser_grammar.specs.declared.parts.Operation.{Operation}
+use Rattle.ckc_parser_grammar.specs.code.Kinds.{kind_of_token, sign_op, binary_op}
+use Rattle.ckc_parser_grammar.specs.code.Grammar.{Part, Symbol, t, n, Rule, left, right}
+use Rattle.ckc_parser_grammar.specs.code.Grammar as g
+use Rattle.ckc_parser_grammar.specs.code.Trees.{Item, TypeTree, Decl, Init, Limits, Expr, Stmt, Step, expr_at, stmt_at, starred, statics, local_of, locals, function_of, posted, literal}
+use Rattle.ckc_parser_grammar.specs.code.Values.{Value, directive_of, number_of, named, called, whole, struct_type}
+use Rattle.ckc_parser_grammar.specs.code.Values as v
+use Rattle.ckc_parser_values.specs.declared.held.Slot.{Slot}
+use Rattle.ckc_parser_values.specs.declared.held.Form.{Form}
+use Rattle.ckc_parser_values.specs.declared.held.Form.TheVariants as form
+use Rattle.ckc_parser_values.specs.declared.held.Held.{Held}
+use Rattle.ckc_parser_values.specs.code.Acts.{declare, declare_each, is_second, mode_of, step_of, mark}
+
+-- the types of `calloc` and the count
+pub record Allocated : Type 0 where
+  pub element : TypeTree
+  pub count : Expr
+  pub sized : TypeTree
+
+-- what goes on with an expression
+pub record Chain : Type 0 where
+  pub steps : List Step
+  pub arms : Option Arms
+
+-- what a name goes on with in a value
+pub data NameRest : Type 0 where
+  calling : List Expr → NameRest
+  going : List Post → Chain → NameRest
+  allocating : Allocated → NameRest
+
+-- what `calloc <` goes on with
+pub data LessRest : Type 0 where
+  compared : Expr → Chain → LessRest
+  allocated : Allocated → LessRest
+
+-- what a name goes on with as a statement: the tokens are `=` and `;`
+pub data StmtRest : Type 0 where
+  calls : List Expr → StmtRest
+  allocates : Allocated → StmtRest
+  assigning : List Post → Spelled → Spelled → Expr → StmtRest
+
+-- what stands behind a `(`
+pub data Rounded : Type 0 where
+  paren : Expr → Rounded
+  cast : TypeTree → Expr → Rounded
+
+-- what stands behind `bounds (`
+pub data BoundsRest : Type 0 where
+  unknown : BoundsRest
+  between : Expr → Expr → BoundsRest
+
+-- what stands behind `bounds ( unknown`
+pub data UnknownRest : Type 0 where
+  ended : UnknownRest
+  going_on : List Post → Chain → Expr → UnknownRest
+
+-- the parameters, the limits of the result and the body
+pub record HeadRest : Type 0 where
+  pub params : List Decl
+  pub bounds : Option Limits
+  pub body : Option Stmt
+
+pub record ObjectRest : Type 0 where
+  pub length : Length
+  pub bounds : Option Limits
+  pub init : Init
+
+pub data DeclaratorRest : Type 0 where
+  headed : HeadRest → DeclaratorRest
+  objects : ObjectRest → List Slot → DeclaratorRest
+
+pub record Declarators : Type 0 where
+  pub stars : List Pos
+  pub name : Spelled
+  pub rest : DeclaratorRest
+
+pub data TagRest : Type 0 where
+  tag : TagRest
+  members : List Decl → TagRest
+  structured : Declarators → TagRest
+
+-- a bounds cast
+pub record BoundsCast : Type 0 where
+  pub type_tree : TypeTree
+  pub operand : Expr
+  pub bounds : Option Limits
+
+-- a mode with its token
+pub record Moded : Type 0 where
+  pub which : Form
+  pub token : Spelled
+
+abbrev pub Kept : Part → Type 0
+Kept g.text = List Item
+Kept g.items = List Item
+Kept g.structure = TagRest
+Kept g.declaration = List Item
+Kept g.declared = List Item
+Kept g.declarators = Declarators
+Kept g.declarator = DeclaratorRest
+Kept g.objects = List Slot
+Kept g.object = Slot
+Kept g.object_rest = ObjectRest
+Kept g.array = Length
+Kept g.size = Option ℕ
+Kept g.initial = Init
+Kept g.initializer = Init
+Kept g.list_rest = List Expr
+Kept g.list_more = List Expr
+Kept g.head = HeadRest
+Kept g.body = Option Stmt
+Kept g.params = List Decl
+Kept g.more_params = List Decl
+Kept g.param = Decl
+Kept g.mode = Moded
+Kept g.result_type = TypeTree
+Kept g.members = List Decl
+Kept g.member = List Decl
+Kept g.slot = Slot
+Kept g.slots = List Slot
+Kept g.declared_limits = Option Limits
+Kept g.base = TypeTree
+Kept g.scalar = TypeTree
+Kept g.unsigned_rest = Unit {0}
+Kept g.type_name = TypeTree
+Kept g.stars = List Pos
+Kept g.limits = Limits
+Kept g.bounds_rest = BoundsRest
+Kept g.unknown_rest = UnknownRest
+Kept g.block_items = List Stmt
+Kept g.locals = List Decl
+Kept g.more_locals = List Slot
+Kept g.local = Slot
+Kept g.local_initial = Init
+Kept g.value = Expr
+Kept g.named_value = NameRest
+Kept g.calloc_value = NameRest
+Kept g.less = LessRest
+Kept g.arguments = List Expr
+Kept g.more_arguments = List Expr
+Kept g.allocation = Allocated
+Kept g.assign = Stmt
+Kept g.stmt = Stmt
+Kept g.calloc_stmt = StmtRest
+Kept g.named_stmt = StmtRest
+Kept g.otherwise = Option Stmt
+Kept g.condition = Option Expr
+Kept g.for_start = Option Stmt
+Kept g.for_step = Option Stmt
+Kept g.assigns = List Stmt
+Kept g.expr = Expr
+Kept g.expr_rest = Chain
+Kept g.choice = Option Arms
+Kept g.tail = List Step
+Kept g.operation = Operation
+Kept g.operation_but_less = Operation
+Kept g.second = Form
+Kept g.unary = Expr
+Kept g.first = Expr
+Kept g.round = Rounded
+Kept g.posts = List Post
+Kept g.post = Post
+Kept g.primary = Expr
+Kept g.bounds_cast = BoundsCast
+Kept g.cast_limits = Option Limits
+Kept g.constant = Expr
+
+abbrev pub KeptOf : Symbol → Type 0
+KeptOf (t c) = Spelled
+KeptOf (n p) = Kept p
+
+abbrev pub KeptAll : List Symbol → Type 0
+KeptAll [] = Unit {0}
+KeptAll (s ∷ ss) = KeptOf s × KeptAll ss
+
+-- the expressions and statements that a name makes of what it goes on with
+abbrev pub allocation_at : Spelled → Allocated → Expr
+allocation_at name a = expr_at (node.Calloc a.element a.count a.sized) name.pos
+
+abbrev pub name_expr : NameRest → Spelled → Expr
+name_expr (calling es) name = called name es
+name_expr (going ps c) name = whole (posted (named name) ps) c.steps c.arms
+name_expr (allocating a) name = allocation_at name a
+
+abbrev pub less_expr : LessRest → Spelled → Pos → Expr
+less_expr (compared e c) name pos = whole (named name) (record { op = op.Lt; pos = pos; operand = e } ∷ c.steps) c.arms
+less_expr (allocated a) name pos = allocation_at name a
+
+abbrev pub name_stmt : StmtRest → Spelled → Stmt
+name_stmt (calls es) name = stmt_at (act.Call (called name es)) name.pos
+name_stmt (allocates a) name = stmt_at (act.Call (allocation_at name a)) name.pos
+name_stmt (assigning ps equals end e) name = stmt_at (act.Assign (posted (named name) ps) e) equals.pos
+
+abbrev pub round_expr : Rounded → Pos → Expr
+round_expr (paren e) pos = e
+round_expr (cast c e) pos = expr_at (node.Cast c e) pos
+
+abbrev pub bounds_at : BoundsRest → Pos → Limits
+bounds_at unknown pos = bounds.Unknown pos
+bounds_at (between e f) pos = bounds.Between e f pos
+
+abbrev pub unknown_rest : UnknownRest → Spelled → BoundsRest
+unknown_rest ended name = unknown
+unknown_rest (going_on ps c e) name = between (whole (posted (named name) ps) c.steps c.arms) e
+
+abbrev pub head_item : HeadRest → Option Mode → TypeTree → Spelled → Item
+head_item h m result name = function_of (record { mode = m; result = result; name = name.text; params = h.params; bounds = h.bounds; pos = name.pos }) h.body
+
+abbrev pub slot_of : List Pos → Spelled → ObjectRest → Slot
+slot_of ps name o = record { stars = ps; name = name.text; pos = name.pos; length = o.length; bounds = o.bounds; init = o.init }
+
+abbrev pub declared_items : DeclaratorRest → List Pos → Spelled → TypeTree → List Item
+declared_items (headed h) ps name base = head_item h None (starred base ps) name ∷ []
+declared_items (objects o ss) ps name base = statics (declare_each base (slot_of ps name o ∷ ss))
+
+abbrev pub items_of : Declarators → TypeTree → List Item
+items_of d base = declared_items d.rest d.stars d.name base
+
+abbrev pub tag_items : TagRest → Spelled → List Item
+tag_items tag name = item.Tag name.text name.pos ∷ []
+tag_items (members ds) name = item.Struct name.text ds name.pos ∷ []
+tag_items (structured d) name = items_of d (struct_type name)
+
+-- what a declarator makes of the base, of the type with its stars, and of the name
+abbrev pub declarator_items : DeclaratorRest → TypeTree → TypeTree → Spelled → List Item
+declarator_items (headed h) base whole name = head_item h None whole name ∷ []
+declarator_items (objects o ss) base whole name = statics (v.declared whole name o.length o.bounds o.init ∷ declare_each base ss)
+
+abbrev pub less_rest : LessRest → Pos → NameRest
+less_rest (compared e c) pos = going [] (record { steps = record { op = op.Lt; pos = pos; operand = e } ∷ c.steps; arms = c.arms })
+less_rest (allocated a) pos = allocating a
+
+-- the value that is held
+abbrev pub worth : (p : Part) → Kept p → Value
+worth g.text k = v.tree (record { items = k })
+worth g.items k = v.items k
+worth g.structure k = v.items_of_name (λ name. tag_items k name)
+worth g.declaration k = v.items k
+worth g.declared k = v.items k
+worth g.declarators k = v.items_of_base (λ base. items_of k base)
+worth g.declarator k = v.items_of_declarator (λ base whole name. declarator_items k base whole name)
+worth g.objects k = v.decls_of_base (λ base. declare_each base k)
+worth g.object k = v.decl_of_base (λ base. declare base k)
+worth g.object_rest k = v.decl_of_name (λ base name. v.declared base name k.length k.bounds k.init)
+worth g.array k = v.length k
+worth g.size k = v.size k
+worth g.initial k = v.init k
+worth g.initializer k = v.init k
+worth g.list_rest k = v.exprs k
+worth g.list_more k = v.exprs k
+worth g.head k = v.item_of_head (λ m result name. head_item k m result name)
+worth g.body k = v.part k
+worth g.params k = v.decls k
+worth g.more_params k = v.decls k
+worth g.param k = v.decl k
+worth g.mode k = v.mode (mode_of k.which) k.token.pos
+worth g.result_type k = v.type_tree k
+worth g.members k = v.decls k
+worth g.member k = v.decls k
+worth g.slot k = v.decl_of_base (λ base. declare base k)
+worth g.slots k = v.decls_of_base (λ base. declare_each base k)
+worth g.declared_limits k = v.declared_limits k
+worth g.base k = v.type_tree k
+worth g.scalar k = v.type_tree k
+worth g.unsigned_rest k = v.nothing
+worth g.type_name k = v.type_tree k
+worth g.stars k = v.stars k
+worth g.limits k = v.limits k
+worth g.bounds_rest k = v.limits_at (λ pos. bounds_at k pos)
+worth g.unknown_rest k = v.limits_of_unknown (λ pos name. bounds_at (unknown_rest k name) pos)
+worth g.block_items k = v.stmts k
+worth g.locals k = v.decls k
+worth g.more_locals k = v.decls_of_base (λ base. declare_each base k)
+worth g.local k = v.decl_of_base (λ base. declare base k)
+worth g.local_initial k = v.init k
+worth g.value k = v.expr k
+worth g.named_value k = v.expr_of_name (λ name. name_expr k name)
+worth g.calloc_value k = v.expr_of_name (λ name. name_expr k name)
+worth g.less k = v.expr_of_less (λ name pos. less_expr k name pos)
+worth g.arguments k = v.exprs k
+worth g.more_arguments k = v.exprs k
+worth g.allocation k = v.expr_of_name (λ name. allocation_at name k)
+worth g.assign k = v.stmt k
+worth g.stmt k = v.stmt k
+worth g.calloc_stmt k = v.stmt_of_name (λ name. name_stmt k name)
+worth g.named_stmt k = v.stmt_of_name (λ name. name_stmt k name)
+worth g.otherwise k = v.part k
+worth g.condition k = v.value k
+worth g.for_start k = v.part k
+worth g.for_step k = v.part k
+worth g.assigns k = v.stmts k
+worth g.expr k = v.expr k
+worth g.expr_rest k = v.rest k.steps k.arms
+worth g.choice k = v.arms k
+worth g.tail k = v.steps k
+worth g.operation k = v.operator k.op k.pos
+worth g.operation_but_less k = v.operator k.op k.pos
+worth g.second k = v.second (is_second k)
+worth g.unary k = v.expr k
+worth g.first k = v.expr k
+worth g.round k = v.expr_behind (λ pos. round_expr k pos)
+worth g.posts k = v.posts k
+worth g.post k = v.post k
+worth g.primary k = v.expr k
+worth g.bounds_cast k = v.cast k.type_tree k.operand k.bounds
+worth g.cast_limits k = v.declared_limits k
+worth g.constant k = v.expr k
+
+-- what stands on the stacks for it
+abbrev pub put_allocated : Allocated → Held → Held
+put_allocated a w = record w { types = a.element ∷ a.sized ∷ w.types; exprs = a.count ∷ w.exprs }
+
+abbrev pub put_chain : Chain → Held → Held
+put_chain c w = record w { steps = c.steps ∷ w.steps; arms = c.arms ∷ w.arms }
+
+abbrev pub put_name : NameRest → Held → Held
+put_name (calling es) w = record w { forms = form.First ∷ w.forms; expr_lists = es ∷ w.expr_lists }
+put_name (going ps c) w = record w { forms = form.Second ∷ w.forms; posts = ps ∷ w.posts; steps = c.steps ∷ w.steps; arms = c.arms ∷ w.arms }
+put_name (allocating a) w = mark form.Third (put_allocated a w)
+
+abbrev pub put_less : LessRest → Held → Held
+put_less (compared e c) w = record w { forms = form.First ∷ w.forms; exprs = e ∷ w.exprs; steps = c.steps ∷ w.steps; arms = c.arms ∷ w.arms }
+put_less (allocated a) w = mark form.Second (put_allocated a w)
+
+abbrev pub put_stmt_rest : StmtRest → Held → Held
+put_stmt_rest (calls es) w = record w { forms = form.First ∷ w.forms; expr_lists = es ∷ w.expr_lists }
+put_stmt_rest (allocates a) w = mark form.Second (put_allocated a w)
+put_stmt_rest (assigning ps equals end e) w = record w { forms = form.Third ∷ w.forms; posts = ps ∷ w.posts; tokens = equals ∷ end ∷ w.tokens; exprs = e ∷ w.exprs }
+
+abbrev pub put_round : Rounded → Held → Held
+put_round (paren e) w = record w { forms = form.First ∷ w.forms; exprs = e ∷ w.exprs }
+put_round (cast c e) w = record w { forms = form.Second ∷ w.forms; types = c ∷ w.types; exprs = e ∷ w.exprs }
+
+abbrev pub put_bounds : BoundsRest → Held → Held
+put_bounds unknown w = mark form.First w
+put_bounds (between e f) w = record w { forms = form.Second ∷ w.forms; exprs = e ∷ f ∷ w.exprs }
+
+abbrev pub put_unknown : UnknownRest → Held → Held
+put_unknown ended w = mark form.First w
+put_unknown (going_on ps c e) w = record w { forms = form.Second ∷ w.forms; posts = ps ∷ w.posts; steps = c.steps ∷ w.steps; arms = c.arms ∷ w.arms; exprs = e ∷ w.exprs }
+
+abbrev pub put_head : HeadRest → Held → Held
+put_head h w = record w { decl_lists = h.params ∷ w.decl_lists; bounds = h.bounds ∷ w.bounds; parts = h.body ∷ w.parts }
+
+abbrev pub put_object : ObjectRest → Held → Held
+put_object o w = record w { lengths = o.length ∷ w.lengths; bounds = o.bounds ∷ w.bounds; inits = o.init ∷ w.inits }
+
+abbrev pub put_declarator : DeclaratorRest → Held → Held
+put_declarator (headed h) w = mark form.First (put_head h w)
+put_declarator (objects o ss) w = mark form.Second (put_object o (record w { slot_lists = ss ∷ w.slot_lists }))
+
+-- the stars and the name stand on top of what is behind them
+abbrev pub put_starred : List Pos → Spelled → Held → Held
+put_starred ps name w = record w { stars = ps ∷ w.stars; tokens = name ∷ w.tokens }
+
+abbrev pub put_declarators : Declarators → Held → Held
+put_declarators d w = put_starred d.stars d.name (put_declarator d.rest w)
+
+abbrev pub put_tag : TagRest → Held → Held
+put_tag tag w = mark form.First w
+put_tag (members ds) w = record w { forms = form.Second ∷ w.forms; decl_lists = ds ∷ w.decl_lists }
+put_tag (structured d) w = mark form.Third (put_declarators d w)
+
+abbrev pub put : (p : Part) → Kept p → Held → Held
+put g.text k w = record w { items = k ∷ w.items }
+put g.items k w = record w { items = k ∷ w.items }
+put g.structure k w = put_tag k w
+put g.declaration k w = record w { items = k ∷ w.items }
+put g.declared k w = record w { items = k ∷ w.items }
+put g.declarators k w = put_declarators k w
+put g.declarator k w = put_declarator k w
+put g.objects k w = record w { slot_lists = k ∷ w.slot_lists }
+put g.object k w = record w { slots = k ∷ w.slots }
+put g.object_rest k w = put_object k w
+put g.array k w = record w { lengths = k ∷ w.lengths }
+put g.size k w = record w { sizes = k ∷ w.sizes }
+put g.initial k w = record w { inits = k ∷ w.inits }
+put g.initializer k w = record w { inits = k ∷ w.inits }
+put g.list_rest k w = record w { expr_lists = k ∷ w.expr_lists }
+put g.list_more k w = record w { expr_lists = k ∷ w.expr_lists }
+put g.head k w = put_head k w
+put g.body k w = record w { parts = k ∷ w.parts }
+put g.params k w = record w { decl_lists = k ∷ w.decl_lists }
+put g.more_params k w = record w { decl_lists = k ∷ w.decl_lists }
+put g.param k w = record w { decls = k ∷ w.decls }
+put g.mode k w = record w { tokens = k.token ∷ w.tokens; forms = k.which ∷ w.forms }
+put g.result_type k w = record w { types = k ∷ w.types }
+put g.members k w = record w { decl_lists = k ∷ w.decl_lists }
+put g.member k w = record w { decl_lists = k ∷ w.decl_lists }
+put g.slot k w = record w { slots = k ∷ w.slots }
+put g.slots k w = record w { slot_lists = k ∷ w.slot_lists }
+put g.declared_limits k w = record w { bounds = k ∷ w.bounds }
+put g.base k w = record w { types = k ∷ w.types }
+put g.scalar k w = record w { types = k ∷ w.types }
+put g.unsigned_rest k w = w
+put g.type_name k w = record w { types = k ∷ w.types }
+put g.stars k w = record w { stars = k ∷ w.stars }
+put g.limits k w = record w { limits = k ∷ w.limits }
+put g.bounds_rest k w = put_bounds k w
+put g.unknown_rest k w = put_unknown k w
+put g.block_items k w = record w { stmt_lists = k ∷ w.stmt_lists }
+put g.locals k w = record w { decl_lists = k ∷ w.decl_lists }
+put g.more_locals k w = record w { slot_lists = k ∷ w.slot_lists }
+put g.local k w = record w { slots = k ∷ w.slots }
+put g.local_initial k w = record w { inits = k ∷ w.inits }
+put g.value k w = record w { exprs = k ∷ w.exprs }
+put g.named_value k w = put_name k w
+put g.calloc_value k w = put_name k w
+put g.less k w = put_less k w
+put g.arguments k w = record w { expr_lists = k ∷ w.expr_lists }
+put g.more_arguments k w = record w { expr_lists = k ∷ w.expr_lists }
+put g.allocation k w = put_allocated k w
+put g.assign k w = record w { stmts = k ∷ w.stmts }
+put g.stmt k w = record w { stmts = k ∷ w.stmts }
+put g.calloc_stmt k w = put_stmt_rest k w
+put g.named_stmt k w = put_stmt_rest k w
+put g.otherwise k w = record w { parts = k ∷ w.parts }
+put g.condition k w = record w { values = k ∷ w.values }
+put g.for_start k w = record w { parts = k ∷ w.parts }
+put g.for_step k w = record w { parts = k ∷ w.parts }
+put g.assigns k w = record w { stmt_lists = k ∷ w.stmt_lists }
+put g.expr k w = record w { exprs = k ∷ w.exprs }
+put g.expr_rest k w = put_chain k w
+put g.choice k w = record w { arms = k ∷ w.arms }
+put g.tail k w = record w { steps = k ∷ w.steps }
+put g.operation k w = record w { operators = k ∷ w.operators }
+put g.operation_but_less k w = record w { operators = k ∷ w.operators }
+put g.second k w = record w { forms = k ∷ w.forms }
+put g.unary k w = record w { exprs = k ∷ w.exprs }
+put g.first k w = record w { exprs = k ∷ w.exprs }
+put g.round k w = put_round k w
+put g.posts k w = record w { posts = k ∷ w.posts }
+put g.post k w = record w { one_post = k ∷ w.one_post }
+put g.primary k w = record w { exprs = k ∷ w.exprs }
+put g.bounds_cast k w = record w { types = k.type_tree ∷ w.types; exprs = k.operand ∷ w.exprs; bounds = k.bounds ∷ w.bounds }
+put g.cast_limits k w = record w { bounds = k ∷ w.bounds }
+put g.constant k w = record w { exprs = k ∷ w.exprs }
+
+abbrev pub worth_of : (s : Symbol) → KeptOf s → Value
+worth_of (t c) k = v.token k
+worth_of (n p) k = worth p k
+
+abbrev pub worths : (ss : List Symbol) → KeptAll ss → List Value
+worths [] ks = []
+worths (s ∷ ss) ks = worth_of s ks.0 ∷ worths ss ks.1
+
+abbrev pub put_one : (s : Symbol) → KeptOf s → Held → Held
+put_one (t c) k w = record w { tokens = k ∷ w.tokens }
+put_one (n p) k w = put p k w
+
+abbrev pub put_all : (ss : List Symbol) → KeptAll ss → Held → Held
+put_all [] ks w = w
+put_all (s ∷ ss) ks w = put_one s ks.0 (put_all ss ks.1 w)
+
+-- what is held for a production, by what is held for its symbols
+abbrev pub close : (r : Rule) → KeptAll (right r) → Kept (left r)
+close g.Text (is, z) = is
+close g.Directive (d, (is, z)) = item.Directive (directive_of d.kind) ∷ is
+close g.Structure (s, (name, (d, (is, z)))) = tag_items d name ++ is
+close g.Static (s, (d, (is, z))) = d ++ is
+close g.Declaration (d, (is, z)) = d ++ is
+close g.NoItems z = []
+close g.Tag (a, z) = tag
+close g.Members (a, (m, (ms, (b, (c, z))))) = members (m ++ ms)
+close g.Structured (d, z) = structured d
+close g.StaticStruct (s, (name, (d, z))) = items_of d (struct_type name)
+close g.StaticOther (d, z) = d
+close g.Moded (m, (r, (name, (h, z)))) = head_item h (Some (mode_of m.which)) r name ∷ []
+close g.Voided (o, (name, (h, z))) = head_item h None ctype.Void name ∷ []
+close g.Based (b, (d, z)) = items_of d b
+close g.Declarators (ps, (name, (d, z))) = record { stars = ps; name = name; rest = d }
+close g.Headed (h, z) = headed h
+close g.Objects (o, (os, z)) = objects o os
+close g.MoreObjects (c, (o, (os, z))) = o ∷ os
+close g.NoObjects (a, z) = []
+close g.Object (ps, (name, (o, z))) = slot_of ps name o
+close g.ObjectRest (a, (b, (i, z))) = record { length = a; bounds = b; init = i }
+close g.RawArray (a, (s, (b, z))) = lengths.Raw s a.pos
+close g.CheckedArray (c, (a, (s, (b, z)))) = lengths.Checked s
+close g.NtArray (c, (a, (s, (b, z)))) = lengths.Nt s
+close g.NoArray z = lengths.Plain
+close g.Size (x, z) = Some (number_of x.kind)
+close g.NoSize z = None
+close g.Initial (e, (i, z)) = i
+close g.NoInitial z = inits.Nothing
+close g.ListInitial (a, (e, (es, z))) = inits.Many (e ∷ es)
+close g.OneInitial (e, z) = inits.One e
+close g.ListComma (c, (es, z)) = es
+close g.ListEnd (a, z) = []
+close g.ListClose (a, z) = []
+close g.ListNext (e, (es, z)) = e ∷ es
+close g.Head (a, (ps, (b, (s, z)))) = record { params = ps; bounds = b; body = s }
+close g.Prototype (a, z) = None
+close g.Body (a, (ss, z)) = Some (stmt_at (act.Block None ss) a.pos)
+close g.NoParams (b, z) = []
+close g.VoidParams (o, (b, z)) = []
+close g.Params (p, (ps, z)) = p ∷ ps
+close g.MoreParams (c, (p, (ps, z))) = p ∷ ps
+close g.EndParams (b, z) = []
+close g.Param (b, (s, z)) = declare b s
+close g.CheckedMode (m, z) = record { which = form.First; token = m }
+close g.UncheckedMode (m, z) = record { which = form.Second; token = m }
+close g.VoidResult (o, z) = ctype.Void
+close g.OtherResult (c, z) = c
+close g.MoreMembers (m, (ms, z)) = m ++ ms
+close g.NoMembers z = []
+close g.Member (b, (s, (ss, z))) = declare_each b (s ∷ ss)
+close g.Slot (ps, (name, (b, z))) = slot_of ps name (record { length = lengths.Plain; bounds = b; init = inits.Nothing })
+close g.MoreSlots (c, (s, (ss, z))) = s ∷ ss
+close g.NoSlots (a, z) = []
+close g.DeclaredLimits (c, (l, z)) = Some l
+close g.NoLimits z = None
+close g.StructBase (s, (name, z)) = struct_type name
+close g.Scalar (b, z) = b
+close g.Int (a, z) = ctype.Int
+close g.Unsigned (a, (b, z)) = ctype.Unsigned
+close g.Char (a, z) = ctype.Char
+close g.OnePointer (a, (b, (c, (d, z)))) = ctype.One c
+close g.ArrayPointer (a, (b, (c, (d, z)))) = ctype.Arr c
+close g.NtPointer (a, (b, (c, (d, z)))) = ctype.Nt c
+close g.UnsignedInt (a, z) = tt
+close g.UnsignedAlone z = tt
+close g.TypeName (b, (ps, z)) = starred b ps
+close g.MoreStars (s, (ps, z)) = s.pos ∷ ps
+close g.NoStars z = []
+close g.Count (c, (a, (e, (b, z)))) = bounds.Count e c.pos
+close g.ByteCount (c, (a, (e, (b, z)))) = bounds.ByteCount e c.pos
+close g.BoundsOf (b, (a, (r, z))) = bounds_at r b.pos
+close g.Unknown (u, (r, z)) = unknown_rest r u
+close g.BetweenNamed (name, (ps, (r, (d, (e, (b, z)))))) = between (whole (posted (named name) ps) r.steps r.arms) e
+close g.Between (f, (r, (d, (e, (b, z))))) = between (whole f r.steps r.arms) e
+close g.UnknownEnd (b, z) = ended
+close g.UnknownName (ps, (r, (d, (e, (b, z))))) = going_on ps r e
+close g.EndBlock (b, z) = []
+close g.Locals (ds, (ss, z)) = locals ds ++ ss
+close g.Stmts (s, (ss, z)) = s ∷ ss
+close g.Local (b, (d, (ds, z))) = declare_each b (d ∷ ds)
+close g.MoreLocals (c, (d, (ds, z))) = d ∷ ds
+close g.NoLocals (a, z) = []
+close g.LocalName (ps, (name, (b, (i, z)))) = slot_of ps name (record { length = lengths.Plain; bounds = b; init = i })
+close g.LocalInitial (e, (x, z)) = inits.One x
+close g.NoLocalInitial z = inits.Nothing
+close g.CallocValue (name, (x, z)) = name_expr x name
+close g.NamedValue (name, (x, z)) = name_expr x name
+close g.Value (f, (r, z)) = whole f r.steps r.arms
+close g.CallValue (a, (es, z)) = calling es
+close g.ExprValue (ps, (r, z)) = going ps r
+close g.CallocCall (a, (es, z)) = calling es
+close g.CallocLess (a, (x, z)) = less_rest x a.pos
+close g.CallocPost (p, (ps, (r, z))) = going (p ∷ ps) r
+close g.CallocStep (o, (e, (r, z))) = going [] (record { steps = step_of o e ∷ r.steps; arms = r.arms })
+close g.CallocName (c, z) = going [] (record { steps = []; arms = c })
+close g.LessOperand (e, (r, z)) = compared e r
+close g.LessType (a, z) = allocated a
+close g.NoArguments (b, z) = []
+close g.Arguments (e, (es, z)) = e ∷ es
+close g.MoreArguments (c, (e, (es, z))) = e ∷ es
+close g.EndArguments (b, z) = []
+close g.Allocation (c, (a, (b, (e, (d, (s, (f, (u, (i, (j, z)))))))))) = record { element = c; count = e; sized = u }
+close g.Assign (e, (a, (x, z))) = stmt_at (act.Assign e x) a.pos
+close g.ModedBlock (m, (a, (ss, z))) = stmt_at (act.Block (Some (mode_of m.which)) ss) m.token.pos
+close g.Block (a, (ss, z)) = stmt_at (act.Block None ss) a.pos
+close g.Empty (a, z) = stmt_at act.Empty a.pos
+close g.If (i, (a, (e, (b, (s, (o, z)))))) = stmt_at (act.If e s o) i.pos
+close g.While (x, (a, (e, (b, (s, z))))) = stmt_at (act.While e s) x.pos
+close g.For (f, (a, (i, (c, (p, (s, z)))))) = stmt_at (act.For i c p s) f.pos
+close g.Return (r, (e, z)) = stmt_at (act.Return e) r.pos
+close g.Break (b, (a, z)) = stmt_at act.Break b.pos
+close g.Continue (c, (a, z)) = stmt_at act.Continue c.pos
+close g.Check (c, (a, (e, (b, (d, z))))) = stmt_at (act.Check e) c.pos
+close g.Bundle (b, (a, (s, (c, (u, (d, (ss, z))))))) = stmt_at (act.Bundle (s ∷ u ∷ ss)) b.pos
+close g.CallocStmt (name, (s, z)) = name_stmt s name
+close g.NamedStmt (name, (s, z)) = name_stmt s name
+close g.AssignStmt (f, (a, (x, (b, z)))) = stmt_at (act.Assign f x) a.pos
+close g.CallocTypeStmt (a, (x, (b, z))) = allocates x
+close g.CallocNameStmt (s, z) = s
+close g.CallStmt (a, (es, (b, z))) = calls es
+close g.NamedAssign (ps, (a, (x, (b, z)))) = assigning ps a b x
+close g.Else (e, (s, z)) = Some s
+close g.NoElse z = None
+close g.NoCondition (a, z) = None
+close g.Condition (e, (a, z)) = Some e
+close g.NoStart (a, z) = None
+close g.LocalStart (b, (d, (a, z))) = Some (local_of (declare b d))
+close g.AssignStart (s, (a, z)) = Some s
+close g.NoStep (b, z) = None
+close g.AssignStep (s, (b, z)) = Some s
+close g.EndAssigns (b, z) = []
+close g.Assigns (s, (a, (ss, z))) = s ∷ ss
+close g.Expr (e, (r, z)) = whole e r.steps r.arms
+close g.ExprRest (ss, (c, z)) = record { steps = ss; arms = c }
+close g.Choice (q, (e, (c, (f, z)))) = Some (record { pos = q.pos; yes = e; no = f })
+close g.NoChoice z = None
+close g.Step (o, (e, (ss, z))) = step_of o e ∷ ss
+close g.NoTail z = []
+close g.LessOperation (a, z) = record { op = op.Lt; pos = a.pos }
+close g.OtherOperation (o, z) = o
+close g.Operator (a, z) = record { op = binary_op (kind_of_token a); pos = a.pos }
+close g.Greater (a, (b, z)) = record { op = if is_second b then op.Shr else op.Gt; pos = a.pos }
+close g.Second (a, z) = form.Second
+close g.NoSecond z = form.First
+close g.Named (name, (ps, z)) = posted (named name) ps
+close g.Unnamed (e, z) = e
+close g.Signed (a, (e, z)) = expr_at (node.Un (sign_op (kind_of_token a)) e) a.pos
+close g.Round (a, (e, z)) = round_expr e a.pos
+close g.Sizeof (s, (a, (c, (b, z)))) = expr_at (node.Size c) s.pos
+close g.Postfix (e, (ps, z)) = posted e ps
+close g.Paren (e, (b, (ps, z))) = paren (posted e ps)
+close g.Cast (c, (b, (e, z))) = cast c e
+close g.Posts (p, (ps, z)) = p ∷ ps
+close g.NoPosts z = []
+close g.Index (a, (e, (b, z))) = behind.Index e a.pos
+close g.Dot (a, (name, z)) = behind.Dot name.text name.pos a.pos
+close g.Arrow (a, (name, z)) = behind.Arrow name.text name.pos a.pos
+close g.Constant (e, z) = e
+close g.Tested (x, (c, z)) = expr_at (node.Tested c.type_tree c.operand c.bounds) x.pos
+close g.Trusted (x, (c, z)) = expr_at (node.Trusted c.type_tree c.operand c.bounds) x.pos
+close g.BoundsCast (a, (c, (b, (d, (e, (l, z)))))) = record { type_tree = c; operand = e; bounds = l }
+close g.CastLimits (c, (l, (b, z))) = Some l
+close g.NoCastLimits (b, z) = None
+close g.Literal (x, z) = expr_at (literal x.kind) x.pos
+close g.String (x, z) = expr_at (node.Text (decoded x.text)) x.pos
+close g.Null (a, z) = expr_at node.Null a.pos
+close g.Eof (a, z) = expr_at (node.Number 4294967295 false) a.pos

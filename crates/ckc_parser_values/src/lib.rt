@@ -1,0 +1,15 @@
+//! The values of the second pass: a stack for each sort.
+#![tactic(auto)]
+
+mod held;
+pub mod laws;
+mod lists;
+mod makes;
+mod stack;
+
+pub use held::{Form, Held, Slot};
+pub use lists::{joined, onto, turned};
+pub use makes::{
+    declare, declare_each, function_of, literal_node, mode_of, posted, put_locals, starred, statics,
+};
+pub use stack::{Stack, Tokens};
