@@ -1,0 +1,17 @@
+int a[400]; int b[400]; int c[400];
+int multiply(int *x, int *y, int *z, int m, int n) {
+  int i; int j; int k; int s;
+  for (i = 0; i < n; i = i + 1)
+    for (j = 0; j < n; j = j + 1) {
+      s = 0;
+      for (k = 0; k < n; k = k + 1) s = s + x[i * n + k] * y[k * n + j];
+      z[i * n + j] = s;
+    }
+  return z[m - 1];
+}
+int main(void) {
+  int i; int r = 0;
+  for (i = 0; i < 400; i = i + 1) { a[i] = i % 7; b[i] = i % 5; }
+  for (i = 0; i < 10; i = i + 1) r = multiply(a, b, c, 400, 20);
+  return r % 251;
+}

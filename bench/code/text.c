@@ -1,0 +1,17 @@
+char line[128];
+int length(char *text) {
+  int n = 0;
+  while (text[n]) n = n + 1;
+  return n;
+}
+int count(char *text, int byte) {
+  int n = 0; int r = 0;
+  while (text[n]) { if (text[n] == byte) r = r + 1; n = n + 1; }
+  return r;
+}
+int main(void) {
+  int i; int r = 0; int k;
+  for (i = 0; i < 120; i = i + 1) line[i] = 'a' + i % 26;
+  for (i = 0; i < 200; i = i + 1) { k = length(line); r = r + k; k = count(line, 'e'); r = r + k; }
+  return r % 251;
+}
