@@ -16,7 +16,7 @@ use Rattle.ckc_syntax.proofs.SameTypes.{type_tells}
 
 -- the operators in the order of their numbers
 op_of : ℕ → TreeOp
-op_of n = get_or (op.Minus ∷ op.Plus ∷ op.Not ∷ op.Flip ∷ op.Deref ∷ op.Address ∷ op.OrElse ∷ op.AndThen ∷ op.Or ∷ op.Xor ∷ op.And ∷ op.Eq ∷ op.Ne ∷ op.Lt ∷ op.Le ∷ op.Gt ∷ op.Ge ∷ op.Shl ∷ op.Shr ∷ op.Add ∷ op.Sub ∷ op.Mul ∷ op.Div ∷ op.Rem ∷ []) n op.Minus
+op_of n = get_or (op.Minus ∷ op.Plus ∷ op.Not ∷ op.Flip ∷ op.Deref ∷ op.Address ∷ op.OrElse ∷ op.AndThen ∷ op.Or ∷ op.Xor ∷ op.And ∷ op.Eq ∷ op.Ne ∷ op.Lt ∷ op.Le ∷ op.Gt ∷ op.Ge ∷ op.Shl ∷ op.Shr ∷ op.Add ∷ op.Sub ∷ op.Mul ∷ op.Div ∷ op.Rem ∷ op.Set ∷ op.PostInc ∷ op.PostDec ∷ []) n op.Minus
 
 op_back : (o : TreeOp) → op_of (number_of_op o) ≡ o
 unfolding op_of
@@ -44,6 +44,9 @@ op_back op.Sub = refl
 op_back op.Mul = refl
 op_back op.Div = refl
 op_back op.Rem = refl
+op_back op.Set = refl
+op_back op.PostInc = refl
+op_back op.PostDec = refl
 
 ops : (o p : TreeOp) → Tells (same_op o p) o p
 ops o p = let t = numbers (number_of_op o) (number_of_op p) in record {

@@ -77,6 +77,9 @@ fn number_of_op(op: TreeOp) -> u8
         TreeOp::Mul => 21,
         TreeOp::Div => 22,
         TreeOp::Rem => 23,
+        TreeOp::Set => 24,
+        TreeOp::PostInc => 25,
+        TreeOp::PostDec => 26,
     }
 }
 

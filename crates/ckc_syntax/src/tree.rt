@@ -352,7 +352,8 @@ impl<N: Drop, A: Drop> Drop for Node<N, A> {
 }
 
 /// The operators. The first six are unary `-`, `+`, `!`, `~`, `*` and `&`; the others are `||`, `&&`, `|`, `^`,
-/// `&`, `==`, `!=`, `<`, `<=`, `>`, `>=`, `<<`, `>>`, `+`, `-`, `*`, `/` and `%`.
+/// `&`, `==`, `!=`, `<`, `<=`, `>`, `>=`, `<<`, `>>`, `+`, `-`, `*`, `/` and `%`. The last three change their operand
+/// within an expression: `Set` is the binary `=`, `PostInc` and `PostDec` are the unary `++` and `--` after it.
 #[derive(Clone, Copy)]
 pub enum TreeOp {
     Minus,
@@ -379,6 +380,9 @@ pub enum TreeOp {
     Mul,
     Div,
     Rem,
+    Set,
+    PostInc,
+    PostDec,
 }
 
 /// What a name means once it is resolved: a local of the function, a static, a function, a tag or a member by

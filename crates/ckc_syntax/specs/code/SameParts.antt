@@ -68,6 +68,9 @@ number_of_op op.Sub = 20
 number_of_op op.Mul = 21
 number_of_op op.Div = 22
 number_of_op op.Rem = 23
+number_of_op op.Set = 24
+number_of_op op.PostInc = 25
+number_of_op op.PostDec = 26
 
 abbrev pub same_op : TreeOp → TreeOp → Bool
 same_op o p = number_of_op o == number_of_op p
