@@ -16,8 +16,10 @@ use Rattle.ckc_syntax.specs.declared.tree.Node.TheVariants as node
 use Rattle.ckc_parser_grammar.specs.declared.kind.Kind.{Kind}
 use Rattle.ckc_parser_grammar.specs.declared.kind.Kind.TheVariants as k
 use Rattle.ckc_parser_grammar.specs.declared.parts.Arms.{Arms}
+use Rattle.ckc_parser_grammar.specs.declared.parts.Operation.{Operation}
+use Rattle.ckc_parser_grammar.specs.declared.parts.Setting.{Setting}
 use Rattle.ckc_parser_grammar.specs.declared.parts.Post.{Post}
-use Rattle.ckc_parser_grammar.specs.code.Kinds.{kind_of_token, is_sign, is_operator, is_literal, sign_op, binary_op}
+use Rattle.ckc_parser_grammar.specs.code.Kinds.{kind_of_token, is_sign, is_increment, is_compound, is_operator, is_literal, sign_op, increment_op, compound_op, binary_op}
 use Rattle.ckc_parser_grammar.specs.code.Grammar.{Rule, Fits, left, right, allowed, not_else, is_name, is_greater}
 use Rattle.ckc_parser_grammar.specs.code.Grammar as g
 use Rattle.ckc_parser_grammar.specs.code.Signs.{signs, signs_after, kind_after, adjacent, glued, is_plain_greater}
@@ -25,7 +27,7 @@ use Rattle.ckc_parser_grammar.specs.code.Derives.{Sign, before, Derives}
 use Rattle.ckc_parser_grammar.specs.code.Derives as D
 use Rattle.ckc_parser_grammar.specs.code.Trees as T
 use Rattle.ckc_parser_grammar.specs.code.Values as v
-use Rattle.ckc_parser_grammar.specs.code.Values.{Value, made, called, whole, as_items, as_items_of_name, as_items_of_base, as_items_of_declarator, as_item_of_head, as_decl, as_decls, as_decl_of_base, as_decls_of_base, as_decl_of_name, as_length, as_size, as_init, as_mode, as_type, as_stars, as_limits, as_declared_limits, as_limits_at, as_limits_of_unknown, as_expr, as_exprs, as_value, as_expr_behind, as_expr_of_name, as_expr_of_less, as_arms, as_next, as_steps, as_post, as_posts, as_stmt, as_part, as_stmts, as_stmt_of_name, as_op, type_of, operand_of, limits_of, place}
+use Rattle.ckc_parser_grammar.specs.code.Values.{Value, made, called, whole, as_items, as_items_of_name, as_items_of_base, as_items_of_declarator, as_item_of_head, as_decl, as_decls, as_decl_of_base, as_decls_of_base, as_decl_of_name, as_length, as_size, as_init, as_mode, as_type, as_stars, as_limits, as_declared_limits, as_limits_at, as_limits_of_unknown, as_expr, as_exprs, as_value, as_expr_behind, as_expr_of_name, as_expr_of_less, as_arms, as_next, as_call, as_increment, as_setting, as_stmt_behind, as_steps, as_post, as_posts, as_stmt, as_part, as_stmts, as_stmt_of_name, as_op, type_of, operand_of, limits_of, place}
 use Rattle.ckc_grammar.specs.Trees as L
 use Rattle.ckc_grammar.specs.Trees.{Item, Head, TypeTree, Decl, Init, Limits, Expr, Stmt, starred, expr_at}
 use Rattle.ckc_grammar.specs.declared.chain.Step.{Step}
@@ -60,6 +62,20 @@ ArmsTail ws (Some a) = (e : Bool) (f : Makes (sign_at "?" ∷ n l.expr ∷ sign 
 -- what stands after an expression: operators with their operands, and arms
 abbrev ExprTail : List Word → List Step → Option Arms → Type 0
 ExprTail ws ss c = (xs : List Word) × (ys : List Word) × (xs ++ ys ≡ ws) × Is (many l.step) xs ss × ArmsTail ys c
+
+-- what stands after a target
+data SetTail (ws : List Word) (s : Setting) : Type 0 where
+  set_to : (a : Word) {us : List Word} {y : Expr} → fits (mark (codes "=")) a ≡ true → Is l.right us y → a ∷ us ≡ ws → record { op = None; pos = a.token.pos; value = y } ≡ s → SetTail ws s
+  set_by : {us vs : List Word} {o : TreeOp × Pos} {y : Expr} → Is l.op us o → Is l.expr vs y → us ++ vs ≡ ws → record { op = Some o.0; pos = o.1; value = y } ≡ s → SetTail ws s
+
+abbrev LaterTail : List Word → Option Setting → Type 0
+LaterTail ws None = ws ≡ []
+LaterTail ws (Some s) = SetTail ws s
+
+-- a `++` or `--` behind an operand, or none
+abbrev pair_of : Option Operation → Option (TreeOp × Pos)
+pair_of None = None
+pair_of (Some o) = Some (o.op, o.pos)
 
 -- a bounds cast after its keyword
 abbrev CastTail : List Symbol
@@ -141,29 +157,38 @@ Means g.more_locals ws e x = (ds : List (TypeTree → Decl)) × Closed (many (af
 Means g.local ws e x = Is l.local_name ws (as_decl_of_base x)
 Means g.local_initial ws e x = (o : Option Expr) × Is (opt (after (mark (codes "=")) l.right)) ws o × (init_of o ≡ as_init x)
 Means g.value ws e x = Is l.right ws (as_expr x)
-Means g.named_value ws e x = (a : Word) → fits any_name a ≡ true → Is l.right (a ∷ ws) (as_expr_of_name x a.token)
 Means g.calloc_value ws e x = (a : Word) → fits any_name a ≡ true → fits (word (codes "calloc")) a ≡ true → Is l.right (a ∷ ws) (as_expr_of_name x a.token)
 Means g.less ws e x = (a b : Word) → fits any_name a ≡ true → fits (word (codes "calloc")) a ≡ true → fits (mark (codes "<")) b ≡ true → Is l.right (a ∷ b ∷ ws) (as_expr_of_less x a.token b.token.pos)
-Means g.arguments ws e x = (a b : Word) → fits any_name a ≡ true → fits (mark (codes "(")) b ≡ true → Is l.call (a ∷ b ∷ ws) (called a.token (as_exprs x))
+Means g.arguments ws e x = (a b : Word) → fits any_name a ≡ true → fits (mark (codes "(")) b ≡ true → Is l.call (a ∷ b ∷ ws) (called a.token (as_exprs x)) × Is l.primary (a ∷ b ∷ ws) (called a.token (as_exprs x))
 Means g.more_arguments ws e x = Closed (many (after comma l.expr)) (mark (codes ")")) ws (as_exprs x)
-Means g.allocation ws e x = (a b : Word) → fits (word (codes "calloc")) a ≡ true → fits (mark (codes "<")) b ≡ true → Is l.call (a ∷ b ∷ ws) (as_expr_of_name x a.token) × ((as_expr_of_name x a.token).pos ≡ a.token.pos)
+Means g.allocation ws e x = (a b : Word) → fits (word (codes "calloc")) a ≡ true → fits (mark (codes "<")) b ≡ true → Is l.calloc (a ∷ b ∷ ws) (as_expr_of_name x a.token) × ((as_expr_of_name x a.token).pos ≡ a.token.pos)
+Means g.setting ws e x = (s : Setting) × SetTail ws s × (as_setting x ≡ Some s)
+Means g.later_setting ws e x = LaterTail ws (as_setting x)
+Means g.change ws e x = (us : List Word) (y : Expr) → Is l.postfix us y → Is l.assign (us ++ ws) (T.changed y (as_increment x) (as_setting x))
 Means g.assign ws e x = Is l.assign ws (as_stmt x)
+Means g.unnamed ws e x = Is l.assign ws (as_stmt x)
+Means g.round_assign ws e x = (a : Word) → fits (mark (codes "(")) a ≡ true → Is l.assign (a ∷ ws) (as_stmt_behind x a.token.pos)
 Means g.stmt ws e x = Has l.stmt ws e (as_stmt x)
-Means g.calloc_stmt ws e x = (a : Word) → fits any_name a ≡ true → fits (word (codes "calloc")) a ≡ true → Is l.stmt (a ∷ ws) (as_stmt_of_name x a.token)
-Means g.named_stmt ws e x = (a : Word) → fits any_name a ≡ true → Is l.stmt (a ∷ ws) (as_stmt_of_name x a.token)
+Means g.calloc_stmt ws e x = (a b : Word) → fits any_name a ≡ true → fits (word (codes "calloc")) a ≡ true → fits (mark (codes ";")) b ≡ true → Is l.stmt (a ∷ (ws ++ (b ∷ []))) (as_stmt_of_name x a.token)
+Means g.named_stmt ws e x = (a b : Word) → fits any_name a ≡ true → fits (mark (codes ";")) b ≡ true → Is l.stmt (a ∷ (ws ++ (b ∷ []))) (as_stmt_of_name x a.token)
+Means g.called_stmt ws e x = (us : List Word) (y : Expr) (b : Word) → Is l.call us y → Is l.primary us y → fits (mark (codes ";")) b ≡ true → Is l.stmt (us ++ (ws ++ (b ∷ []))) (T.changed (T.posted y (as_posts x)) (as_increment x) (as_setting x))
 Means g.otherwise ws e x = ElseTail ws e (as_part x)
 Means g.condition ws e x = Closed (opt l.expr) (mark (codes ";")) ws (as_value x)
 Means g.for_start ws e x = Closed (opt l.start) (mark (codes ";")) ws (as_part x)
 Means g.for_step ws e x = Closed (opt l.assign) (mark (codes ")")) ws (as_part x)
 Means g.assigns ws e x = Closed (many l.change) (mark (codes "}")) ws (as_stmts x)
 Means g.expr ws e x = Is l.expr ws (as_expr x)
-Means g.expr_rest ws e x = ExprTail ws (as_steps x) (as_arms x)
+Means g.expr_rest ws e x = (us : List Word) (y : Expr) → Is l.unary us y → Is l.expr (us ++ ws) (v.ended y x)
+Means g.chain ws e x = ExprTail ws (as_steps x) (as_arms x) × (as_setting x ≡ None)
 Means g.choice ws e x = ArmsTail ws (as_arms x)
 Means g.tail ws e x = Is (many l.step) ws (as_steps x)
 Means g.operation ws e x = Is l.operator ws (as_op x, place x)
 Means g.operation_but_less ws e x = Is l.operator ws (as_op x, place x)
 Means g.second ws e x = (a : Word) → fits (mark (codes ">")) a ≡ true → Is l.operator (a ∷ ws) ((if as_next x then op.Shr else op.Gt), a.token.pos)
 Means g.unary ws e x = Is l.unary ws (as_expr x)
+Means g.name_rest ws e x = (a : Word) → fits any_name a ≡ true → Is l.unary (a ∷ ws) (as_expr_of_name x a.token)
+Means g.call_rest ws e x = (a : Word) → fits any_name a ≡ true → Is l.primary (a ∷ ws) (v.called_or_named a.token (as_call x))
+Means g.increment ws e x = Is (opt l.increment) ws (pair_of (as_increment x))
 Means g.first ws e x = Is l.unary ws (as_expr x)
 Means g.round ws e x = (a : Word) → fits (mark (codes "(")) a ≡ true → Is l.unary (a ∷ ws) (as_expr_behind x a.token.pos)
 Means g.posts ws e x = PostsMean ws (as_posts x)
@@ -202,18 +227,36 @@ type_at h i k e = by (inl tt) (part h (only (starred_at i) refl) k)
 name_at : {a : Word} → fits any_name a ≡ true → Is l.primary (a ∷ []) (expr_at (node.Name a.token.text) a.token.pos)
 name_at f e = by (inl tt) (tok f end)
 
-postfix_at : {us ws zs : List Word} {x : Expr} (ps : List Post) → Is l.primary us x → PostsMean ws ps → us ++ ws ≡ zs → Is l.unary zs (T.posted x ps)
-postfix_at {us} {ws} {zs} {x} ps h i k e = by (inr (inr (inr (inr (inr (inr (inr (inr (inl tt))))))))) (only postfix refl)
-  where
-    postfix : Is l.postfix zs (T.posted x ps)
-    postfix d = by (inl tt) (part h (only i.1 (i.2 x)) k)
+postfix_at : {us ws zs : List Word} {x : Expr} (ps : List Post) → Is l.primary us x → PostsMean ws ps → us ++ ws ≡ zs → Is l.postfix zs (T.posted x ps)
+postfix_at {x = x} ps h i k d = by (inl tt) (part h (only i.1 (i.2 x)) k)
+
+same_increment : (x : Expr) (i : Option Operation) → L.incremented x (pair_of i) ≡ T.with_increment x i
+same_increment x None = refl
+same_increment x (Some o) = refl
+
+unary_at : {us ws zs : List Word} {x : Expr} (i : Option Operation) → Is l.postfix us x → Is (opt l.increment) ws (pair_of i) → us ++ ws ≡ zs → Is l.unary zs (T.with_increment x i)
+unary_at {x = x} i h o k e = by (inr (inr (inr (inr (inr (inr (inr (inr (inr (inl tt)))))))))) (part h (only o (same_increment x i)) k)
+
+sizeof_at : {a b c : Word} {us zs : List Word} {t : TypeTree} → fits (keyword (codes "sizeof")) a ≡ true → fits (mark (codes "(")) b ≡ true → Is l.type_name us t → fits (mark (codes ")")) c ≡ true → us ++ (c ∷ []) ≡ zs →
+    Is l.unary (a ∷ b ∷ zs) (expr_at (node.Size t) a.token.pos)
+sizeof_at f1 f2 t f3 h d = by (inr (inr (inr (inr (inr (inr (inr (inr (inl tt))))))))) (tok f1 (tok f2 (part t (tok f3 end) h)))
+
+to_type : {a b : Word} {us xs zs : List Word} {t : TypeTree} {x : Expr} → fits (mark (codes "(")) a ≡ true → Is l.type_name us t → fits (mark (codes ")")) b ≡ true → Is l.unary xs x → us ++ (b ∷ xs) ≡ zs →
+    Is l.unary (a ∷ zs) (expr_at (node.Cast t x) a.token.pos)
+to_type f1 t f2 x h d = by (inr (inr (inr (inr (inr (inr (inr (inl tt)))))))) (tok f1 (part t (tok f2 (only x refl)) h))
+
+round_at : {a b : Word} {us zs : List Word} {x : Expr} → fits (mark (codes "(")) a ≡ true → Is l.expr us x → fits (mark (codes ")")) b ≡ true → us ++ (b ∷ []) ≡ zs → Is l.primary (a ∷ zs) x
+round_at f1 x f2 h d = by (inr (inr (inr (inr (inr (inr (inr (inr (inl tt))))))))) (tok f1 (part x (tok f2 end) h))
+
+set_before : {os us zs : List Word} {o : TreeOp × Pos} {x : Expr} → Is l.increment os o → Is l.unary us x → os ++ us ≡ zs → Is l.unary zs (L.set_by x o (L.one_at o.1))
+set_before o x h d = by (inr (inr (inr (inr (inr (inr (inl tt))))))) (part o (only x refl) h)
 
 binary_at : {us xs : List Word} {x : Expr} (ss : List Step) → Is l.unary us x → Is (many l.step) xs ss → Is l.binary (us ++ xs) (L.joined x ss)
 binary_at {x = x} ss h i e = by (inl tt) (part h (only i refl) refl)
 
 arms_at : (c : Option Arms) (us xs ys : List Word) {ws : List Word} {x : Expr} → Is l.binary (us ++ xs) x → ArmsTail ys c → xs ++ ys ≡ ws → Is l.expr (us ++ ws) (T.picked x c)
-arms_at None us xs ys {ws} {x} h i k e = by (inl tt) (last h refl (append_assoc us xs [] ∙ ap (λ z. us ++ (xs ++ z)) (sym i) ∙ ap (λ z. us ++ z) k))
-arms_at (Some a) us xs ys {ws} {x} h i k e = by (inr (inl tt)) (part h (i e (λ p f q. expr_at (node.Pick x f q) p)) (append_assoc us xs ys ∙ ap (λ z. us ++ z) k))
+arms_at None us xs ys {ws} {x} h i k e = by (inr (inr (inl tt))) (last h refl (append_assoc us xs [] ∙ ap (λ z. us ++ (xs ++ z)) (sym i) ∙ ap (λ z. us ++ z) k))
+arms_at (Some a) us xs ys {ws} {x} h i k e = by (inr (inr (inr (inl tt)))) (part h (i e (λ p f q. expr_at (node.Pick x f q) p)) (append_assoc us xs ys ∙ ap (λ z. us ++ z) k))
 
 whole_at : {us ws : List Word} {x : Expr} (ss : List Step) (c : Option Arms) → Is l.unary us x → ExprTail ws ss c → Is l.expr (us ++ ws) (whole x ss c)
 whole_at {us} {ws} {x} ss c h r = arms_at c us r.0 r.1 (binary_at ss h r.3) r.4 r.2
@@ -221,14 +264,47 @@ whole_at {us} {ws} {x} ss c h r = arms_at c us r.0 r.1 (binary_at ss h r.3) r.4 
 right_at : {ws : List Word} {x : Expr} → Is l.expr ws x → Is l.right ws x
 right_at h e = by (inl tt) (only h refl)
 
-call_at : {ws : List Word} {x : Expr} → Is l.call ws x → Is l.right ws x
-call_at h e = by (inr (inl tt)) (only h refl)
-
-named_at : {w : Word} {us ws zs : List Word} (ps : List Post) (ss : List Step) (c : Option Arms) → fits any_name w ≡ true → PostsMean us ps → ExprTail ws ss c → us ++ ws ≡ zs → Is l.expr (w ∷ zs) (whole (T.posted (v.named w.token) ps) ss c)
-named_at {w} {us} {ws} {zs} ps ss c h i r k = moved (ap (λ z. w ∷ z) k) (whole_at {us = w ∷ us} ss c (postfix_at {us = w ∷ []} ps (name_at h) i refl) r)
+calloc_right : {ws : List Word} {x : Expr} → Is l.calloc ws x → Is l.right ws x
+calloc_right h e = by (inr (inl tt)) (only h refl)
 
 no_posts : PostsMean [] []
 no_posts = ([], no_more, λ y. refl)
+
+named_unary : {a : Word} → fits any_name a ≡ true → Is l.unary (a ∷ []) (v.named a.token)
+named_unary {a} f = unary_at {us = a ∷ []} None (postfix_at {us = a ∷ []} [] (name_at f) no_posts refl) nothing refl
+
+-- a target with what stands after it, as a statement and as an expression
+assign_by : {us ws zs : List Word} {x : Expr} {s : Setting} → Is l.unary us x → SetTail ws s → us ++ ws ≡ zs → Is l.assign zs (T.assigned x s)
+assign_by {us} {x = x} h (set_to a f y i q) k = named (ap (λ z. T.assigned x z) q) (λ e. by (inl tt) (part h (tok f (only y refl)) (ap (λ z. us ++ z) i ∙ k)))
+assign_by {us} {x = x} h (set_by o y i q) k = named (ap (λ z. T.assigned x z) q) (λ e. by (inr (inl tt)) (part h (part o (only y refl) i) k))
+
+expr_by : {us ws zs : List Word} {x : Expr} {s : Setting} → Is l.unary us x → SetTail ws s → us ++ ws ≡ zs → Is l.expr zs (T.set x s)
+expr_by {us} {x = x} h (set_to a f y i q) k = named (ap (λ z. T.set x z) q) (λ e. by (inl tt) (part h (tok f (only y refl)) (ap (λ z. us ++ z) i ∙ k)))
+expr_by {us} {x = x} h (set_by o y i q) k = named (ap (λ z. T.set x z) q) (λ e. by (inr (inl tt)) (part h (part o (only y refl) i) k))
+
+-- the same of a target for which it must stand there
+owed_by : {us ws zs : List Word} {x : Expr} (y : Value) → Is l.unary us x → (s : Setting) × SetTail ws s × (as_setting y ≡ Some s) → us ++ ws ≡ zs → Is l.assign zs (T.changed x None (as_setting y))
+owed_by {x = x} y h m k = named (ap (λ z. T.changed x None z) (sym m.2)) (assign_by h m.1 k)
+
+stepped_at : {os us ws zs : List Word} {x : Expr} (o : Operation) (s : Option Setting) → Is l.increment os (o.op, o.pos) → Is l.unary us x → LaterTail ws s → os ++ (us ++ ws) ≡ zs → Is l.assign zs (T.stepped x o s)
+stepped_at {os} {us} o None i h t k d = by (inr (inr (inl tt))) (part i (last h refl (ap (λ z. us ++ z) (sym t))) k)
+stepped_at {os} {us} {ws} o (Some s) i h t k = assign_by (set_before i h refl) t (append_assoc os us ws ∙ k)
+
+increment_change : {os us ws zs : List Word} {x : Expr} (o : Operation) (s : Option Setting) → Is l.postfix us x → Is l.increment os (o.op, o.pos) → LaterTail ws s → us ++ (os ++ ws) ≡ zs → Is l.assign zs (T.changed x (Some o) s)
+increment_change {os} {us} o None h i t k d = by (inr (inr (inr (inl tt)))) (part h (last i refl (ap (λ z. os ++ z) (sym t))) k)
+increment_change {os} {us} {ws} o (Some s) h i t k = assign_by (unary_at (Some o) h (something i) refl) t (append_assoc us os ws ∙ k)
+
+later_moved : {us ws : List Word} (s : Option Setting) → us ≡ ws → LaterTail us s → LaterTail ws s
+later_moved s h t = subst (λ z. LaterTail z s) h t
+
+tail_moved : {us ws : List Word} {s : Setting} → us ≡ ws → SetTail us s → SetTail ws s
+tail_moved {s = s} h t = subst (λ z. SetTail z s) h t
+
+assign_line : {us zs : List Word} {s : Stmt} (b : Word) → Is l.assign us s → fits (mark (codes ";")) b ≡ true → us ++ (b ∷ []) ≡ zs → Is l.stmt zs s
+assign_line b h f k e = by (inr (inr (inr (inl tt)))) (part h (tok f end) k)
+
+call_line : {us zs : List Word} {x : Expr} (b : Word) → Is l.call us x → fits (mark (codes ";")) b ≡ true → us ++ (b ∷ []) ≡ zs → Is l.stmt zs (L.stmt_at (act.Call x) x.pos)
+call_line b h f k e = by (inr (inr (inr (inr (inl tt))))) (part h (tok f end) k)
 
 objects_at : {us ys zs bs st : List Word} {d : TypeTree → Decl} {b : TypeTree} {ds : List (TypeTree → Decl)} {y : List Decl} {o : Option (Unit {0})} → Is l.object us d → Is l.base bs b →
     Closed (many (after comma l.object)) (mark (codes ";")) ys ds → given b ds ≡ y → us ++ ys ≡ zs → Is (opt l.static) st o → Is l.item (st ++ (bs ++ zs)) (L.statics (d b ∷ y))
@@ -356,11 +432,6 @@ assigns_at : {us xs ys zs : List Word} (w : Word) {s : Stmt} {ss : List Stmt} �
 assigns_at {us} {ys = ys} w hs f (closed {us = vs} x m g i) h j =
     closed x (one_more_at (change_at w hs f) m refl) g (with_last (us ++ (w ∷ [])) vs x (i ∙ h) (append_assoc us (w ∷ []) ys ∙ j))
 
-assign_stmt : {us vs ys zs : List Word} (a b : Word) {x y : Expr} → Is l.unary us x → fits (mark (codes "=")) a ≡ true → Is l.right vs y → fits (mark (codes ";")) b ≡ true → vs ++ (b ∷ []) ≡ ys → us ++ (a ∷ ys) ≡ zs →
-    Is l.stmt zs (L.stmt_at (act.Assign x y) a.token.pos)
-assign_stmt {us} {vs} a b hx f hy g i j e =
-    by (inr (inr (inr (inl tt)))) (part {us = us ++ (a ∷ vs)} (λ c. by (inl tt) (part hx (tok f (only hy refl)) refl)) (tok g end) (append_assoc us (a ∷ vs) (b ∷ []) ∙ ap (λ z. us ++ (a ∷ z)) i ∙ j))
-
 no_else_at : (e : Bool) → (if e then false else true) ≡ true → e ≡ false
 no_else_at true h = absurd (cc)
 no_else_at false h = refl
@@ -376,6 +447,44 @@ sign_glued true k.Greater h = absurd (cc)
 sign_glued false k.Greater h = absurd (cc)
 sign_glued true _ h = refl
 sign_glued false _ h = refl
+
+increment_glued : (b : Bool) (c : Kind) → is_increment (glued b c) ≡ true → glued b c ≡ c
+increment_glued true k.Greater h = absurd (cc)
+increment_glued false k.Greater h = absurd (cc)
+increment_glued true _ h = refl
+increment_glued false _ h = refl
+
+increment_of : (w : Word) (c : Kind) → is_increment c ≡ true → (sign_of w).kind ≡ c → Is l.increment (w ∷ []) (increment_op c, w.token.pos)
+increment_of w k.PlusPlus i h = λ d. by (inl tt) (tok (rd k.PlusPlus w h) end)
+increment_of w k.MinusMinus i h = λ d. by (inr (inl tt)) (tok (rd k.MinusMinus w h) end)
+increment_of w _ i h = absurd (cc)
+
+increment_at : (w : Word) → is_increment (sign_of w).kind ≡ true → Is l.increment (w ∷ []) (increment_op (kind_of_token w.token), w.token.pos)
+increment_at w h =
+    let same = increment_glued w.glued (kind_of_token w.token) h in
+    increment_of w (kind_of_token w.token) (subst (λ z. is_increment z ≡ true) same h) same
+
+compound_glued : (b : Bool) (c : Kind) → is_compound (glued b c) ≡ true → glued b c ≡ c
+compound_glued true k.Greater h = absurd (cc)
+compound_glued false k.Greater h = absurd (cc)
+compound_glued true _ h = refl
+compound_glued false _ h = refl
+
+compound_of : (w : Word) (c : Kind) → is_compound c ≡ true → (sign_of w).kind ≡ c → Is l.op (w ∷ []) (compound_op c, w.token.pos)
+compound_of w k.PlusEquals i h = λ d. by (inl tt) (tok (rd k.PlusEquals w h) end)
+compound_of w k.MinusEquals i h = λ d. by (inr (inl tt)) (tok (rd k.MinusEquals w h) end)
+compound_of w k.StarEquals i h = λ d. by (inr (inr (inl tt))) (tok (rd k.StarEquals w h) end)
+compound_of w k.SlashEquals i h = λ d. by (inr (inr (inr (inl tt)))) (tok (rd k.SlashEquals w h) end)
+compound_of w k.PercentEquals i h = λ d. by (inr (inr (inr (inr (inl tt))))) (tok (rd k.PercentEquals w h) end)
+compound_of w k.AmpersandEquals i h = λ d. by (inr (inr (inr (inr (inr (inl tt)))))) (tok (rd k.AmpersandEquals w h) end)
+compound_of w k.BarEquals i h = λ d. by (inr (inr (inr (inr (inr (inr (inl tt))))))) (tok (rd k.BarEquals w h) end)
+compound_of w k.CaretEquals i h = λ d. by (inr (inr (inr (inr (inr (inr (inr (inl tt)))))))) (tok (rd k.CaretEquals w h) end)
+compound_of w _ i h = absurd (cc)
+
+compound_at : (w : Word) → is_compound (sign_of w).kind ≡ true → Is l.op (w ∷ []) (compound_op (kind_of_token w.token), w.token.pos)
+compound_at w h =
+    let same = compound_glued w.glued (kind_of_token w.token) h in
+    compound_of w (kind_of_token w.token) (subst (λ z. is_compound z ≡ true) same h) same
 
 op_of : (w : Word) (c : Kind) → is_operator c ≡ true → (sign_of w).kind ≡ c → Is l.operator (w ∷ []) (binary_op c, w.token.pos)
 op_of w k.BarBar i h = λ d. by (inl tt) (tok (rd k.BarBar w h) end)
@@ -419,8 +528,8 @@ cast_at : {a : Word} (b c : Word) {ts xs ls zs ys ws : List Word} {t : TypeTree}
 cast_at b c f1 t f2 f3 x (closed w m g i) h1 h2 h3 f d = tok f1 (part t (tok f2 (tok f3 (part x (part_at m (tok g end) (i ∙ h1)) h2))) h3)
 
 literal_of : (w : Word) (c : Kind) → is_literal c ≡ true → (sign_of w).kind ≡ c → Is l.primary (w ∷ []) (expr_at (L.literal w.token.kind) w.token.pos)
-literal_of w k.Number i h = λ d. by (inr (inl tt)) (tok (rd k.Number w h) end)
-literal_of w k.Character i h = λ d. by (inr (inr (inl tt))) (tok (rd k.Character w h) end)
+literal_of w k.Number i h = λ d. by (inr (inr (inr (inl tt)))) (tok (rd k.Number w h) end)
+literal_of w k.Character i h = λ d. by (inr (inr (inr (inr (inl tt))))) (tok (rd k.Character w h) end)
 literal_of w _ i h = absurd (cc)
 
 add : {xs us zs ws : List Word} {is : List Item} (one : List Item) → Is l.item xs one → ItemsMean us is → us ++ [] ≡ zs → xs ++ zs ≡ ws → ItemsMean ws (one ++ is)
@@ -521,13 +630,13 @@ rule g.Count _ e _ (token {w = wf1} f1 (token {w = wf2} f2 (piece {x = x1} _ x (
 rule g.ByteCount _ e _ (token {w = wf1} f1 (token {w = wf2} f2 (piece {x = x1} _ x (token {w = wf3} f3 none) h))) al = λ d. by (inr (inl tt)) (tok (rd k.ByteCount wf1 f1) (tok (rd k.RoundOpen wf2 f2) (part x (tok (rd k.RoundClose wf3 f3) end) h)))
 rule g.BoundsOf _ e _ (token {w = b} f1 (token {w = a} f2 (piece {x = x1} _ r none h))) al = moved (ap (λ z. b ∷ a ∷ z) (cut h)) (r b a (rd k.Bounds b f1) (rd k.RoundOpen a f2))
 rule g.Unknown _ e _ (token {w = u} f (piece {x = x1} _ r none h)) al = λ b a hb ha. moved (ap (λ z. b ∷ a ∷ u ∷ z) (cut h)) (r b a u hb ha (rd k.Unknown u f))
-rule g.BetweenNamed _ e _ (token {w = w} f (piece {x = x1} us ps (piece {x = x2} rs r (token {w = wf2} f2 (piece {x = x3} _ y (token {w = wf3} f3 none) h3)) h2) h1)) al = λ b a hb ha d.
-    by (inr (inr (inr (inl tt)))) (tok hb (tok ha (part (named_at {w = w} (as_posts x1) (as_steps x2) (as_arms x2) (but_unknown w f) ps r refl) (tok (rd k.Comma wf2 f2) (part y (tok (rd k.RoundClose wf3 f3) end) h3)) (ap (λ z. w ∷ z) (append_assoc us rs _ ∙ ap (λ z. us ++ z) h2 ∙ h1)))))
+rule g.BetweenNamed _ e _ (token {w = w} f (piece {x = x1} us h (piece {x = x2} rs r (token {w = wf2} f2 (piece {x = x3} _ y (token {w = wf3} f3 none) h3)) h2) h1)) al = λ b a hb ha d.
+    by (inr (inr (inr (inl tt)))) (tok hb (tok ha (part (r (w ∷ us) _ (h w (but_unknown w f))) (tok (rd k.Comma wf2 f2) (part y (tok (rd k.RoundClose wf3 f3) end) h3)) (ap (λ z. w ∷ z) (append_assoc us rs _ ∙ ap (λ z. us ++ z) h2 ∙ h1)))))
 rule g.Between _ e _ (piece {x = x1} us x (piece {x = x2} rs r (token {w = wf2} f2 (piece {x = x3} _ y (token {w = wf3} f3 none) h3)) h2) h1) al = λ b a hb ha d.
-    by (inr (inr (inr (inl tt)))) (tok hb (tok ha (part (whole_at (as_steps x2) (as_arms x2) x r) (tok (rd k.Comma wf2 f2) (part y (tok (rd k.RoundClose wf3 f3) end) h3)) (append_assoc us rs _ ∙ ap (λ z. us ++ z) h2 ∙ h1))))
+    by (inr (inr (inr (inl tt)))) (tok hb (tok ha (part (r us _ x) (tok (rd k.Comma wf2 f2) (part y (tok (rd k.RoundClose wf3 f3) end) h3)) (append_assoc us rs _ ∙ ap (λ z. us ++ z) h2 ∙ h1))))
 rule g.UnknownEnd _ e _ (token {w = wf} f none) al = λ b a u hb ha hu d. by (inr (inr (inl tt))) (tok hb (tok ha (tok hu (tok (rd k.RoundClose wf f) end))))
-rule g.UnknownName _ e _ (piece {x = x1} us ps (piece {x = x2} rs r (token {w = wf2} f2 (piece {x = x3} _ y (token {w = wf3} f3 none) h3)) h2) h1) al = λ b a u hb ha hu d.
-    by (inr (inr (inr (inl tt)))) (tok hb (tok ha (part (named_at {w = u} (as_posts x1) (as_steps x2) (as_arms x2) (word_name (codes "unknown") u hu) ps r refl) (tok (rd k.Comma wf2 f2) (part y (tok (rd k.RoundClose wf3 f3) end) h3)) (ap (λ z. u ∷ z) (append_assoc us rs _ ∙ ap (λ z. us ++ z) h2 ∙ h1)))))
+rule g.UnknownName _ e _ (piece {x = x1} us h (piece {x = x2} rs r (token {w = wf2} f2 (piece {x = x3} _ y (token {w = wf3} f3 none) h3)) h2) h1) al = λ b a u hb ha hu d.
+    by (inr (inr (inr (inl tt)))) (tok hb (tok ha (part (r (u ∷ us) _ (h u (word_name (codes "unknown") u hu))) (tok (rd k.Comma wf2 f2) (part y (tok (rd k.RoundClose wf3 f3) end) h3)) (ap (λ z. u ∷ z) (append_assoc us rs _ ∙ ap (λ z. us ++ z) h2 ∙ h1)))))
 rule g.EndBlock _ e _ (token {w = wf} f none) al = ([], closed wf (no_more _) (rd k.CurlyClose wf f) refl, refl)
 rule g.Locals _ e _ (piece {x = x1} _ x (piece {x = x2} _ y none h2) h1) al = locals_at x y h2 h1
 rule g.Stmts _ e _ (piece {x = x1} _ x (piece {x = x2} _ y none h2) h1) al = stmts_at e x y h2 h1
@@ -538,26 +647,51 @@ rule g.LocalName _ e _ (piece {x = p} _ ps (token {w = a} f (piece {x = q} _ b (
 rule g.LocalInitial _ e _ (token {w = w} f (piece {x = x1} _ i none h)) al = (Some _, moved (ap (λ z. w ∷ z) (cut h)) (something (after_token (rd k.Equals w f) i)), refl)
 rule g.NoLocalInitial _ e _ none al = (None, nothing, refl)
 rule g.CallocValue _ e _ (token {w = w} f (piece {x = x1} _ c none h)) al = moved (ap (λ z. w ∷ z) (cut h)) (c w (calloc_name w f) (rd k.Calloc w f))
-rule g.NamedValue _ e _ (token {w = w} f (piece {x = x1} _ c none h)) al = moved (ap (λ z. w ∷ z) (cut h)) (c w (but_calloc w f))
-rule g.Value _ e _ (piece {x = x1} us x (piece {x = x2} _ r none h2) h1) al = moved (ap (λ z. us ++ z) (cut h2) ∙ h1) (right_at (whole_at (as_steps x2) (as_arms x2) x r))
-rule g.CallValue _ e _ (token {w = b} f (piece {x = x1} _ c none h)) al = λ a ha. moved (ap (λ z. a ∷ b ∷ z) (cut h)) (call_at (c a b ha (rd k.RoundOpen b f)))
-rule g.ExprValue _ e _ (piece {x = x1} us ps (piece {x = x2} _ r none h2) h1) al = λ a ha. right_at (named_at (as_posts x1) (as_steps x2) (as_arms x2) ha ps r (ap (λ z. us ++ z) (cut h2) ∙ h1))
-rule g.CallocCall _ e _ (token {w = b} f (piece {x = x1} _ c none h)) al = λ a ha hc. moved (ap (λ z. a ∷ b ∷ z) (cut h)) (call_at (c a b ha (rd k.RoundOpen b f)))
+rule g.NamedValue _ e _ (token {w = w} f (piece {x = x1} us h (piece {x = x2} _ r none h2) h1)) al = moved (ap (λ z. w ∷ z) (ap (λ z. us ++ z) (cut h2) ∙ h1)) (right_at (r (w ∷ us) _ (h w (but_calloc w f))))
+rule g.Value _ e _ (piece {x = x1} us x (piece {x = x2} _ r none h2) h1) al = moved (ap (λ z. us ++ z) (cut h2) ∙ h1) (right_at (r us _ x))
+rule g.CallocCall _ e _ (token {w = b} f (piece {x = x1} us c (piece {x = x2} ps p (piece {x = x3} os i (piece {x = x4} rs r none h4) h3) h2) h1)) al = λ a ha hc.
+    moved (ap (λ z. a ∷ b ∷ z) (append_assoc (us ++ ps) os rs ∙ append_assoc us ps (os ++ rs) ∙ ap (λ z. us ++ z) (ap (λ z. ps ++ z) (ap (λ z. os ++ z) (cut h4) ∙ h3) ∙ h2) ∙ h1))
+    (right_at (r (a ∷ b ∷ ((us ++ ps) ++ os)) _ (unary_at {us = a ∷ b ∷ (us ++ ps)} (as_increment x3) (postfix_at {us = a ∷ b ∷ us} (as_posts x2) (c a b ha (rd k.RoundOpen b f)).1 p refl) i refl)))
 rule g.CallocLess _ e _ (token {w = b} f (piece {x = x1} _ c none h)) al = λ a ha hc. moved (ap (λ z. a ∷ b ∷ z) (cut h)) (c a b ha hc (rd k.Less b f))
-rule g.CallocPost _ e _ (piece {x = x1} us p (piece {x = x2} xs ps (piece {x = x3} _ r none h3) h2) h1) al = λ a ha hc. right_at (named_at (as_post x1 ∷ as_posts x2) (as_steps x3) (as_arms x3) ha (post_first (as_post x1) (as_posts x2) p ps refl) r
-    (append_assoc us xs _ ∙ ap (λ z. us ++ z) (ap (λ z. xs ++ z) (cut h3) ∙ h2) ∙ h1))
-rule g.CallocStep _ e _ (piece {x = x1} us o (piece {x = x2} xs x (piece {x = x3} _ r none h3) h2) h1) al = λ a ha hc. right_at (moved (ap (λ z. a ∷ z) h1) (whole_at {us = a ∷ []} (v.step x1 x2 ∷ as_steps x3) (as_arms x3) (postfix_at {us = a ∷ []} [] (name_at ha) no_posts refl)
-    (step_at {us = us} (as_steps x3) (as_arms x3) o x r (ap (λ z. xs ++ z) (cut h3) ∙ h2))))
-rule g.CallocName _ e _ (piece {x = y} us c none h) al = λ a ha hc. right_at (named (ap (λ z. T.picked z (as_arms y)) (join_none (v.named a.token))) (whole_at {us = a ∷ []} [] (as_arms y) (postfix_at {us = a ∷ []} [] (name_at ha) no_posts refl) (no_steps us (as_arms y) c (cut h))))
-rule g.LessOperand _ e _ (piece {x = x1} us x (piece {x = x2} _ r none h2) h1) al = λ a b ha hc hb. right_at (whole_at {us = a ∷ []} (record { op = op.Lt; pos = b.token.pos; operand = as_expr x1 } ∷ as_steps x2) (as_arms x2) (postfix_at {us = a ∷ []} [] (name_at ha) no_posts refl)
-    (step_at {us = b ∷ []} {o = (op.Lt, b.token.pos)} (as_steps x2) (as_arms x2) (λ d. by (inr (inr (inr (inr (inr (inr (inr (inl tt)))))))) (tok hb end)) x r (ap (λ z. us ++ z) (cut h2) ∙ h1)))
-rule g.LessType _ e _ (piece {x = x1} _ c none h) al = λ a b ha hc hb. moved (ap (λ z. a ∷ b ∷ z) (cut h)) (call_at (c a b hc hb).0)
-rule g.NoArguments _ e _ (token {w = wf} f none) al = λ a b ha hb d. by (inl tt) (tok ha (tok hb (tok (rd k.RoundClose wf f) end)))
-rule g.Arguments _ e _ (piece {x = x1} us x (piece {x = x2} _ xs none h2) h1) al = λ a b ha hb d. by (inr (inl tt)) (tok ha (tok hb (arguments_at x xs (ap (λ z. us ++ z) (cut h2) ∙ h1))))
+rule g.CallocPost _ e _ (piece {x = x1} us p (piece {x = x2} xs ps (piece {x = x3} os i (piece {x = x4} rs r none h4) h3) h2) h1) al = λ a ha hc.
+    moved (ap (λ z. a ∷ z) (append_assoc (us ++ xs) os rs ∙ append_assoc us xs (os ++ rs) ∙ ap (λ z. us ++ z) (ap (λ z. xs ++ z) (ap (λ z. os ++ z) (cut h4) ∙ h3) ∙ h2) ∙ h1))
+    (right_at (r (a ∷ ((us ++ xs) ++ os)) _ (unary_at {us = a ∷ (us ++ xs)} (as_increment x3) (postfix_at {us = a ∷ []} (as_post x1 ∷ as_posts x2) (name_at ha) (post_first (as_post x1) (as_posts x2) p ps refl) refl) i refl)))
+rule g.CallocIncrement _ e _ (token {w = w} f (piece {x = x1} _ r none h)) al = λ a ha hc. moved (ap (λ z. a ∷ w ∷ z) (cut h))
+    (right_at (r (a ∷ w ∷ []) _ (unary_at {us = a ∷ []} (Some (record { op = increment_op (kind_of_token w.token); pos = w.token.pos })) (postfix_at {us = a ∷ []} [] (name_at ha) no_posts refl) (something (increment_at w f)) refl)))
+rule g.CallocSetting _ e _ (piece {x = x1} us m none h) al = λ a ha hc. moved (ap (λ z. a ∷ z) (cut h)) (right_at (named (ap (λ z. v.finished (v.named a.token) [] None z) (sym m.2)) (expr_by {us = a ∷ []} (named_unary ha) m.1 refl)))
+rule g.CallocStep _ e _ (piece {x = x1} us o (piece {x = x2} xs x (piece {x = x3} _ r none h3) h2) h1) al = λ a ha hc. right_at (moved (ap (λ z. a ∷ z) h1) (whole_at {us = a ∷ []} (v.step x1 x2 ∷ as_steps x3) (as_arms x3) (named_unary ha)
+    (step_at {us = us} (as_steps x3) (as_arms x3) o x r.0 (ap (λ z. xs ++ z) (cut h3) ∙ h2))))
+rule g.CallocName _ e _ (piece {x = y} us c none h) al = λ a ha hc. right_at (named (ap (λ z. T.picked z (as_arms y)) (join_none (v.named a.token))) (whole_at {us = a ∷ []} [] (as_arms y) (named_unary ha) (no_steps us (as_arms y) c (cut h))))
+rule g.LessOperand _ e _ (piece {x = x1} us x (piece {x = x2} _ r none h2) h1) al = λ a b ha hc hb. right_at (whole_at {us = a ∷ []} (record { op = op.Lt; pos = b.token.pos; operand = as_expr x1 } ∷ as_steps x2) (as_arms x2) (named_unary ha)
+    (step_at {us = b ∷ []} {o = (op.Lt, b.token.pos)} (as_steps x2) (as_arms x2) (λ d. by (inr (inr (inr (inr (inr (inr (inr (inl tt)))))))) (tok hb end)) x r.0 (ap (λ z. us ++ z) (cut h2) ∙ h1)))
+rule g.LessType _ e _ (piece {x = x1} _ c none h) al = λ a b ha hc hb. moved (ap (λ z. a ∷ b ∷ z) (cut h)) (calloc_right (c a b hc hb).0)
+rule g.NoArguments _ e _ (token {w = wf} f none) al = λ a b ha hb. ((λ d. by (inl tt) (tok ha (tok hb (tok (rd k.RoundClose wf f) end)))), (λ d. by (inr (inl tt)) (tok ha (tok hb (tok (rd k.RoundClose wf f) end)))))
+rule g.Arguments _ e _ (piece {x = x1} us x (piece {x = x2} _ xs none h2) h1) al = λ a b ha hb.
+    ((λ d. by (inr (inl tt)) (tok ha (tok hb (arguments_at x xs (ap (λ z. us ++ z) (cut h2) ∙ h1))))), (λ d. by (inr (inr (inl tt))) (tok ha (tok hb (arguments_at x xs (ap (λ z. us ++ z) (cut h2) ∙ h1))))))
 rule g.MoreArguments _ e _ (token {w = wf} f (piece {x = x1} us p (piece {x = x2} _ ps none h2) h1)) al = closed_cons (rd k.Comma wf f) p ps (ap (λ z. us ++ z) (cut h2) ∙ h1)
 rule g.EndArguments _ e _ (token {w = wf} f none) al = closed wf (no_more _) (rd k.RoundClose wf f) refl
-rule g.Allocation _ e _ (piece {x = x1} _ t (token {w = wf1} f1 (token {w = wf2} f2 (piece {x = x2} _ x (token {w = wf3} f3 (token {w = wf4} f4 (token {w = wf5} f5 (piece {x = x3} _ u (token {w = wf6} f6 (token {w = wf7} f7 none)) h3)))) h2))) h1) al = λ a b ha hb. ((λ d. by (inr (inr (inl tt))) (tok ha (tok hb (part t (tok (gr wf1 f1) (tok (rd k.RoundOpen wf2 f2) (part x (tok (rd k.Comma wf3 f3) (tok (rd k.Sizeof wf4 f4) (tok (rd k.RoundOpen wf5 f5) (part u (tok (rd k.RoundClose wf6 f6) (tok (rd k.RoundClose wf7 f7) end)) h3)))) h2))) h1)))), refl)
-rule g.Assign _ e _ (piece {x = x1} _ x (token {w = wf} f (piece {x = x2} _ y none h2)) h1) al = λ d. by (inl tt) (part x (tok (rd k.Equals wf f) (last y refl h2)) h1)
+rule g.Allocation _ e _ (piece {x = x1} _ t (token {w = wf1} f1 (token {w = wf2} f2 (piece {x = x2} _ x (token {w = wf3} f3 (token {w = wf4} f4 (token {w = wf5} f5 (piece {x = x3} _ u (token {w = wf6} f6 (token {w = wf7} f7 none)) h3)))) h2))) h1) al = λ a b ha hb. ((λ d. by (inl tt) (tok ha (tok hb (part t (tok (gr wf1 f1) (tok (rd k.RoundOpen wf2 f2) (part x (tok (rd k.Comma wf3 f3) (tok (rd k.Sizeof wf4 f4) (tok (rd k.RoundOpen wf5 f5) (part u (tok (rd k.RoundClose wf6 f6) (tok (rd k.RoundClose wf7 f7) end)) h3)))) h2))) h1)))), refl)
+rule g.SetTo _ e _ (token {w = w} f (piece {x = x1} _ y none h)) al = (_, set_to w (rd k.Equals w f) y (ap (λ z. w ∷ z) (cut h)) refl, refl)
+rule g.SetBy _ e _ (token {w = w} f (piece {x = x1} _ y none h)) al = (_, set_by {us = w ∷ []} (compound_at w f) y (ap (λ z. w ∷ z) (cut h)) refl, refl)
+rule g.LaterSetting _ e _ (piece {x = x1} us m none h) al = later_moved (as_setting x1) (cut h) (subst (λ z. LaterTail us z) (sym m.2) m.1)
+rule g.NoSetting _ e _ none al = refl
+rule g.SettingChange _ e _ (piece {x = x1} _ m none h) al = λ us y hy. owed_by x1 (unary_at None hy nothing (append-nil us)) m (ap (λ z. us ++ z) (cut h))
+rule g.IncrementChange _ e _ (token {w = w} f (piece {x = x1} _ t none h)) al = λ us y hy. increment_change {os = w ∷ []} (record { op = increment_op (kind_of_token w.token); pos = w.token.pos }) (as_setting x1) hy (increment_at w f) t (ap (λ z. us ++ (w ∷ z)) (cut h))
+rule g.NamedAssign _ e _ (token {w = w} f (piece {x = x1} us c (piece {x = x2} ps p (piece {x = x3} ds d none h3) h2) h1)) al =
+    moved (ap (λ z. w ∷ z) (append_assoc us ps ds ∙ ap (λ z. us ++ z) (ap (λ z. ps ++ z) (cut h3) ∙ h2) ∙ h1)) (d (w ∷ (us ++ ps)) _ (postfix_at {us = w ∷ us} (as_posts x2) (c w (nm w f)) p refl))
+rule g.UnnamedAssign _ e _ (piece {x = x1} _ x none h) al = moved (cut h) x
+rule g.SignedAssign _ e _ (token {w = w} f (piece {x = x1} us x (piece {x = x2} _ m none h2) h1)) al = owed_by {us = w ∷ us} x2 (signed_at w f x) m (ap (λ z. w ∷ z) (ap (λ z. us ++ z) (cut h2) ∙ h1))
+rule g.IncrementAssign _ e _ (token {w = w} f (piece {x = x1} us x (piece {x = x2} _ t none h2) h1)) al = stepped_at {os = w ∷ []} (record { op = increment_op (kind_of_token w.token); pos = w.token.pos }) (as_setting x2) (increment_at w f) x t (ap (λ z. w ∷ z) (ap (λ z. us ++ z) (cut h2) ∙ h1))
+rule g.RoundAssign _ e _ (token {w = w} f (piece {x = x1} _ r none h)) al = moved (ap (λ z. w ∷ z) (cut h)) (r w (rd k.RoundOpen w f))
+rule g.SizeofAssign _ e _ (token {w = wf1} f1 (token {w = wf2} f2 (piece {x = x1} us t (token {w = wf3} f3 (piece {x = x2} _ m none h2)) h1))) al =
+    owed_by {us = wf1 ∷ wf2 ∷ (us ++ (wf3 ∷ []))} x2 (sizeof_at (rd k.Sizeof wf1 f1) (rd k.RoundOpen wf2 f2) t (rd k.RoundClose wf3 f3) refl) m (ap (λ z. wf1 ∷ wf2 ∷ z) (append_assoc us (wf3 ∷ []) _ ∙ ap (λ z. us ++ (wf3 ∷ z)) (cut h2) ∙ h1))
+rule g.PostfixAssign _ e _ (piece {x = x1} us x (piece {x = x2} ps p (piece {x = x3} ds d none h3) h2) h1) al =
+    moved (append_assoc us ps ds ∙ ap (λ z. us ++ z) (ap (λ z. ps ++ z) (cut h3) ∙ h2) ∙ h1) (d (us ++ ps) _ (postfix_at (as_posts x2) x p refl))
+rule g.ParenAssign _ e _ (piece {x = x1} us x (token {w = w} f (piece {x = x2} ps p (piece {x = x3} ds d none h3) h2)) h1) al = λ a ha.
+    moved (ap (λ z. a ∷ z) (append_assoc (us ++ (w ∷ [])) ps ds ∙ append_assoc us (w ∷ []) (ps ++ ds) ∙ ap (λ z. us ++ (w ∷ z)) (ap (λ z. ps ++ z) (cut h3) ∙ h2) ∙ h1))
+    (d (a ∷ ((us ++ (w ∷ [])) ++ ps)) _ (postfix_at {us = a ∷ (us ++ (w ∷ []))} (as_posts x2) (round_at ha x (rd k.RoundClose w f) refl) p refl))
+rule g.CastAssign _ e _ (piece {x = x1} us t (token {w = w} f (piece {x = x2} xs x (piece {x = x3} _ m none h3) h2)) h1) al = λ a ha.
+    owed_by {us = a ∷ (us ++ (w ∷ xs))} x3 (to_type ha t (rd k.RoundClose w f) x refl) m (ap (λ z. a ∷ z) (append_assoc us (w ∷ xs) _ ∙ ap (λ z. us ++ (w ∷ z)) (ap (λ z. xs ++ z) (cut h3) ∙ h2) ∙ h1))
 rule g.ModedBlock _ e _ (piece {x = x1} _ m (token {w = wf} f (piece {x = x2} _ ss none h2)) h1) al = by (inr (inl tt)) (part m (only (block_at (rd k.CurlyOpen wf f) ss.1 ss.2 (cut h2)) refl) h1)
 rule g.Block _ e _ (token {w = wf} f (piece {x = x1} _ ss none h)) al = by (inl tt) (only (block_at (rd k.CurlyOpen wf f) ss.1 ss.2 (cut h)) refl)
 rule g.Empty _ e _ (token {w = wf} f none) al = by (inr (inr (inl tt))) (tok (rd k.Semicolon wf f) end)
@@ -569,13 +703,19 @@ rule g.Break _ e _ (token {w = wf1} f1 (token {w = wf2} f2 none)) al = by (inr (
 rule g.Continue _ e _ (token {w = wf1} f1 (token {w = wf2} f2 none)) al = by (inr (inr (inr (inr (inr (inr (inr (inr (inr (inr (inr (inl tt)))))))))))) (tok (rd k.Continue wf1 f1) (tok (rd k.Semicolon wf2 f2) end))
 rule g.Check _ e _ (token {w = wf1} f1 (token {w = wf2} f2 (piece {x = x1} _ x (token {w = wf3} f3 (token {w = wf4} f4 none)) h))) al = by (inr (inr (inr (inr (inr (inr (inr (inr (inr (inr (inr (inr (inl tt))))))))))))) (tok (rd k.Check wf1 f1) (tok (rd k.RoundOpen wf2 f2) (part x (tok (rd k.RoundClose wf3 f3) (tok (rd k.Semicolon wf4 f4) end)) h)))
 rule g.Bundle _ e _ (token {w = wf1} f1 (token {w = wf2} f2 (piece {x = x1} _ x (token {w = wf3} f3 (piece {x = x2} _ y (token {w = wf4} f4 (piece {x = x3} _ zs none h3)) h2)) h1))) al = bundle_at wf3 wf4 (rd k.Bundled wf1 f1) (rd k.CurlyOpen wf2 f2) x (rd k.Semicolon wf3 f3) y (rd k.Semicolon wf4 f4) zs (cut h3) h2 h1
-rule g.CallocStmt _ e _ (token {w = w} f (piece {x = x1} _ c none h)) al = moved (ap (λ z. w ∷ z) (cut h)) (c w (calloc_name w f) (rd k.Calloc w f)) e
-rule g.NamedStmt _ e _ (token {w = w} f (piece {x = x1} _ c none h)) al = moved (ap (λ z. w ∷ z) (cut h)) (c w (but_calloc w f)) e
-rule g.AssignStmt _ e _ (piece {x = x1} _ x (token {w = wf1} f1 (piece {x = x2} _ y (token {w = wf2} f2 none) h2)) h1) al = assign_stmt wf1 wf2 x (rd k.Equals wf1 f1) y (rd k.Semicolon wf2 f2) h2 h1 e
-rule g.CallocTypeStmt _ e _ (token {w = b} f1 (piece {x = y} _ c (token {w = wf2} f2 none) h)) al = λ a ha hc d. by (inr (inr (inr (inr (inl tt))))) (part (c a b hc (rd k.Less b f1)).0 (tok (rd k.Semicolon wf2 f2) (done (ap (λ z. L.stmt_at (act.Call (as_expr_of_name y a.token)) z) (c a b hc (rd k.Less b f1)).1))) (ap (λ z. a ∷ b ∷ z) h))
-rule g.CallocNameStmt _ e _ (piece {x = x1} _ c none h) al = λ a ha hc. moved (ap (λ z. a ∷ z) (cut h)) (c a ha)
-rule g.CallStmt _ e _ (token {w = b} f1 (piece {x = x1} _ c (token {w = wf2} f2 none) h)) al = λ a ha d. by (inr (inr (inr (inr (inl tt))))) (part (c a b ha (rd k.RoundOpen b f1)) (tok (rd k.Semicolon wf2 f2) end) (ap (λ z. a ∷ b ∷ z) h))
-rule g.NamedAssign _ e _ (piece {x = x1} _ ps (token {w = wf1} f1 (piece {x = x2} _ y (token {w = wf2} f2 none) h2)) h1) al = λ a ha. assign_stmt wf1 wf2 (postfix_at {us = a ∷ []} (as_posts x1) (name_at ha) ps refl) (rd k.Equals wf1 f1) y (rd k.Semicolon wf2 f2) h2 (ap (λ z. a ∷ z) h1)
+rule g.CallocStmt _ e _ (token {w = w} f (piece {x = x1} _ c (token {w = b} f2 none) h)) al = moved (ap (λ z. w ∷ z) h) (c w b (calloc_name w f) (rd k.Calloc w f) (rd k.Semicolon b f2)) e
+rule g.NamedStmt _ e _ (token {w = w} f (piece {x = x1} _ c (token {w = b} f2 none) h)) al = moved (ap (λ z. w ∷ z) h) (c w b (but_calloc w f) (rd k.Semicolon b f2)) e
+rule g.AssignStmt _ e _ (piece {x = x1} _ x (token {w = b} f none) h) al = assign_line b x (rd k.Semicolon b f) h e
+rule g.CallocTypeStmt _ e _ (token {w = b} f1 (piece {x = y} us c none h)) al = λ a s ha hc hs. let q = c a b hc (rd k.Less b f1) in
+    moved (ap (λ z. a ∷ b ∷ (z ++ (s ∷ []))) (cut h)) (named (ap (λ z. L.stmt_at (act.Call (as_expr_of_name y a.token)) z) q.1) (call_line {us = a ∷ b ∷ us} s (λ d. by (inr (inr (inl tt))) (only q.0 refl)) hs refl))
+rule g.CallocNameStmt _ e _ (piece {x = x1} _ c none h) al = λ a s ha hc hs. moved (ap (λ z. a ∷ (z ++ (s ∷ []))) (cut h)) (c a s ha hs)
+rule g.CallStmt _ e _ (token {w = b} f1 (piece {x = x1} us c (piece {x = x2} rs m none h2) h1)) al = λ a s ha hs. let q = c a b ha (rd k.RoundOpen b f1) in
+    moved (ap (λ z. a ∷ b ∷ z) (sym (append_assoc us rs (s ∷ [])) ∙ ap (λ z. z ++ (s ∷ [])) (ap (λ z. us ++ z) (cut h2) ∙ h1))) (m (a ∷ b ∷ us) _ s q.0 q.1 hs)
+rule g.ChangeStmt _ e _ (piece {x = x1} ps p (piece {x = x2} ds d none h2) h1) al = λ a s ha hs.
+    assign_line {us = a ∷ (ps ++ ds)} s (d (a ∷ ps) _ (postfix_at {us = a ∷ []} (as_posts x1) (name_at ha) p refl)) hs (ap (λ z. a ∷ (z ++ (s ∷ []))) (ap (λ z. ps ++ z) (cut h2) ∙ h1))
+rule g.CalledStmt _ e _ none al = λ us y s hc hp hs. call_line s hc hs refl
+rule g.CalledChange _ e _ (piece {x = x1} ps p (piece {x = x2} ds d none h2) h1) al = λ us y s hc hp hs.
+    assign_line {us = (us ++ ps) ++ ds} s (d (us ++ ps) _ (postfix_at (as_posts x1) hp p refl)) hs (append_assoc (us ++ ps) ds (s ∷ []) ∙ append_assoc us ps (ds ++ (s ∷ [])) ∙ ap (λ z. us ++ z) (sym (append_assoc ps ds (s ∷ [])) ∙ ap (λ z. z ++ (s ∷ [])) (ap (λ z. ps ++ z) (cut h2) ∙ h1)))
 rule g.Else _ e _ (token {w = wf} f (piece {x = x1} _ s none h)) al = λ q. tok (rd k.Else wf f) (last_at s refl h)
 rule g.NoElse _ e _ none al = (refl, no_else_at e al)
 rule g.NoCondition _ e _ (token {w = wf} f none) al = closed wf (nothing _) (rd k.Semicolon wf f) refl
@@ -587,8 +727,10 @@ rule g.NoStep _ e _ (token {w = wf} f none) al = closed wf (nothing _) (rd k.Rou
 rule g.AssignStep _ e _ (piece {x = x1} _ s (token {w = wf} f none) h) al = closed wf (something s _) (rd k.RoundClose wf f) h
 rule g.EndAssigns _ e _ (token {w = wf} f none) al = closed wf (no_more _) (rd k.CurlyClose wf f) refl
 rule g.Assigns _ e _ (piece {x = x1} _ s (token {w = wf} f (piece {x = x2} _ ss none h2)) h1) al = assigns_at wf s (rd k.Semicolon wf f) ss (cut h2) h1
-rule g.Expr _ e _ (piece {x = x1} us x (piece {x = x2} _ r none h2) h1) al = moved (ap (λ z. us ++ z) (cut h2) ∙ h1) (whole_at (as_steps x2) (as_arms x2) x r)
-rule g.ExprRest _ e _ (piece {x = x1} us ss (piece {x = x2} ws c none h2) h1) al = (us, ws, ap (λ z. us ++ z) (cut h2) ∙ h1, ss, c)
+rule g.Expr _ e _ (piece {x = x1} us x (piece {x = x2} _ r none h2) h1) al = moved (ap (λ z. us ++ z) (cut h2) ∙ h1) (r us _ x)
+rule g.ExprRest _ e _ (piece {x = x1} _ c none h) al = λ us y hy. moved (ap (λ z. us ++ z) (cut h)) (named (ap (λ z. v.finished y (as_steps x1) (as_arms x1) z) (sym c.1)) (whole_at (as_steps x1) (as_arms x1) hy c.0))
+rule g.ExprSetting _ e _ (piece {x = x1} _ m none h) al = λ us y hy. named (ap (λ z. v.finished y [] None z) (sym m.2)) (expr_by hy m.1 (ap (λ z. us ++ z) (cut h)))
+rule g.Chain _ e _ (piece {x = x1} us ss (piece {x = x2} ws c none h2) h1) al = ((us, ws, ap (λ z. us ++ z) (cut h2) ∙ h1, ss, c), refl)
 rule g.Choice _ e _ (token {w = wf1} f1 (piece {x = x1} _ x (token {w = wf2} f2 (piece {x = x2} _ y none h2)) h1)) al = λ d q. tok (rd k.Question wf1 f1) (part x (tok (rd k.Colon wf2 f2) (last y refl h2)) h1)
 rule g.NoChoice _ e _ none al = refl
 rule g.Step _ e _ (piece {x = x1} us o (piece {x = x2} xs x (piece {x = x3} _ ss none h3) h2) h1) al = one_more (step_of o x refl) ss (append_assoc us xs _ ∙ ap (λ z. us ++ z) (ap (λ z. xs ++ z) (cut h3) ∙ h2) ∙ h1)
@@ -599,30 +741,39 @@ rule g.Operator _ e _ (token {w = w} f none) al = operator_at w f
 rule g.Greater _ e _ (token {w = w} f (piece {x = x1} _ s none h)) al = moved (ap (λ z. w ∷ z) (cut h)) (s w (gr w f))
 rule g.Second _ e _ (token {w = wf} f none) al = λ a ha d. by (inr (inr (inr (inr (inr (inr (inr (inr (inr (inr (inr (inr (inl tt))))))))))))) (tok ha (tok (rd k.GreaterNext wf f) end))
 rule g.NoSecond _ e _ none al = λ a ha d. by (inr (inr (inr (inr (inr (inr (inr (inr (inr (inl tt)))))))))) (tok ha end)
-rule g.Named _ e _ (token {w = w} f (piece {x = x1} _ ps none h)) al = postfix_at {us = w ∷ []} (as_posts x1) (name_at (nm w f)) ps (ap (λ z. w ∷ z) (cut h))
+rule g.Named _ e _ (token {w = w} f (piece {x = x1} _ q none h)) al = moved (ap (λ z. w ∷ z) (cut h)) (q w (nm w f))
+rule g.NameRest _ e _ (piece {x = x1} us c (piece {x = x2} ps p (piece {x = x3} os i none h3) h2) h1) al = λ a ha.
+    unary_at {us = a ∷ (us ++ ps)} (as_increment x3) (postfix_at {us = a ∷ us} (as_posts x2) (c a ha) p refl) i (ap (λ z. a ∷ z) (append_assoc us ps os ∙ ap (λ z. us ++ z) (ap (λ z. ps ++ z) (cut h3) ∙ h2) ∙ h1))
+rule g.CallRest _ e _ (token {w = b} f (piece {x = x1} _ c none h)) al = λ a ha. moved (ap (λ z. a ∷ b ∷ z) (cut h)) (c a b ha (rd k.RoundOpen b f)).1
+rule g.NoCall _ e _ none al = λ a ha. name_at ha
+rule g.Increment _ e _ (token {w = w} f none) al = something (increment_at w f)
+rule g.NoIncrement _ e _ none al = nothing
 rule g.Unnamed _ e _ (piece {x = x1} _ x none h) al = moved (cut h) x
 rule g.Signed _ e _ (token {w = w} f (piece {x = x1} _ x none h)) al = moved (ap (λ z. w ∷ z) (cut h)) (signed_at w f x)
+rule g.Incremented _ e _ (token {w = w} f (piece {x = x1} _ x none h)) al = set_before {os = w ∷ []} (increment_at w f) x (ap (λ z. w ∷ z) (cut h))
 rule g.Round _ e _ (token {w = w} f (piece {x = x1} _ r none h)) al = moved (ap (λ z. w ∷ z) (cut h)) (r w (rd k.RoundOpen w f))
-rule g.Sizeof _ e _ (token {w = wf1} f1 (token {w = wf2} f2 (piece {x = x1} _ t (token {w = wf3} f3 none) h))) al = λ d. by (inr (inr (inr (inr (inr (inr (inr (inl tt)))))))) (tok (rd k.Sizeof wf1 f1) (tok (rd k.RoundOpen wf2 f2) (part t (tok (rd k.RoundClose wf3 f3) end) h)))
-rule g.Postfix _ e _ (piece {x = x1} us x (piece {x = x2} _ ps none h2) h1) al = postfix_at (as_posts x2) x ps (ap (λ z. us ++ z) (cut h2) ∙ h1)
-rule g.Paren _ e _ (piece {x = x1} us x (token {w = w} f (piece {x = x2} _ ps none h2)) h1) al = λ a ha. postfix_at {us = a ∷ (us ++ (w ∷ []))} (as_posts x2) (λ d. by (inr (inr (inr (inr (inr (inr (inl tt))))))) (tok ha (part x (tok (rd k.RoundClose w f) end) refl))) ps
-    (ap (λ z. a ∷ z) (append_assoc us (w ∷ []) _ ∙ ap (λ z. us ++ (w ∷ z)) (cut h2) ∙ h1))
-rule g.Cast _ e _ (piece {x = x1} _ t (token {w = wf} f (piece {x = x2} _ x none h2)) h1) al = λ a ha d. by (inr (inr (inr (inr (inr (inr (inl tt))))))) (tok ha (part t (tok (rd k.RoundClose wf f) (last x refl h2)) h1))
+rule g.Sizeof _ e _ (token {w = wf1} f1 (token {w = wf2} f2 (piece {x = x1} _ t (token {w = wf3} f3 none) h))) al = sizeof_at (rd k.Sizeof wf1 f1) (rd k.RoundOpen wf2 f2) t (rd k.RoundClose wf3 f3) h
+rule g.Postfix _ e _ (piece {x = x1} us x (piece {x = x2} ps p (piece {x = x3} os i none h3) h2) h1) al =
+    unary_at {us = us ++ ps} (as_increment x3) (postfix_at (as_posts x2) x p refl) i (append_assoc us ps os ∙ ap (λ z. us ++ z) (ap (λ z. ps ++ z) (cut h3) ∙ h2) ∙ h1)
+rule g.Paren _ e _ (piece {x = x1} us x (token {w = w} f (piece {x = x2} ps p (piece {x = x3} os i none h3) h2)) h1) al = λ a ha.
+    unary_at {us = a ∷ ((us ++ (w ∷ [])) ++ ps)} (as_increment x3) (postfix_at {us = a ∷ (us ++ (w ∷ []))} (as_posts x2) (round_at ha x (rd k.RoundClose w f) refl) p refl) i
+    (ap (λ z. a ∷ z) (append_assoc (us ++ (w ∷ [])) ps os ∙ append_assoc us (w ∷ []) (ps ++ os) ∙ ap (λ z. us ++ (w ∷ z)) (ap (λ z. ps ++ z) (cut h3) ∙ h2) ∙ h1))
+rule g.Cast _ e _ (piece {x = x1} us t (token {w = wf} f (piece {x = x2} _ x none h2)) h1) al = λ a ha. to_type ha t (rd k.RoundClose wf f) x (ap (λ z. us ++ (wf ∷ z)) (cut h2) ∙ h1)
 rule g.Posts _ e _ (piece {x = x1} us p (piece {x = x2} _ ps none h2) h1) al = post_first (as_post x1) (as_posts x2) p ps (ap (λ z. us ++ z) (cut h2) ∙ h1)
 rule g.NoPosts _ e _ none al = ([], no_more, λ y. refl)
 rule g.Index _ e _ (token {w = wf1} f1 (piece {x = x1} _ x (token {w = wf2} f2 none) h)) al = (_, (λ d. by (inl tt) (tok (rd k.SquareOpen wf1 f1) (part x (tok (rd k.SquareClose wf2 f2) end) h))), λ y ps. refl)
 rule g.Dot _ e _ (token {w = wf1} f1 (token {w = wf2} f2 none)) al = (_, (λ d. by (inr (inl tt)) (tok (rd k.Dot wf1 f1) (tok (nm wf2 f2) end))), λ y ps. refl)
 rule g.Arrow _ e _ (token {w = wf1} f1 (token {w = wf2} f2 none)) al = (_, (λ d. by (inr (inr (inl tt))) (tok (rd k.Arrow wf1 f1) (tok (nm wf2 f2) end))), λ y ps. refl)
 rule g.Constant _ e _ (piece {x = x1} _ x none h) al = moved (cut h) x
-rule g.Tested _ e _ (token {w = w} f (piece {x = x1} _ c none h)) al = moved (ap (λ z. w ∷ z) (cut h)) (λ d. by (inr (inr (inr (inr (inr (inr (inr (inl tt)))))))) (tok (rd k.Tested w f) (c _ d)))
-rule g.Trusted _ e _ (token {w = w} f (piece {x = x1} _ c none h)) al = moved (ap (λ z. w ∷ z) (cut h)) (λ d. by (inr (inr (inr (inr (inr (inr (inr (inr (inl tt))))))))) (tok (rd k.Trusted w f) (c _ d)))
+rule g.Tested _ e _ (token {w = w} f (piece {x = x1} _ c none h)) al = moved (ap (λ z. w ∷ z) (cut h)) (λ d. by (inr (inr (inr (inr (inr (inr (inr (inr (inr (inl tt)))))))))) (tok (rd k.Tested w f) (c _ d)))
+rule g.Trusted _ e _ (token {w = w} f (piece {x = x1} _ c none h)) al = moved (ap (λ z. w ∷ z) (cut h)) (λ d. by (inr (inr (inr (inr (inr (inr (inr (inr (inr (inr (inl tt))))))))))) (tok (rd k.Trusted w f) (c _ d)))
 rule g.BoundsCast _ e _ (token {w = wf1} f1 (piece {x = x1} _ t (token {w = wf2} f2 (token {w = wf3} f3 (piece {x = x2} _ x (piece {x = x3} _ y none h3) h2))) h1)) al = λ q d. cast_at wf2 wf3 (rd k.Less wf1 f1) t (gr wf2 f2) (rd k.RoundOpen wf3 f3) x y (cut h3) h2 h1 q d
 rule g.CastLimits _ e _ (token {w = w} f1 (piece {x = x1} _ x (token {w = wf2} f2 none) h)) al = closed wf2 (something (after_token (rd k.Comma w f1) x) _) (rd k.RoundClose wf2 f2) (ap (λ z. w ∷ z) h)
 rule g.NoCastLimits _ e _ (token {w = wf} f none) al = closed wf (nothing _) (rd k.RoundClose wf f) refl
 rule g.Literal _ e _ (token {w = w} f none) al = literal_of w (sign_of w).kind f refl
-rule g.String _ e _ (token {w = wf} f none) al = λ d. by (inr (inr (inr (inl tt)))) (tok (rd k.Text wf f) end)
-rule g.Null _ e _ (token {w = wf} f none) al = λ d. by (inr (inr (inr (inr (inl tt))))) (tok (rd k.Null wf f) end)
-rule g.Eof _ e _ (token {w = wf} f none) al = λ d. by (inr (inr (inr (inr (inr (inl tt)))))) (tok (rd k.Eof wf f) end)
+rule g.String _ e _ (token {w = wf} f none) al = λ d. by (inr (inr (inr (inr (inr (inl tt)))))) (tok (rd k.Text wf f) end)
+rule g.Null _ e _ (token {w = wf} f none) al = λ d. by (inr (inr (inr (inr (inr (inr (inl tt))))))) (tok (rd k.Null wf f) end)
+rule g.Eof _ e _ (token {w = wf} f none) al = λ d. by (inr (inr (inr (inr (inr (inr (inr (inl tt)))))))) (tok (rd k.Eof wf f) end)
 
 -- a list of tokens cut in two
 record Cut (ws : List Word) (xs ys : List Sign) : Type 0 where
