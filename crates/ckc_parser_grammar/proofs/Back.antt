@@ -28,7 +28,8 @@ use Rattle.ckc_grammar.specs.Productions.{Terminal, Use, Symbol, t, n, no_else, 
 use Rattle.ckc_grammar.specs.Derivation.{Word, fits, before_else, used}
 use Rattle.ckc_parser_grammar.proofs.Tokens.{sign_of}
 use Rattle.ckc_parser_grammar.proofs.Pieces.{comma}
-use Rattle.ckc_parser_grammar.proofs.Onto.{join_none, else_at, else_same}
+use Rattle.ckc_parser_grammar.proofs.Meanings.{join_none}
+use Rattle.ckc_parser_grammar.proofs.Onto.{else_at, else_same}
 
 -- words derive symbols of the table with these values, before what may be `else`; and whatever stands after them
 pub record At (ss : List g.Symbol) (ws : List Word) (e : Bool) (vs : List Value) : Type 0 where
@@ -99,7 +100,7 @@ pub data Increments : List Word → Option Operation → Type 0 where
 pub data Postfix (ws : List Word) (m : Expr) : Type 0 where
   by_name : {w : Word} {cs us : List Word} {c : Option (List Expr)} {e : Bool} {fs : List (Expr → Expr)} → is_name (sign_of w).kind ≡ true → CallRest cs c → Each PostForm us e fs → w ∷ (cs ++ us) ≡ ws → applied (v.called_or_named w.token c) fs ≡ m → Postfix ws m
   by_primary : {us vs : List Word} {x : Value} {e : Bool} {fs : List (Expr → Expr)} → All (g.n g.primary ∷ []) us (x ∷ []) → Each PostForm vs e fs → us ++ vs ≡ ws → applied (as_expr x) fs ≡ m → Postfix ws m
-  by_round : {a c : Word} {us vs : List Word} {x : Value} {e : Bool} {fs : List (Expr → Expr)} → (sign_of a).kind ≡ k.RoundOpen → All (g.n g.expr ∷ []) us (x ∷ []) → (sign_of c).kind ≡ k.RoundClose → Each PostForm vs e fs → a ∷ (us ++ (c ∷ vs)) ≡ ws →
+  by_round : {a : Word} (c : Word) {us vs : List Word} {x : Value} {e : Bool} {fs : List (Expr → Expr)} → (sign_of a).kind ≡ k.RoundOpen → All (g.n g.expr ∷ []) us (x ∷ []) → (sign_of c).kind ≡ k.RoundClose → Each PostForm vs e fs → a ∷ (us ++ (c ∷ vs)) ≡ ws →
       applied (as_expr x) fs ≡ m → Postfix ws m
 
 -- an operand: a postfix, `++` or `--` before an operand, or what owes a setting if it is a target
@@ -172,7 +173,7 @@ begun (ends {vs = vs} {i = o} (by_primary {us = xs} {vs = ys} {x = x} d ps h j) 
     let P = posts_of ps in
     let I = increment_of i in
     begun_first (λ e. t_by g.Postfix (λ z. refl) (t_part d (t_part P.1 (t_last I.1) refl) (joint xs ys vs h l))) (behind ps i (as_expr x) ∙ ap (λ z. T.with_increment z o) j ∙ q)
-begun (ends {vs = vs} {i = o} (by_round {a} {c} {us = xs} {vs = ys} {x = x} f d f2 ps h j) i l q) =
+begun (ends {vs = vs} {i = o} (by_round {a} c {us = xs} {vs = ys} {x = x} f d f2 ps h j) i l q) =
     let P = posts_of ps in
     let I = increment_of i in
     begun_first (t_moved (joint (a ∷ xs) (c ∷ ys) vs h l) (λ e. t_by g.Round (λ z. refl) (t_tok f (t_last (λ e. t_by g.Paren (λ z. refl) (t_part d (t_tok f2 (t_part P.1 (t_last I.1) refl)) refl)))))) (behind ps i (as_expr x) ∙ ap (λ z. T.with_increment z o) j ∙ q)

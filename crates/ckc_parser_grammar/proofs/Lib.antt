@@ -7,7 +7,9 @@ pub mod EveryPart
 pub mod EveryRule
 pub mod Joining
 pub mod Marks
+pub mod Meanings
 pub mod Onto
+pub mod Operators
 pub mod Others
 pub mod Pieces
 pub mod Prefixes

@@ -4,6 +4,7 @@
 
 mod join;
 mod kind;
+mod laws;
 mod make;
 mod operators;
 mod parts;
@@ -13,6 +14,7 @@ mod trace;
 pub use ckc_grammar::Step;
 pub use join::whole;
 pub use kind::Kind;
+pub use laws::derives_the_same_trees;
 pub use make::{
     called, copied, directive_of, expression, head_of, local_of, number_of, statement, struct_type,
 };
