@@ -27,7 +27,7 @@ use Rattle.ckc_parser_grammar.proofs.Pieces.{cut}
 use Rattle.ckc_parser_grammar.proofs.Back.{t_end, t_tok, t_part_at, t_part, t_last, t_by, t_moved, joint, none, more, no_call, with_call, no_increment, one_increment, by_name, ends, steps, step, expr_of, unary_of, right_of, calloc_right, tag, scalar, base_of, absent, present, after_form, comma_form, of_name, of_calloc, binary_form, type_form, From, Got, end, token, piece, sole, worth}
 use Rattle.ckc_parser_grammar.proofs.Endings.{kw, mk, wd, ei, cons_eq, type_of, range_of, array_of, first_of_object, first_of_local, size_of, condition_of, start_of, assign_of, step_part_of, assign_stmt, call_stmt, stars_of, text_of, members_of, params_of, arguments_of, list_of, lines_of, changes_of, member_of, local_of_form, declares_moved, declares_named, objects_form, item_declares, void_head, type_head, first_by, constant_by, round_by, cast_of, between_of, no_choice, with_choice, at_moved, postfix_moved, unary_named, signed_by, cast_by, sized_by, set_assign, step_assign, post_step, set_expr, from_moved, each_moved, stmt_any, no_else_by, with_end}
 use Rattle.ckc_parser_grammar.proofs.Allocations.{calloc_0}
-use Rattle.ckc_parser_grammar.proofs.Operators.{operator_0, operator_1, operator_2, operator_3, operator_4, operator_5, operator_6, operator_7, operator_8, operator_9, operator_10, operator_11, operator_12, operator_13, operator_14, operator_15, operator_16, operator_17, op_0, op_1, op_2, op_3, op_4, op_5, op_6, op_7, increment_0, increment_1}
+use Rattle.ckc_parser_grammar.proofs.Infixes.{operator_0, operator_1, operator_2, operator_3, operator_4, operator_5, operator_6, operator_7, operator_8, operator_9, operator_10, operator_11, operator_12, operator_13, operator_14, operator_15, operator_16, operator_17, op_0, op_1, op_2, op_3, op_4, op_5, op_6, op_7, increment_0, increment_1}
 
 text_0 : (ws : List Word) (e : Bool) (q : Got (parts_of l.text (inl tt)) ws e (l.Meaning l.text) (chosen (productions l.text) (inl tt)).made) → From l.text ws e (worth q)
 text_0 _ e (piece us m is end h) = text_of is h

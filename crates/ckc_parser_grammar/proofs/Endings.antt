@@ -378,15 +378,15 @@ between_by a b c d {xs} {rs} {zs = zs} fa fb (begun_first du iu) r h j fc y fd h
       (λ z. t_by g.BoundsOf (λ z. refl) (t_tok fa (t_tok fb (t_last (λ z. t_by g.Between (λ z. refl) (t_part du (t_part R.1 (t_tok fc (t_part Y.1 (t_tok fd t_end) h2)) refl) (joint xs rs (c ∷ zs) h h1))))))),
       λ q. bounds.Between ((ap (λ z. v.ended z R.0) iu ∙ R.2 _ ∙ j) q) (Y.2 q) a.token.pos,
     )
-between_by a b c d {xs} {rs} {zs = zs} {ws = ws} {x = x} {y = y1} fa fb (begun_name {w} {cs} {us} {vs} n co ps i h0 q0) r h j fc y fd h2 h1 = with_name (unknown_or (sign_of w).kind n)
+between_by a b c d {xs} {rs} {ys = yw} {zs = zs} {ws = ws} {x = x} {y = y1} {f = f} fa fb (begun_name {w} {cs} {us} {vs} {c = call} {fs = fs} {i = last} n co ps i h0 q0) r h j fc y fd h2 h1 = with_name (unknown_or (sign_of w).kind n)
   where
-    Y : Gives g.expr _ as_expr y1
+    Y : Gives g.expr yw as_expr y1
     Y = expr_of y
 
-    R : (p : Value) × All (g.n g.expr_rest ∷ []) rs (p ∷ []) × ((z : Expr) → v.ended z p ≡ _)
+    R : (p : Value) × All (g.n g.expr_rest ∷ []) rs (p ∷ []) × ((z : Expr) → v.ended z p ≡ f z)
     R = rest_of r
 
-    N : (p : Value) × All (g.n g.name_rest ∷ []) (cs ++ (us ++ vs)) (p ∷ []) × ((t : Spelled) → as_expr_of_name p t ≡ _)
+    N : (p : Value) × All (g.n g.name_rest ∷ []) (cs ++ (us ++ vs)) (p ∷ []) × ((t : Spelled) → as_expr_of_name p t ≡ T.with_increment (applied (v.called_or_named t call) fs) last)
     N = name_rest_of co ps i
 
     words : w ∷ ((cs ++ (us ++ vs)) ++ (rs ++ (c ∷ zs))) ≡ ws

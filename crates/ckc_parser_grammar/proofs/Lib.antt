@@ -5,11 +5,11 @@ pub mod Endings
 pub mod EveryKind
 pub mod EveryPart
 pub mod EveryRule
+pub mod Infixes
 pub mod Joining
 pub mod Marks
 pub mod Meanings
 pub mod Onto
-pub mod Operators
 pub mod Others
 pub mod Pieces
 pub mod Prefixes
