@@ -228,7 +228,7 @@ assign_2 : (ws : List Word) (e : Bool) (q : Got (parts_of l.assign (inr (inr (in
 assign_2 _ e (piece us m o (piece vs m2 x end h2) h1) = step_assign o.2 x (ap (λ z. z ++ vs) o.1 ∙ ap (λ z. us ++ z) (cut h2) ∙ h1) (λ j. L.assigned_by m2 (o.3 j) (L.one_at (o.3 j).1))
 
 assign_3 : (ws : List Word) (e : Bool) (q : Got (parts_of l.assign (inr (inr (inr (inl tt))))) ws e (l.Meaning l.assign) (chosen (productions l.assign) (inr (inr (inr (inl tt))))).made) → From l.assign ws e (worth q)
-assign_3 _ e (piece us m x (piece vs m2 o end h2) h1) = post_step o.2 x (ap (λ z. us ++ z) (o.1 ∙ cut h2) ∙ h1) (λ j. L.assigned_by m (o.3 j) (L.one_at (o.3 j).1))
+assign_3 _ e (piece us m x (piece vs m2 o end h2) h1) = post_step o.0 o.2 x (ap (λ z. us ++ z) (o.1 ∙ cut h2) ∙ h1) (λ j. L.assigned_by m (o.3 j) (L.one_at (o.3 j).1))
 
 change_0 : (ws : List Word) (e : Bool) (q : Got (parts_of l.change (inl tt)) ws e (l.Meaning l.change) (chosen (productions l.change) (inl tt)).made) → From l.change ws e (worth q)
 change_0 _ e (piece us m s (token {w = c} f end) h) = (us, c, s, mk ";" c f, h)

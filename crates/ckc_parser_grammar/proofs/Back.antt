@@ -178,7 +178,7 @@ begun (ends {vs = vs} {i = o} (by_round {a} c {us = xs} {vs = ys} {x = x} f d f2
     let I = increment_of i in
     begun_first (t_moved (joint (a ∷ xs) (c ∷ ys) vs h l) (λ e. t_by g.Round (λ z. refl) (t_tok f (t_last (λ e. t_by g.Paren (λ z. refl) (t_part d (t_tok f2 (t_part P.1 (t_last I.1) refl)) refl)))))) (behind ps i (as_expr x) ∙ ap (λ z. T.with_increment z o) j ∙ q)
 begun (steps f d h q) = begun_first (t_moved h (λ e. t_by g.Incremented (λ z. refl) (t_tok f (t_last d)))) q
-begun (owes d h t) = begun_first d h
+begun (owes d h owed) = begun_first d h
 
 unary_by : {ws : List Word} {m : Expr} → Begun ws m → Gives g.unary ws as_expr m
 unary_by (begun_name {w} f c ps i h q) = let R = name_rest_of c ps i in (v.expr (as_expr_of_name R.0 w.token), t_moved h (λ e. t_by g.Named (λ z. refl) (t_tok f (t_last R.1))), R.2 w.token ∙ q)
@@ -293,7 +293,7 @@ calloc_rest w no_call none no_increment (going {ys = ys} {c = c} (more {ys = vs}
 right_by : {us rs ws : List Word} {x m : Expr} {f : Expr → Expr} → Begun us x → RestForm rs f → us ++ rs ≡ ws → f x ≡ m → Gives g.value ws as_expr m
 right_by (begun_first {y} d i) r h j =
     let R = rest_of r in (v.expr (v.ended (as_expr y) R.0), (λ e. t_by g.Value (λ c. refl) (t_part d (t_last R.1) h)), ap (λ z. v.ended z R.0) i ∙ R.2 _ ∙ j)
-right_by {rs = rs} {ws = ws} {m = m} {f = f} (begun_name {w} {cs} {us} {vs} n c ps i h0 q) r h j = with_name (calloc_or (sign_of w).kind n)
+right_by {rs = rs} {ws = ws} {m = m} {f = f} (begun_name {w} {cs} {us} {vs} is c ps i h0 q) r h j = with_name (calloc_or (sign_of w).kind is)
   where
     words : w ∷ (cs ++ (us ++ (vs ++ rs))) ≡ ws
     words = ap (λ z. w ∷ (cs ++ z)) (sym (append_assoc us vs rs)) ∙ joint (w ∷ cs) (us ++ vs) rs h0 h

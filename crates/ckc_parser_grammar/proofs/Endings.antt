@@ -126,8 +126,8 @@ step_assign {a} {us} f u h r =
     let U = unary_of u in
     unnamed_assign (t_moved h (λ z. t_by g.IncrementAssign (λ z. refl) (t_tok f (t_part U.1 (t_last (λ z. t_by g.NoSetting (λ z. refl) t_end)) (append-nil us))))) (ap (λ z. T.assigned z (T.by_one (v.increment_at (v.token a.token)))) U.2 ∙ r)
 
-pub post_step : {a : Word} {us ws : List Word} {x : Expr} {r : Stmt} → is_increment (sign_of a).kind ≡ true → Postfix us x → us ++ (a ∷ []) ≡ ws → T.assigned x (T.by_one (v.increment_at (v.token a.token))) ≡ r → AssignForm ws r
-post_step f p h r = post_assign p (λ z. t_by g.IncrementChange (λ z. refl) (t_tok f (t_last (λ z. t_by g.NoSetting (λ z. refl) t_end)))) h r
+pub post_step : (a : Word) {us ws : List Word} {x : Expr} {r : Stmt} → is_increment (sign_of a).kind ≡ true → Postfix us x → us ++ (a ∷ []) ≡ ws → T.assigned x (T.by_one (v.increment_at (v.token a.token))) ≡ r → AssignForm ws r
+post_step a f p h r = post_assign p (λ z. t_by g.IncrementChange (λ z. refl) (t_tok f (t_last (λ z. t_by g.NoSetting (λ z. refl) t_end)))) h r
 
 -- a statement that begins with a name: the table tells apart whether that is `calloc`
 named_line : {w : Word} {xs us ws : List Word} {y : Value} (c : Word) → is_name (sign_of w).kind ≡ true → All (g.n g.named_stmt ∷ []) xs (y ∷ []) → (sign_of c).kind ≡ k.Semicolon → w ∷ xs ≡ us → us ++ (c ∷ []) ≡ ws → Gives g.stmt ws as_stmt (as_stmt_of_name y w.token)
