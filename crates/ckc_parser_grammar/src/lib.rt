@@ -18,10 +18,10 @@ pub use make::{
     one_of, statement, struct_type,
 };
 pub use operators::{
-    begins_post, begins_step, begins_type, binary_op, is_greater, is_sign, sign_op,
+    begins_post, begins_step, begins_type, binary_op, compound_op, increment_op, is_greater, is_sign, sign_op,
 };
 pub use parts::{
-    Arms, Bounds, CType, Declaration, Expression, Operation, Post, Rest, Statement, Stop,
+    Arms, Bounds, CType, Declaration, Expression, Operation, Post, Rest, Setting, Statement, Stop,
 };
 pub use reader::{Class, Reader, SYNTAX_ERROR, is_name, token_kind};
 pub use trace::TOKEN;

@@ -1,7 +1,7 @@
 ghost use Rattle.std.specs.Prelude.{◌≡◌};
 ghost use Rattle.ckc_parser_grammar.specs.code.Grammar.{is_greater};
 ghost use Rattle.ckc_parser_grammar.specs.code.Forms.{begins_step, begins_type, begins_post};
-ghost use Rattle.ckc_parser_grammar.specs.code.Kinds.{is_sign, is_operator, is_literal, sign_op, binary_op};
+ghost use Rattle.ckc_parser_grammar.specs.code.Kinds.{is_sign, is_operator, is_literal, sign_op, increment_op, compound_op, binary_op};
 
 use crate::kind::Kind;
 use ckc_syntax::TreeOp;
@@ -32,6 +32,32 @@ pub fn sign_op(kind: Kind) -> TreeOp
         Kind::Star => TreeOp::Deref,
         Kind::Ampersand => TreeOp::Address,
         _ => TreeOp::Minus,
+    }
+}
+
+/// The operator of `++` or `--`.
+pub fn increment_op(kind: Kind) -> TreeOp
+    ensures { result ≡ increment_op kind }
+{
+    match kind {
+        Kind::MinusMinus => TreeOp::Sub,
+        _ => TreeOp::Add,
+    }
+}
+
+/// The operator of an operator with `=`.
+pub fn compound_op(kind: Kind) -> TreeOp
+    ensures { result ≡ compound_op kind }
+{
+    match kind {
+        Kind::MinusEquals => TreeOp::Sub,
+        Kind::StarEquals => TreeOp::Mul,
+        Kind::SlashEquals => TreeOp::Div,
+        Kind::PercentEquals => TreeOp::Rem,
+        Kind::AmpersandEquals => TreeOp::And,
+        Kind::BarEquals => TreeOp::Or,
+        Kind::CaretEquals => TreeOp::Xor,
+        _ => TreeOp::Add,
     }
 }
 
