@@ -1,11 +1,12 @@
 ghost use Rattle.std.specs.Prelude.{◌≡◌};
 ghost use Rattle.ckc_parser_values.specs.code.Acts.{nothing};
 
-use crate::stack::{Stack, Tokens};
+
 use ckc_base::Pos;
 use ckc_parser_grammar::{
     Arms, Bounds, CType, Declaration, Expression, Operation, Post, Statement, Step,
 };
+use ckc_parser_stacks::{Stack, Tokens};
 use ckc_syntax::{Decl, Expr, Init, Item, Length, Spelling, Stmt};
 use std::alloc::Global;
 

@@ -5,11 +5,10 @@ mod held;
 pub mod laws;
 mod lists;
 mod makes;
-mod stack;
 
 pub use held::{Form, Held, Slot};
 pub use lists::{joined, onto, turned};
 pub use makes::{
     declare, declare_each, function_of, literal_node, mode_of, posted, put_locals, starred, statics,
 };
-pub use stack::{Stack, Tokens};
+pub use ckc_parser_stacks::{Stack, Tokens};
