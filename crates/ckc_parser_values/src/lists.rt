@@ -1,6 +1,5 @@
 ghost use Rattle.std.specs.Prelude.{◌≡◌, ◌++◌, IfOk, reverse};
 
-
 use ckc_base::Seq;
 use ckc_parser_stacks::Stack;
 use std::alloc::{AllocError, Global};

@@ -5,7 +5,6 @@ ghost use Rattle.ckc_parser_values.specs.code.Acts as a;
 
 use crate::held::{Form, Slot};
 use crate::lists::onto;
-
 use ckc_base::{Boxed, Mode, Pos};
 use ckc_parser_grammar::{CType, Expression, Post, Statement, copied, expression, local_of};
 use ckc_parser_stacks::Stack;
