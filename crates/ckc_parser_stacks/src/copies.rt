@@ -77,7 +77,7 @@ fn weight<N, A>(node: &Node<N, A>) -> usize {
 }
 
 /// The expressions in an expression, each before its parts.
-#[tactic(auto, using(crate::proofs::Visiting::begins, crate::proofs::Visiting::next_visit, crate::proofs::Visiting::visited))]
+#[tactic(auto, using(crate::proofs::Visiting::begins, crate::proofs::Visiting::next_visit, crate::proofs::Visiting::all_visited))]
 fn visited<'e, N, A>(
     alloc: Global,
     e: &'e Expr<N, A>,
@@ -119,7 +119,8 @@ fn rebuilt<'e, N: ExactClone>(
             }
         }
     }
-    made.take()
+    let copy = made.take()?;
+    Ok(copy)
 }
 
 /// An expression once more.

@@ -4,7 +4,7 @@ ghost use Rattle.std.specs.Prelude.{◌≡◌, List, ◌∷◌, ◌++◌, length
 ghost use Rattle.ckc_syntax.specs.declared.tree.Expr.{Expr};
 ghost use Rattle.ckc_syntax.specs.declared.tree.Limits.{out-Limits};
 ghost use Rattle.ckc_syntax.specs.declared.tree.Node.TheVariants as node;
-ghost use Rattle.ckc_parser_stacks.specs.code.Visits.{limits_parts, parts_of, parts_of_node, parts_of_bounds};
+ghost use Rattle.ckc_parser_stacks.specs.code.Visits.{limits_parts, parts_of_node, parts_of_bounds, IsRemade};
 
 use crate::stack::Stack;
 use ckc_base::{Boxed, Bytes, Seq};
@@ -40,11 +40,10 @@ fn take_all<N: Drop>(
 }
 
 /// A call with its arguments.
-#[tactic(auto, using(crate::proofs::Visiting::as_many))]
 fn remade_call<N: ExactClone>(
     alloc: Global,
     name: &N,
-    arguments: &[Expr<N, ()>],
+    arguments: &Seq<Expr<N, ()>>,
     made: &mut Stack<Boxed<Expr<N, ()>>>,
 ) -> Result<Node<N, ()>, AllocError>
     ensures { (rest : List (Expr N (Unit {0}))) → made.old ≡ arguments.now ++ rest
@@ -226,19 +225,19 @@ fn remade_node<N: ExactClone>(
         }
         Node::Trusted(t, _, bounds) => remade_trusted(alloc, t, bounds, made),
         Node::Tested(t, _, bounds) => remade_tested(alloc, t, bounds, made),
-        Node::Call(n, es) => remade_call(alloc, n, es.as_slice(), made),
+        Node::Call(n, es) => remade_call(alloc, n, es, made),
         _ => remade_one(alloc, node, made),
     }
 }
 
 /// An expression, in place of the copies of its parts.
+#[tactic(auto, using(crate::proofs::Visiting::is_remade))]
 pub fn remade<N: ExactClone>(
     alloc: Global,
     e: &Expr<N, ()>,
     made: &mut Stack<Boxed<Expr<N, ()>>>,
 ) -> Result<(), AllocError>
-    ensures { (rest : List (Expr N (Unit {0}))) → made.old ≡ parts_of e.now ++ rest
-        → OnOk result (made.new ≡ e.now ∷ rest) }
+    ensures { OnOk result (IsRemade e.now made.old made.new) }
 {
     let node = remade_node(alloc, &e.node, made)?;
     let whole = Boxed::new(

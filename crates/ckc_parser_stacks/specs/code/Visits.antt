@@ -1,5 +1,5 @@
 -- An expression as the list of all expressions in it, each before its parts.
-use Rattle.std.specs.Prelude.{List, [], ◌∷◌, ◌++◌, Option, None, Some}
+use Rattle.std.specs.Prelude.{◌≡◌, List, [], ◌∷◌, ◌++◌, Option, None, Some}
 use Rattle.ckc_syntax.specs.declared.tree.Limits.{Limits, Limits-F, out-Limits}
 use Rattle.ckc_syntax.specs.declared.tree.Node.{Node, Node-F, out-Node}
 use Rattle.ckc_syntax.specs.declared.tree.Expr.{Expr}
@@ -44,3 +44,7 @@ parts_of e = parts_of_node e.node
 pub data Visits {N A : Type 0} : List (Expr N A) → List (Expr N A) → Type 0 where
   done : Visits [] []
   visit : (x : Expr N A) (rest xs : List (Expr N A)) → Visits (parts_of x ++ rest) xs → Visits (x ∷ rest) (x ∷ xs)
+
+-- Where the copies of the parts of an expression stood on top, its copy stands.
+pub record IsRemade {N A : Type 0} (x : Expr N A) (old new : List (Expr N A)) : Type 0 where
+  pub takes : (rest : List (Expr N A)) → old ≡ parts_of x ++ rest → new ≡ x ∷ rest
