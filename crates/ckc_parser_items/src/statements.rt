@@ -4,9 +4,7 @@ ghost use Rattle.ckc_parser_values.specs.code.Acts as a;
 
 use ckc_base::Boxed;
 use ckc_parser_grammar::{local_of, statement};
-use ckc_parser_terms::{
-    allocate, cast, increment_of, name_expr, no_increment, post_expr, skip,
-};
+use ckc_parser_terms::{allocate, cast, increment_of, name_expr, no_increment, post_expr, skip};
 use ckc_parser_values::{Form, Held, Stack, changed, mode_of, put_locals, stepped, turned};
 use ckc_syntax::Act;
 use std::alloc::{AllocError, Global};

@@ -5,8 +5,8 @@ use crate::changes::{
     incremented, no_call, no_increment, no_setting, set_by, set_to, some_call, some_increment,
 };
 use crate::expressions::{
-    constant, end_of_file, increment_expr, join_expr, mark, name_expr, named_value, null, post_expr,
-    round, signed, size_of, skip, string, tested, trusted,
+    constant, end_of_file, increment_expr, join_expr, mark, name_expr, named_value, null,
+    post_expr, round, signed, size_of, skip, string, tested, trusted,
 };
 use crate::operators::{
     add_expr, add_post, add_step, arrow, calloc_less, choose, dot, greater, index, less, new_exprs,

@@ -7,16 +7,17 @@ ghost use Rattle.ckc_syntax.specs.declared.tree.Node.TheVariants as node;
 ghost use Rattle.ckc_parser_grammar.specs.code.Trees as trees;
 ghost use Rattle.ckc_parser_grammar.specs.code.Values as v;
 
+use crate::lists::turned;
+use crate::lists::turned;
 use ckc_base::{Pos, Seq};
 use ckc_parser_grammar::{
-    Arms, Expression, Operation, Rest, Setting, Statement, Step, called, expression, statement, whole,
+    Arms, Expression, Operation, Rest, Setting, Statement, Step, called, expression, statement,
+    whole,
 };
 use ckc_parser_stacks::{Budget, Stack, copied_expression};
 use ckc_syntax::{Act, Expr, Node, Spelling, Token, TreeOp};
 use std::alloc::{AllocError, Global};
 use std::mem::forget;
-
-use crate::lists::turned;
 
 /// A name, which is called if arguments stand after it.
 pub fn called_or_named<'a>(
