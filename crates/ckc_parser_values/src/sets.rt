@@ -8,7 +8,6 @@ ghost use Rattle.ckc_parser_grammar.specs.code.Trees as trees;
 ghost use Rattle.ckc_parser_grammar.specs.code.Values as v;
 
 use crate::lists::turned;
-use crate::lists::turned;
 use ckc_base::{Pos, Seq};
 use ckc_parser_grammar::{
     Arms, Expression, Operation, Rest, Setting, Statement, Step, called, expression, statement,
