@@ -11,6 +11,7 @@ use ckc_parser_grammar::TOKEN;
 use ckc_parser_values::Held;
 use ckc_syntax::Token;
 use std::alloc::{AllocError, Global};
+use std::mem::forget;
 
 /// The byte with the index, from 0, if there is one.
 fn byte_at(table: &[u8], at: usize) -> Option<u8>
@@ -73,7 +74,8 @@ fn play<'a>(
     Ok(left)
 }
 
-/// What a trace makes of the tokens, from the last event.
+/// What a trace makes of the tokens, from the last event. What is made before memory runs out is not dropped, since a
+/// deep tree would be by recursion.
 #[tactic(auto, using(crate::proofs::Playing::begins, crate::proofs::Playing::next_event, crate::proofs::Playing::ends))]
 pub fn build<'a>(
     alloc: Global,
@@ -88,7 +90,13 @@ pub fn build<'a>(
     let mut rest = trace;
     let mut left = tokens.len();
     'events: while let Some(event) = rest.pop() {
-        left = play(alloc, &mut held, event, tokens, left)?;
+        left = match play(alloc, &mut held, event, tokens, left) {
+            Ok(after) => after,
+            Err(e) => {
+                forget(held);
+                return Err(e);
+            }
+        };
     }
     Ok(held)
 }

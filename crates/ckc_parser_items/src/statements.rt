@@ -4,20 +4,51 @@ ghost use Rattle.ckc_parser_values.specs.code.Acts as a;
 
 use ckc_base::Boxed;
 use ckc_parser_grammar::{local_of, statement};
-use ckc_parser_terms::{allocate, call, name_expr, post_expr, skip};
-use ckc_parser_values::{Form, Held, Stack, mode_of, put_locals, turned};
+use ckc_parser_terms::{allocate, cast, increment_of, name_expr, no_increment, post_expr, skip};
+use ckc_parser_values::{Form, Held, Stack, changed, mode_of, put_locals, stepped, turned};
 use ckc_syntax::Act;
 use std::alloc::{AllocError, Global};
 
-/// An assignment.
-pub fn assign<'a>(alloc: Global, held: &mut Held<'a>) -> Result<(), AllocError>
-    ensures { OnOk result (held.new ≡ a.assign held.old) }
+/// An operand that is changed, or a call.
+pub fn change_stmt<'a>(alloc: Global, held: &mut Held<'a>) -> Result<(), AllocError>
+    ensures { OnOk result (held.new ≡ a.change_stmt held.old) }
 {
-    let token = held.tokens.take()?;
     let target = held.exprs.take()?;
-    let value = held.exprs.take()?;
-    let whole = statement(alloc, Act::Assign(target, value), token.pos)?;
+    let increment = held.increments.take()?;
+    let setting = held.settings.take()?;
+    let whole = changed(alloc, target, increment, setting, &mut held.copies)?;
     held.stmts.push(whole)
+}
+
+/// `++` or `--` before its operand.
+pub fn step_stmt<'a>(alloc: Global, held: &mut Held<'a>) -> Result<(), AllocError>
+    ensures { OnOk result (held.new ≡ a.step_stmt held.old) }
+{
+    let increment = increment_of(held.tokens.take()?);
+    let target = held.exprs.take()?;
+    let setting = held.settings.take()?;
+    let whole = stepped(alloc, target, increment, setting, &mut held.copies)?;
+    held.stmts.push(whole)
+}
+
+/// A cast that is set.
+fn cast_stmt<'a>(alloc: Global, held: &mut Held<'a>) -> Result<(), AllocError>
+    ensures { OnOk result (held.new ≡ a.round_stmt_by form.Second held.old) }
+{
+    cast(alloc, held)?;
+    no_increment(held)?;
+    change_stmt(alloc, held)
+}
+
+/// What stands behind a `(` that begins a statement.
+pub fn round_stmt<'a>(alloc: Global, held: &mut Held<'a>) -> Result<(), AllocError>
+    ensures { OnOk result (held.new ≡ a.round_stmt held.old) }
+{
+    match held.forms.take()? {
+        Form::First => skip(held),
+        Form::Second => cast_stmt(alloc, held),
+        Form::Third => Err(AllocError),
+    }
 }
 
 /// A block with a mode.
@@ -210,12 +241,13 @@ pub fn call_stmt<'a>(alloc: Global, held: &mut Held<'a>) -> Result<(), AllocErro
     held.stmts.push(whole)
 }
 
-/// A call by a name, as a statement.
-pub fn call_named<'a>(alloc: Global, held: &mut Held<'a>) -> Result<(), AllocError>
+/// `calloc` as a name that is changed or called.
+pub fn change_named<'a>(alloc: Global, held: &mut Held<'a>) -> Result<(), AllocError>
     ensures { OnOk result (held.new ≡ a.named_stmt_by form.First held.old) }
 {
-    call(alloc, held)?;
-    call_stmt(alloc, held)
+    name_expr(alloc, held)?;
+    post_expr(alloc, held)?;
+    change_stmt(alloc, held)
 }
 
 /// A call of `calloc`, as a statement.
@@ -226,23 +258,13 @@ pub fn call_calloc<'a>(alloc: Global, held: &mut Held<'a>) -> Result<(), AllocEr
     call_stmt(alloc, held)
 }
 
-/// An assignment that begins with a name.
-pub fn assign_named<'a>(alloc: Global, held: &mut Held<'a>) -> Result<(), AllocError>
-    ensures { OnOk result (held.new ≡ a.named_stmt_by form.Third held.old) }
-{
-    name_expr(alloc, held)?;
-    post_expr(alloc, held)?;
-    assign(alloc, held)?;
-    skip(held)
-}
-
-/// A statement that begins with a name.
+/// A statement that begins with `calloc`.
 pub fn named_stmt<'a>(alloc: Global, held: &mut Held<'a>) -> Result<(), AllocError>
     ensures { OnOk result (held.new ≡ a.named_stmt held.old) }
 {
     match held.forms.take()? {
-        Form::First => call_named(alloc, held),
+        Form::First => change_named(alloc, held),
         Form::Second => call_calloc(alloc, held),
-        Form::Third => assign_named(alloc, held),
+        Form::Third => Err(AllocError),
     }
 }

@@ -1,8 +1,10 @@
 ghost use Rattle.std.specs.Prelude.{◌≡◌, OnOk};
 ghost use Rattle.ckc_parser_values.specs.code.Acts as a;
 
-use ckc_parser_grammar::{Rest, called, expression, sign_op, token_kind, whole};
-use ckc_parser_values::{Form, Held, literal_node, posted, turned};
+use ckc_parser_grammar::{expression, sign_op, token_kind};
+use ckc_parser_values::{
+    Form, Held, called_or_named, finished, literal_node, posted, turned, with_increment,
+};
 use ckc_syntax::{Node, Spelling, string_bytes};
 use std::alloc::{AllocError, Global};
 
@@ -21,12 +23,13 @@ pub fn mark<'a>(held: &mut Held<'a>, form: Form) -> Result<(), AllocError>
     held.forms.push(form)
 }
 
-/// A name as an expression.
+/// A name as an expression, with its arguments if it is called.
 pub fn name_expr<'a>(alloc: Global, held: &mut Held<'a>) -> Result<(), AllocError>
     ensures { OnOk result (held.new ≡ a.name_expr held.old) }
 {
     let token = held.tokens.take()?;
-    let whole = expression(alloc, Node::Name(Spelling::new(token.text)), token.pos)?;
+    let call = held.calls.take()?;
+    let whole = called_or_named(alloc, token, call)?;
     held.exprs.push(whole)
 }
 
@@ -40,25 +43,25 @@ pub fn post_expr<'a>(alloc: Global, held: &mut Held<'a>) -> Result<(), AllocErro
     held.exprs.push(whole)
 }
 
-/// Operands are joined.
+/// An operand with what is behind it, `++` or `--`.
+pub fn increment_expr<'a>(alloc: Global, held: &mut Held<'a>) -> Result<(), AllocError>
+    ensures { OnOk result (held.new ≡ a.increment_expr held.old) }
+{
+    let operand = held.exprs.take()?;
+    let increment = held.increments.take()?;
+    let whole = with_increment(alloc, operand, increment)?;
+    held.exprs.push(whole)
+}
+
+/// Operands are joined, or the first is set.
 pub fn join_expr<'a>(alloc: Global, held: &mut Held<'a>) -> Result<(), AllocError>
     ensures { OnOk result (held.new ≡ a.join_expr held.old) }
 {
     let first = held.exprs.take()?;
     let steps = turned(alloc, held.steps.take()?)?;
     let arms = held.arms.take()?;
-    let joined = whole(alloc, first, Rest { steps, arms })?;
-    held.exprs.push(joined)
-}
-
-/// A call by its name.
-pub fn call<'a>(alloc: Global, held: &mut Held<'a>) -> Result<(), AllocError>
-    ensures { OnOk result (held.new ≡ a.call held.old) }
-{
-    let token = held.tokens.take()?;
-    let arguments = held.expr_lists.take()?;
-    let arguments = turned(alloc, arguments)?;
-    let whole = called(alloc, token, arguments)?;
+    let setting = held.settings.take()?;
+    let whole = finished(alloc, first, steps, arms, setting, &mut held.copies)?;
     held.exprs.push(whole)
 }
 
@@ -80,21 +83,23 @@ pub fn allocate<'a>(alloc: Global, held: &mut Held<'a>) -> Result<(), AllocError
 
 /// A name with what goes on with it.
 pub fn named_chain<'a>(alloc: Global, held: &mut Held<'a>) -> Result<(), AllocError>
-    ensures { OnOk result (held.new ≡ a.join_expr (a.post_expr (a.name_expr held.old))) }
+    ensures { OnOk result
+        (held.new ≡ a.join_expr (a.increment_expr (a.post_expr (a.name_expr held.old)))) }
 {
     name_expr(alloc, held)?;
     post_expr(alloc, held)?;
+    increment_expr(alloc, held)?;
     join_expr(alloc, held)
 }
 
-/// A value that begins with a name.
+/// A value that begins with `calloc`.
 pub fn named_value<'a>(alloc: Global, held: &mut Held<'a>) -> Result<(), AllocError>
     ensures { OnOk result (held.new ≡ a.named_value held.old) }
 {
     match held.forms.take()? {
-        Form::First => call(alloc, held),
-        Form::Second => named_chain(alloc, held),
-        Form::Third => allocate(alloc, held),
+        Form::First => named_chain(alloc, held),
+        Form::Second => allocate(alloc, held),
+        Form::Third => Err(AllocError),
     }
 }
 

@@ -2,6 +2,7 @@ ghost use Rattle.std.specs.Prelude.{◌≡◌, OnOk};
 ghost use Rattle.ckc_parser_values.specs.declared.held.Form.TheVariants as form;
 ghost use Rattle.ckc_parser_values.specs.code.Acts as a;
 
+use crate::changes::{no_call, no_increment, no_setting};
 use crate::expressions::{mark, skip};
 use ckc_parser_grammar::{Arms, Operation, Post, Step, binary_op, token_kind};
 use ckc_parser_values::{Form, Held, Stack};
@@ -151,22 +152,33 @@ pub fn greater<'a>(held: &mut Held<'a>) -> Result<(), AllocError>
     }
 }
 
+/// A name with nothing behind it, which is not set.
+pub fn bare<'a>(alloc: Global, held: &mut Held<'a>) -> Result<(), AllocError>
+    ensures { OnOk result
+        (held.new ≡ a.no_setting (a.no_call (a.no_increment (a.no_posts held.old)))) }
+{
+    no_posts(alloc, held)?;
+    no_increment(held)?;
+    no_call(held)?;
+    no_setting(held)
+}
+
 /// `calloc <` where `<` is an operator.
 pub fn calloc_operand<'a>(alloc: Global, held: &mut Held<'a>) -> Result<(), AllocError>
-    ensures { OnOk result (held.new ≡ a.mark form.Second (a.no_posts (a.add_step (a.less held.old)))) }
+    ensures { OnOk result (held.new ≡ a.calloc_less_by form.First held.old) }
 {
     less(held)?;
     add_step(held)?;
-    no_posts(alloc, held)?;
-    mark(held, Form::Second)
+    bare(alloc, held)?;
+    mark(held, Form::First)
 }
 
 /// `calloc <` where a type follows.
 pub fn calloc_type<'a>(held: &mut Held<'a>) -> Result<(), AllocError>
-    ensures { OnOk result (held.new ≡ a.mark form.Third (a.skip held.old)) }
+    ensures { OnOk result (held.new ≡ a.calloc_less_by form.Second held.old) }
 {
     skip(held)?;
-    mark(held, Form::Third)
+    mark(held, Form::Second)
 }
 
 /// What stands behind `calloc <`.

@@ -48,17 +48,17 @@ get_map [] i d e h = absurd (grind (arith))
 get_map (x ∷ xs) zero d e h = refl
 get_map (x ∷ xs) (suc i) d e h = get_map xs i d e (grind (arith))
 
-numbers : map number all_kinds ≡ upto 0 71
+numbers : map number all_kinds ≡ upto 0 81
 numbers = refl
 
-number_at : (i : ℕ) → i < 71 → number (get_or all_kinds i kind.End) ≡ i
-number_at i h = sym (get_map all_kinds i 0 kind.End h) ∙ ap (λ z. get_or z i 0) numbers ∙ get_upto 0 71 i 0 h ∙ zero-add i
+number_at : (i : ℕ) → i < 81 → number (get_or all_kinds i kind.End) ≡ i
+number_at i h = sym (get_map all_kinds i 0 kind.End h) ∙ ap (λ z. get_or z i 0) numbers ∙ get_upto 0 81 i 0 h ∙ zero-add i
 
 pub not_same : (a b : ℕ) (x : Bool) → (a == b) ≡ x → a ≢ b → x ≡ false
 not_same a b true e h = absurd (h (same_number a b e))
 not_same a b false e h = refl
 
-pub other_one : (w : ℕ) (c : Kind) → w < 71 → w ≢ number c → turn_of 254 ≡ turn (t (one (get_or all_kinds w kind.End))) c
+pub other_one : (w : ℕ) (c : Kind) → w < 81 → w ≢ number c → turn_of 254 ≡ turn (t (one (get_or all_kinds w kind.End))) c
 other_one w c h ne =
     let k = get_or all_kinds w kind.End in
     ap (λ b. if b then Some taken else None) (sym (not_same (number k) (number c) (number k == number c) refl (λ e. ne (sym (number_at w h) ∙ e))))
@@ -80,10 +80,10 @@ rows_at f m each (y ∷ ys) (suc i) j k d e h l w =
 pub found : {X : Type 0} (g : ℕ → X) (table : List ℕ) (k b : ℕ) (d : X) → slice_get table k ≡ Some b → get_or (map g table) k d ≡ g b
 found g table k b d e = get_or_from_slice_get (map g table) k (g b) d (slice_get-map g table k ∙ ap (λ o. option_map g o) e)
 
-small : (c : Kind) → number c < 71
-small c = arith_of (number c) (all_kind (λ k. nat_lt (number k) 71) refl c)
+small : (c : Kind) → number c < 81
+small c = arith_of (number c) (all_kind (λ k. nat_lt (number k) 81) refl c)
   where
-    arith_of : (i : ℕ) → nat_lt i 71 ≡ true → i < 71
+    arith_of : (i : ℕ) → nat_lt i 81 ≡ true → i < 81
     arith_of i e = grind (arith, nat_tests)
 
 turn_at_kind : (xs : List Kind) (s : Symbol) (i : ℕ) (d : Option Event) (e : Kind) → i < length xs → get_or (map (turn s) xs) i d ≡ turn s (get_or xs i e)
@@ -91,24 +91,24 @@ turn_at_kind [] s i d e h = absurd (grind (arith))
 turn_at_kind (x ∷ xs) s zero d e h = refl
 turn_at_kind (x ∷ xs) s (suc i) d e h = turn_at_kind xs s i d e (grind (arith))
 
-pub row_turn : (table : List ℕ) (row : ℕ) (c : Kind) (b : ℕ) → map turn_of table ≡ flat_map turns_of rows → row < 80 → slice_get table (row * 71 + number c) ≡ Some b → turn_of b ≡ turn (get_or rows row (n g.text)) c
+pub row_turn : (table : List ℕ) (row : ℕ) (c : Kind) (b : ℕ) → map turn_of table ≡ flat_map turns_of rows → row < 91 → slice_get table (row * 81 + number c) ≡ Some b → turn_of b ≡ turn (get_or rows row (n g.text)) c
 row_turn table row c b w h e =
     let s = get_or rows row (n g.text) in
-    sym (found turn_of table (row * 71 + number c) b None e) ∙ ap (λ z. get_or z (row * 71 + number c) None) w
-    ∙ rows_at turns_of 71 (λ y. refl) rows row (number c) (row * 71 + number c) None (n g.text) h (small c) refl
+    sym (found turn_of table (row * 81 + number c) b None e) ∙ ap (λ z. get_or z (row * 81 + number c) None) w
+    ∙ rows_at turns_of 81 (λ y. refl) rows row (number c) (row * 81 + number c) None (n g.text) h (small c) refl
     ∙ turn_at_kind all_kinds s (number c) None kind.End (small c) ∙ ap (λ q. turn s q) (kind_at c)
 
-under : (b : ℕ) → b < 80 → nat_lt b 80 ≡ true
+under : (b : ℕ) → b < 91 → nat_lt b 91 ≡ true
 under b h = grind (arith, nat_tests)
 
-over : (b : ℕ) → 80 ≤ b → nat_lt b 80 ≡ false
+over : (b : ℕ) → 91 ≤ b → nat_lt b 91 ≡ false
 over b h = grind (arith, nat_tests)
 
-pub low : (b : ℕ) (c : Kind) → b < 80 → turn (symbol_of b) c ≡ turn (get_or rows b (n g.text)) c
-low b c h = ap (λ q. turn (if q then get_or rows b (n g.text) else t (one (get_or all_kinds (b - 80) kind.End))) c) (under b h)
+pub low : (b : ℕ) (c : Kind) → b < 91 → turn (symbol_of b) c ≡ turn (get_or rows b (n g.text)) c
+low b c h = ap (λ q. turn (if q then get_or rows b (n g.text) else t (one (get_or all_kinds (b - 91) kind.End))) c) (under b h)
 
-pub high : (b : ℕ) (c : Kind) → 80 ≤ b → turn (symbol_of b) c ≡ turn (t (one (get_or all_kinds (b - 80) kind.End))) c
-high b c h = ap (λ q. turn (if q then get_or rows b (n g.text) else t (one (get_or all_kinds (b - 80) kind.End))) c) (over b h)
+pub high : (b : ℕ) (c : Kind) → 91 ≤ b → turn (symbol_of b) c ≡ turn (t (one (get_or all_kinds (b - 91) kind.End))) c
+high b c h = ap (λ q. turn (if q then get_or rows b (n g.text) else t (one (get_or all_kinds (b - 91) kind.End))) c) (over b h)
 
 -- what a production is made of
 at_or : (f : Rule → Bool) (xs : List Rule) (i : ℕ) (d : Rule) → all f xs ≡ true → f d ≡ true → f (get_or xs i d) ≡ true
@@ -203,7 +203,7 @@ all_symbols lengths rule size k stack rest wl el h w =
     let far : length (reverse (right r)) ≤ k = subst (λ q. q ≤ k) (length_is right_length lengths rule size wl el ∙ sym (length-reverse (right r))) h in
     w ∙ ap (λ z. reverse z ++ rest) (take_all k (reverse (right r)) far) ∙ ap (λ z. z ++ rest) (reverse-reverse (right r))
 
-pub row_turn_of : (table : List ℕ) (row k : ℕ) (c : Kind) (o : Option ℕ) → map turn_of table ≡ flat_map turns_of rows → row < 80 → k ≡ number c → o ≡ slice_get table (row * 71 + k) →
+pub row_turn_of : (table : List ℕ) (row k : ℕ) (c : Kind) (o : Option ℕ) → map turn_of table ≡ flat_map turns_of rows → row < 91 → k ≡ number c → o ≡ slice_get table (row * 81 + k) →
     IfSome o (λ b. turn_of b ≡ turn (get_or rows row (n g.text)) c)
 row_turn_of table row k c None w h same e = tt
-row_turn_of table row k c (Some b) w h same e = row_turn table row c b w h (sym (e ∙ ap (λ q. slice_get table (row * 71 + q)) same))
+row_turn_of table row k c (Some b) w h same e = row_turn table row c b w h (sym (e ∙ ap (λ q. slice_get table (row * 81 + q)) same))

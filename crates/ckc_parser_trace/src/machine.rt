@@ -19,10 +19,10 @@ use std::alloc::{AllocError, Global};
 const NONE: u8 = 254;
 
 /// How many kinds of tokens there are, and so how long a row of `turns` is.
-const KINDS: u8 = 71;
+const KINDS: u8 = 81;
 
 /// The bytes from here on are symbols for tokens of one kind.
-const ONE: u8 = 80;
+const ONE: u8 = 91;
 
 /// The number of a kind.
 fn kind_number(kind: Kind) -> u8
@@ -64,7 +64,7 @@ fn one_turn(wanted: u8, kind: Kind) -> Option<u8>
 
 /// What a part or a class of tokens does before a token of a kind.
 fn row_turn(row: u8, kind: Kind) -> Option<u8>
-    requires { row < 80 }
+    requires { row < 91 }
     ensures { IfSome result (λ b. turn_of b ≡ turn (get_or rows row (n text)) kind) }
 {
     let at = row as usize * KINDS as usize + kind_number(kind) as usize;

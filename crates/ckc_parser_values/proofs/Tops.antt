@@ -1,24 +1,6 @@
--- The last element of a list is the top.
+-- A list that is turned, and turned once more.
 use Rattle.std.proofs.Common.{◌≡◌, List, [], ◌∷◌, ◌++◌, refl, sym, ap, ◌∙◌, reverse, map, append_assoc, append-nil}
 use Rattle.std.proofs.lemmas.List.{reverse-append, reverse-reverse}
-
-pub on_top : {X : Type 0} (s : List X) (x : X) → reverse (s ++ x ∷ []) ≡ x ∷ reverse s
-on_top s x = reverse-append s (x ∷ [])
-
-pub taken : {X : Type 0} (old new : List X) (x : X) → old ≡ new ++ x ∷ [] → reverse old ≡ x ∷ reverse new
-taken old new x e = ap reverse e ∙ on_top new x
-
-pub put : {X : Type 0} (old new : List X) (x : X) → new ≡ old ++ x ∷ [] → reverse new ≡ x ∷ reverse old
-put old new x e = ap reverse e ∙ on_top old x
-
-pub taken_token : {X Y : Type 0} (f : X → Y) (old new : List X) (x : X) → old ≡ new ++ x ∷ [] → map f (reverse old) ≡ f x ∷ map f (reverse new)
-taken_token f old new x e = ap (λ z. map f z) (taken old new x e)
-
-pub put_token : {X Y : Type 0} (f : X → Y) (old new : List X) (x : X) → new ≡ old ++ x ∷ [] → map f (reverse new) ≡ f x ∷ map f (reverse old)
-put_token f old new x e = ap (λ z. map f z) (put old new x e)
-
-pub none : {X : Type 0} (old new : List X) → old ≡ [] → new ≡ [] → (reverse old ≡ []) × (reverse new ≡ [])
-none old new e h = (ap reverse e, ap reverse h)
 
 -- a list that is turned once more
 pub twice : {X : Type 0} (list all : List X) → all ≡ reverse list ++ [] → reverse all ≡ list

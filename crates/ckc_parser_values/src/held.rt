@@ -1,11 +1,11 @@
 ghost use Rattle.std.specs.Prelude.{◌≡◌};
 ghost use Rattle.ckc_parser_values.specs.code.Acts.{nothing};
 
-use crate::stack::{Stack, Tokens};
 use ckc_base::Pos;
 use ckc_parser_grammar::{
-    Arms, Bounds, CType, Declaration, Expression, Operation, Post, Statement, Step,
+    Arms, Bounds, CType, Declaration, Expression, Operation, Post, Setting, Statement, Step,
 };
+use ckc_parser_stacks::{Budget, Stack, Tokens};
 use ckc_syntax::{Decl, Expr, Init, Item, Length, Spelling, Stmt};
 use std::alloc::Global;
 
@@ -28,7 +28,7 @@ pub struct Slot<'a> {
     pub init: Init<Spelling<'a>, ()>,
 }
 
-/// The values, a stack for each sort.
+/// The values, a stack for each sort, and what may still be copied.
 pub struct Held<'a> {
     pub tokens: Tokens<'a>,
     pub forms: Stack<Form>,
@@ -37,11 +37,14 @@ pub struct Held<'a> {
     pub operators: Stack<Operation>,
     pub exprs: Stack<Expression<'a>>,
     pub expr_lists: Stack<Stack<Expr<Spelling<'a>, ()>>>,
+    pub calls: Stack<Option<Stack<Expr<Spelling<'a>, ()>>>>,
     pub values: Stack<Option<Expression<'a>>>,
     pub one_post: Stack<Post<'a>>,
     pub posts: Stack<Stack<Post<'a>>>,
     pub steps: Stack<Stack<Step<'a>>>,
     pub arms: Stack<Option<Arms<'a>>>,
+    pub increments: Stack<Option<Operation>>,
+    pub settings: Stack<Option<Setting<'a>>>,
     pub types: Stack<CType<'a>>,
     pub stars: Stack<Stack<Pos>>,
     pub limits: Stack<Bounds<'a>>,
@@ -55,6 +58,7 @@ pub struct Held<'a> {
     pub stmt_lists: Stack<Stack<Stmt<Spelling<'a>, ()>>>,
     pub parts: Stack<Option<Statement<'a>>>,
     pub items: Stack<Stack<Item<Spelling<'a>, ()>>>,
+    pub copies: Budget,
 }
 
 impl<'a> Drop for Held<'a> {
@@ -67,11 +71,14 @@ impl<'a> Drop for Held<'a> {
             operators: _operators,
             exprs: _exprs,
             expr_lists: _expr_lists,
+            calls: _calls,
             values: _values,
             one_post: _one_post,
             posts: _posts,
             steps: _steps,
             arms: _arms,
+            increments: _increments,
+            settings: _settings,
             types: _types,
             stars: _stars,
             limits: _limits,
@@ -85,6 +92,7 @@ impl<'a> Drop for Held<'a> {
             stmt_lists: _stmt_lists,
             parts: _parts,
             items: _items,
+            copies: _copies,
         } = self;
     }
 }
@@ -102,11 +110,14 @@ impl<'a> Held<'a> {
             operators: Stack::new(alloc),
             exprs: Stack::new(alloc),
             expr_lists: Stack::new(alloc),
+            calls: Stack::new(alloc),
             values: Stack::new(alloc),
             one_post: Stack::new(alloc),
             posts: Stack::new(alloc),
             steps: Stack::new(alloc),
             arms: Stack::new(alloc),
+            increments: Stack::new(alloc),
+            settings: Stack::new(alloc),
             types: Stack::new(alloc),
             stars: Stack::new(alloc),
             limits: Stack::new(alloc),
@@ -120,6 +131,7 @@ impl<'a> Held<'a> {
             stmt_lists: Stack::new(alloc),
             parts: Stack::new(alloc),
             items: Stack::new(alloc),
+            copies: Budget::new(),
         }
     }
 }

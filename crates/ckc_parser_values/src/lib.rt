@@ -5,11 +5,12 @@ mod held;
 pub mod laws;
 mod lists;
 mod makes;
-mod stack;
+mod sets;
 
+pub use ckc_parser_stacks::{Budget, Stack, Tokens};
 pub use held::{Form, Held, Slot};
 pub use lists::{joined, onto, turned};
 pub use makes::{
     declare, declare_each, function_of, literal_node, mode_of, posted, put_locals, starred, statics,
 };
-pub use stack::{Stack, Tokens};
+pub use sets::{called_or_named, changed, finished, set_by_one, stepped, with_increment};

@@ -1,7 +1,7 @@
 ghost use Rattle.std.specs.Prelude.{◌≡◌, ◌++◌, IfOk, reverse};
 
-use crate::stack::Stack;
 use ckc_base::Seq;
+use ckc_parser_stacks::Stack;
 use std::alloc::{AllocError, Global};
 
 /// What is taken from one stack stands on another.

@@ -5,9 +5,9 @@ ghost use Rattle.ckc_parser_values.specs.code.Acts as a;
 
 use crate::held::{Form, Slot};
 use crate::lists::onto;
-use crate::stack::Stack;
 use ckc_base::{Boxed, Mode, Pos};
 use ckc_parser_grammar::{CType, Expression, Post, Statement, copied, expression, local_of};
+use ckc_parser_stacks::Stack;
 use ckc_syntax::{Decl, Head, Item, Node, Spelling, Stmt, TokenKind, TypeTree};
 use std::alloc::{AllocError, Global};
 

@@ -9,15 +9,15 @@ use Rattle.ckc_parser_grammar.specs.code.Reading.{pick}
 use Rattle.ckc_parser_grammar.specs.code.Trace.{Event, taken, opened, event}
 
 abbrev pub all_kinds : List Kind
-all_kinds = kind.End ∷ kind.Name ∷ kind.Calloc ∷ kind.Count ∷ kind.ByteCount ∷ kind.Bounds ∷ kind.Unknown ∷ kind.Number ∷ kind.Character ∷ kind.Text ∷ kind.Directive ∷ kind.Other ∷ kind.Int ∷ kind.Unsigned ∷ kind.Char ∷ kind.Void ∷ kind.Struct ∷ kind.Static ∷ kind.If ∷ kind.Else ∷ kind.While ∷ kind.For ∷ kind.Return ∷ kind.Break ∷ kind.Continue ∷ kind.Sizeof ∷ kind.Null ∷ kind.Eof ∷ kind.Ptr ∷ kind.ArrayPtr ∷ kind.NtArrayPtr ∷ kind.Checked ∷ kind.Unchecked ∷ kind.NtChecked ∷ kind.Bundled ∷ kind.Check ∷ kind.Tested ∷ kind.Trusted ∷ kind.RoundOpen ∷ kind.RoundClose ∷ kind.CurlyOpen ∷ kind.CurlyClose ∷ kind.SquareOpen ∷ kind.SquareClose ∷ kind.Less ∷ kind.Greater ∷ kind.GreaterNext ∷ kind.Comma ∷ kind.Semicolon ∷ kind.Colon ∷ kind.Question ∷ kind.Equals ∷ kind.Dot ∷ kind.Arrow ∷ kind.Plus ∷ kind.Minus ∷ kind.Star ∷ kind.Slash ∷ kind.Percent ∷ kind.Ampersand ∷ kind.Bar ∷ kind.Caret ∷ kind.Tilde ∷ kind.Exclamation ∷ kind.ShiftLeft ∷ kind.LessEquals ∷ kind.GreaterEquals ∷ kind.EqualsEquals ∷ kind.NotEquals ∷ kind.AndAnd ∷ kind.BarBar ∷ []
+all_kinds = kind.End ∷ kind.Name ∷ kind.Calloc ∷ kind.Count ∷ kind.ByteCount ∷ kind.Bounds ∷ kind.Unknown ∷ kind.Number ∷ kind.Character ∷ kind.Text ∷ kind.Directive ∷ kind.Other ∷ kind.Int ∷ kind.Unsigned ∷ kind.Char ∷ kind.Void ∷ kind.Struct ∷ kind.Static ∷ kind.If ∷ kind.Else ∷ kind.While ∷ kind.For ∷ kind.Return ∷ kind.Break ∷ kind.Continue ∷ kind.Sizeof ∷ kind.Null ∷ kind.Eof ∷ kind.Ptr ∷ kind.ArrayPtr ∷ kind.NtArrayPtr ∷ kind.Checked ∷ kind.Unchecked ∷ kind.NtChecked ∷ kind.Bundled ∷ kind.Check ∷ kind.Tested ∷ kind.Trusted ∷ kind.RoundOpen ∷ kind.RoundClose ∷ kind.CurlyOpen ∷ kind.CurlyClose ∷ kind.SquareOpen ∷ kind.SquareClose ∷ kind.Less ∷ kind.Greater ∷ kind.GreaterNext ∷ kind.Comma ∷ kind.Semicolon ∷ kind.Colon ∷ kind.Question ∷ kind.Equals ∷ kind.Dot ∷ kind.Arrow ∷ kind.Plus ∷ kind.Minus ∷ kind.Star ∷ kind.Slash ∷ kind.Percent ∷ kind.Ampersand ∷ kind.Bar ∷ kind.Caret ∷ kind.Tilde ∷ kind.Exclamation ∷ kind.ShiftLeft ∷ kind.LessEquals ∷ kind.GreaterEquals ∷ kind.EqualsEquals ∷ kind.NotEquals ∷ kind.AndAnd ∷ kind.BarBar ∷ kind.PlusPlus ∷ kind.MinusMinus ∷ kind.PlusEquals ∷ kind.MinusEquals ∷ kind.StarEquals ∷ kind.SlashEquals ∷ kind.PercentEquals ∷ kind.AmpersandEquals ∷ kind.BarEquals ∷ kind.CaretEquals ∷ []
 
 -- the parts, and the classes of tokens
 abbrev pub rows : List Symbol
-rows = n g.text ∷ n g.items ∷ n g.structure ∷ n g.declaration ∷ n g.declared ∷ n g.declarators ∷ n g.declarator ∷ n g.objects ∷ n g.object ∷ n g.object_rest ∷ n g.array ∷ n g.size ∷ n g.initial ∷ n g.initializer ∷ n g.list_rest ∷ n g.list_more ∷ n g.head ∷ n g.body ∷ n g.params ∷ n g.more_params ∷ n g.param ∷ n g.mode ∷ n g.result_type ∷ n g.members ∷ n g.member ∷ n g.slot ∷ n g.slots ∷ n g.declared_limits ∷ n g.base ∷ n g.scalar ∷ n g.unsigned_rest ∷ n g.type_name ∷ n g.stars ∷ n g.limits ∷ n g.bounds_rest ∷ n g.unknown_rest ∷ n g.block_items ∷ n g.locals ∷ n g.more_locals ∷ n g.local ∷ n g.local_initial ∷ n g.value ∷ n g.named_value ∷ n g.calloc_value ∷ n g.less ∷ n g.arguments ∷ n g.more_arguments ∷ n g.allocation ∷ n g.assign ∷ n g.stmt ∷ n g.calloc_stmt ∷ n g.named_stmt ∷ n g.otherwise ∷ n g.condition ∷ n g.for_start ∷ n g.for_step ∷ n g.assigns ∷ n g.expr ∷ n g.expr_rest ∷ n g.choice ∷ n g.tail ∷ n g.operation ∷ n g.operation_but_less ∷ n g.second ∷ n g.unary ∷ n g.first ∷ n g.round ∷ n g.posts ∷ n g.post ∷ n g.primary ∷ n g.bounds_cast ∷ n g.cast_limits ∷ n g.constant ∷ t g.name ∷ t g.greater ∷ t g.sign ∷ t g.operator ∷ t g.literal ∷ t g.name_but_calloc ∷ t g.name_but_unknown ∷ []
+rows = n g.text ∷ n g.items ∷ n g.structure ∷ n g.declaration ∷ n g.declared ∷ n g.declarators ∷ n g.declarator ∷ n g.objects ∷ n g.object ∷ n g.object_rest ∷ n g.array ∷ n g.size ∷ n g.initial ∷ n g.initializer ∷ n g.list_rest ∷ n g.list_more ∷ n g.head ∷ n g.body ∷ n g.params ∷ n g.more_params ∷ n g.param ∷ n g.mode ∷ n g.result_type ∷ n g.members ∷ n g.member ∷ n g.slot ∷ n g.slots ∷ n g.declared_limits ∷ n g.base ∷ n g.scalar ∷ n g.unsigned_rest ∷ n g.type_name ∷ n g.stars ∷ n g.limits ∷ n g.bounds_rest ∷ n g.unknown_rest ∷ n g.block_items ∷ n g.locals ∷ n g.more_locals ∷ n g.local ∷ n g.local_initial ∷ n g.value ∷ n g.calloc_value ∷ n g.less ∷ n g.arguments ∷ n g.more_arguments ∷ n g.allocation ∷ n g.setting ∷ n g.later_setting ∷ n g.change ∷ n g.assign ∷ n g.unnamed ∷ n g.round_assign ∷ n g.stmt ∷ n g.calloc_stmt ∷ n g.named_stmt ∷ n g.called_stmt ∷ n g.otherwise ∷ n g.condition ∷ n g.for_start ∷ n g.for_step ∷ n g.assigns ∷ n g.expr ∷ n g.expr_rest ∷ n g.chain ∷ n g.choice ∷ n g.tail ∷ n g.operation ∷ n g.operation_but_less ∷ n g.second ∷ n g.unary ∷ n g.name_rest ∷ n g.call_rest ∷ n g.increment ∷ n g.first ∷ n g.round ∷ n g.posts ∷ n g.post ∷ n g.primary ∷ n g.bounds_cast ∷ n g.cast_limits ∷ n g.constant ∷ t g.name ∷ t g.greater ∷ t g.sign ∷ t g.increment_sign ∷ t g.compound ∷ t g.operator ∷ t g.literal ∷ t g.name_but_calloc ∷ t g.name_but_unknown ∷ []
 
--- The symbol of a byte: from 80 on, a token of one kind.
+-- The symbol of a byte: from 91 on, a token of one kind.
 abbrev pub symbol_of : ℕ → Symbol
-symbol_of b = if nat_lt b 80 then get_or rows b (n g.text) else t (one (get_or all_kinds (b - 80) kind.End))
+symbol_of b = if nat_lt b 91 then get_or rows b (n g.text) else t (one (get_or all_kinds (b - 91) kind.End))
 
 abbrev pub opening : Option Rule → Option Event
 opening None = None

@@ -20,9 +20,10 @@ use Rattle.ckc_parser_grammar.specs.declared.parts.Arms.{Arms}
 use Rattle.ckc_parser_grammar.specs.declared.parts.Post.{Post}
 use Rattle.ckc_parser_grammar.specs.declared.parts.Post.TheVariants as behind
 use Rattle.ckc_parser_grammar.specs.declared.parts.Operation.{Operation}
-use Rattle.ckc_parser_grammar.specs.code.Kinds.{kind_of_token, sign_op, binary_op}
-use Rattle.ckc_parser_grammar.specs.code.Trees.{Item, TypeTree, Decl, Init, Limits, Expr, Stmt, Step, expr_at, stmt_at, starred, statics, local_of, locals, function_of, posted, literal}
-use Rattle.ckc_parser_grammar.specs.code.Values.{nowhere, no_token, no_expr, no_stmt, no_decl, directive_of, number_of, named, called, whole, struct_type}
+use Rattle.ckc_parser_grammar.specs.declared.parts.Setting.{Setting}
+use Rattle.ckc_parser_grammar.specs.code.Kinds.{kind_of_token, sign_op, increment_op, compound_op, binary_op}
+use Rattle.ckc_parser_grammar.specs.code.Trees.{Item, TypeTree, Decl, Init, Limits, Expr, Stmt, Step, expr_at, stmt_at, starred, statics, local_of, locals, function_of, posted, with_increment, by_one, set, changed, stepped, literal}
+use Rattle.ckc_parser_grammar.specs.code.Values.{nowhere, no_token, no_expr, no_stmt, no_decl, directive_of, number_of, called_or_named, finished, struct_type}
 use Rattle.ckc_parser_values.specs.declared.held.Held.{Held}
 use Rattle.ckc_parser_values.specs.declared.held.Slot.{Slot}
 use Rattle.ckc_parser_values.specs.declared.held.Form.{Form}
@@ -30,7 +31,7 @@ use Rattle.ckc_parser_values.specs.declared.held.Form.TheVariants as form
 
 -- empty stacks
 abbrev pub nothing : Held
-nothing = record { tokens = []; forms = []; sizes = []; lengths = []; operators = []; exprs = []; expr_lists = []; values = []; one_post = []; posts = []; steps = []; arms = []; types = []; stars = []; limits = []; bounds = []; inits = []; slots = []; slot_lists = []; decls = []; decl_lists = []; stmts = []; stmt_lists = []; parts = []; items = [] }
+nothing = record { tokens = []; forms = []; sizes = []; lengths = []; operators = []; exprs = []; expr_lists = []; calls = []; values = []; one_post = []; posts = []; steps = []; arms = []; increments = []; settings = []; types = []; stars = []; limits = []; bounds = []; inits = []; slots = []; slot_lists = []; decls = []; decl_lists = []; stmts = []; stmt_lists = []; parts = []; items = []; copies = tt }
 
 -- what stands on top
 abbrev pub top_token : Held → Spelled
@@ -44,6 +45,12 @@ top_expr h = get_or h.exprs 0 no_expr
 
 abbrev pub next_expr : Held → Expr
 next_expr h = get_or h.exprs 1 no_expr
+
+abbrev pub top_increment : Held → Option Operation
+top_increment h = get_or h.increments 0 None
+
+abbrev pub top_setting : Held → Option Setting
+top_setting h = get_or h.settings 0 None
 
 abbrev pub top_stmt : Held → Stmt
 top_stmt h = get_or h.stmts 0 no_stmt
@@ -94,25 +101,57 @@ abbrev pub unmark : Held → Held
 unmark h = record h { forms = drop 1 h.forms }
 
 -- expressions
+-- a name, which is called if arguments stand after it
 abbrev pub name_expr : Held → Held
-name_expr h = record h { tokens = drop 1 h.tokens; exprs = named (top_token h) ∷ h.exprs }
+name_expr h = record h { tokens = drop 1 h.tokens; calls = drop 1 h.calls; exprs = called_or_named (top_token h) (get_or h.calls 0 None) ∷ h.exprs }
 
 abbrev pub post_expr : Held → Held
 post_expr h = record h { posts = drop 1 h.posts; exprs = posted (top_expr h) (get_or h.posts 0 []) ∷ drop 1 h.exprs }
 
-abbrev pub join_expr : Held → Held
-join_expr h = record h { steps = drop 1 h.steps; arms = drop 1 h.arms; exprs = whole (top_expr h) (get_or h.steps 0 []) (get_or h.arms 0 None) ∷ drop 1 h.exprs }
+abbrev pub increment_expr : Held → Held
+increment_expr h = record h { increments = drop 1 h.increments; exprs = with_increment (top_expr h) (top_increment h) ∷ drop 1 h.exprs }
 
-abbrev pub call : Held → Held
-call h = record h { tokens = drop 1 h.tokens; expr_lists = drop 1 h.expr_lists; exprs = called (top_token h) (get_or h.expr_lists 0 []) ∷ h.exprs }
+abbrev pub join_expr : Held → Held
+join_expr h = record h { steps = drop 1 h.steps; arms = drop 1 h.arms; settings = drop 1 h.settings; exprs = finished (top_expr h) (get_or h.steps 0 []) (get_or h.arms 0 None) (top_setting h) ∷ drop 1 h.exprs }
+
+-- an increment by its token
+abbrev pub increment_of : Spelled → Operation
+increment_of x = record { op = increment_op (kind_of_token x); pos = x.pos }
+
+abbrev pub incremented : Held → Held
+incremented h = record h { tokens = drop 1 h.tokens; exprs = set (top_expr h) (by_one (increment_of (top_token h))) ∷ drop 1 h.exprs }
+
+abbrev pub some_increment : Held → Held
+some_increment h = record h { tokens = drop 1 h.tokens; increments = Some (increment_of (top_token h)) ∷ h.increments }
+
+abbrev pub no_increment : Held → Held
+no_increment h = record h { increments = None ∷ h.increments }
+
+abbrev pub some_call : Held → Held
+some_call h = record h { expr_lists = drop 1 h.expr_lists; calls = Some (get_or h.expr_lists 0 []) ∷ h.calls }
+
+abbrev pub no_call : Held → Held
+no_call h = record h { calls = None ∷ h.calls }
+
+abbrev pub put_setting : Option TreeOp → Held → Held
+put_setting o h = record h { tokens = drop 1 h.tokens; exprs = drop 1 h.exprs; settings = Some (record { op = o; pos = place h; value = top_expr h }) ∷ h.settings }
+
+abbrev pub set_to : Held → Held
+set_to h = put_setting None h
+
+abbrev pub set_by : Held → Held
+set_by h = put_setting (Some (compound_op (kind_of_token (top_token h)))) h
+
+abbrev pub no_setting : Held → Held
+no_setting h = record h { settings = None ∷ h.settings }
 
 abbrev pub allocate : Held → Held
 allocate h = record h { tokens = drop 1 h.tokens; types = drop 2 h.types; exprs = expr_at (node.Calloc (top_type h) (top_expr h) (get_or h.types 1 ctype.Int)) (place h) ∷ drop 1 h.exprs }
 
 abbrev pub named_value_by : Form → Held → Held
-named_value_by form.First h = call h
-named_value_by form.Second h = join_expr (post_expr (name_expr h))
-named_value_by form.Third h = allocate h
+named_value_by form.First h = join_expr (increment_expr (post_expr (name_expr h)))
+named_value_by form.Second h = allocate h
+named_value_by form.Third h = h
 
 abbrev pub named_value : Held → Held
 named_value h = named_value_by (top_form h) (unmark h)
@@ -202,8 +241,8 @@ abbrev pub greater : Held → Held
 greater h = put_operator (if is_second (top_form h) then op.Shr else op.Gt) (unmark h)
 
 abbrev pub calloc_less_by : Form → Held → Held
-calloc_less_by form.First h = mark form.Second (no_posts (add_step (less h)))
-calloc_less_by form.Second h = mark form.Third (skip h)
+calloc_less_by form.First h = mark form.First (no_setting (no_call (no_increment (no_posts (add_step (less h))))))
+calloc_less_by form.Second h = mark form.Second (skip h)
 calloc_less_by form.Third h = h
 
 abbrev pub calloc_less : Held → Held
@@ -256,7 +295,7 @@ bounds_of h = bounds_by (top_form h) (unmark h)
 
 abbrev pub unknown_by : Form → Held → Held
 unknown_by form.First h = mark form.First (skip h)
-unknown_by form.Second h = mark form.Second (join_expr (post_expr (name_expr h)))
+unknown_by form.Second h = mark form.Second (join_expr (increment_expr (post_expr (name_expr h))))
 unknown_by form.Third h = h
 
 abbrev pub unknown : Held → Held
@@ -334,8 +373,19 @@ abbrev pub add_decls : Held → Held
 add_decls h = record h { decl_lists = (get_or h.decl_lists 0 [] ++ get_or h.decl_lists 1 []) ∷ drop 2 h.decl_lists }
 
 -- statements
-abbrev pub assign : Held → Held
-assign h = record h { tokens = drop 1 h.tokens; exprs = drop 2 h.exprs; stmts = stmt_at (act.Assign (top_expr h) (next_expr h)) (place h) ∷ h.stmts }
+abbrev pub change_stmt : Held → Held
+change_stmt h = record h { exprs = drop 1 h.exprs; increments = drop 1 h.increments; settings = drop 1 h.settings; stmts = changed (top_expr h) (top_increment h) (top_setting h) ∷ h.stmts }
+
+abbrev pub step_stmt : Held → Held
+step_stmt h = record h { tokens = drop 1 h.tokens; exprs = drop 1 h.exprs; settings = drop 1 h.settings; stmts = stepped (top_expr h) (increment_of (top_token h)) (top_setting h) ∷ h.stmts }
+
+abbrev pub round_stmt_by : Form → Held → Held
+round_stmt_by form.First h = skip h
+round_stmt_by form.Second h = change_stmt (no_increment (cast h))
+round_stmt_by form.Third h = h
+
+abbrev pub round_stmt : Held → Held
+round_stmt h = round_stmt_by (top_form h) (unmark h)
 
 abbrev pub moded_block : Held → Held
 moded_block h = record h { tokens = drop 1 h.tokens; forms = drop 1 h.forms; stmt_lists = drop 1 h.stmt_lists; stmts = stmt_at (act.Block (Some (mode_of (top_form h))) (get_or h.stmt_lists 0 [])) (place h) ∷ h.stmts }
@@ -397,9 +447,9 @@ abbrev pub call_stmt : Held → Held
 call_stmt h = record h { exprs = drop 1 h.exprs; stmts = stmt_at (act.Call (top_expr h)) (top_expr h).pos ∷ h.stmts }
 
 abbrev pub named_stmt_by : Form → Held → Held
-named_stmt_by form.First h = call_stmt (call h)
+named_stmt_by form.First h = change_stmt (post_expr (name_expr h))
 named_stmt_by form.Second h = call_stmt (allocate h)
-named_stmt_by form.Third h = skip (assign (post_expr (name_expr h)))
+named_stmt_by form.Third h = h
 
 abbrev pub named_stmt : Held → Held
 named_stmt h = named_stmt_by (top_form h) (unmark h)

@@ -17,17 +17,18 @@ use Rattle.ckc_parser_grammar.specs.declared.parts.Arms.{Arms}
 use Rattle.ckc_parser_grammar.specs.declared.parts.Post.{Post}
 use Rattle.ckc_parser_grammar.specs.declared.parts.Post.TheVariants as behind
 use Rattle.ckc_parser_grammar.specs.declared.parts.Operation.{Operation}
-use Rattle.ckc_parser_grammar.specs.code.Kinds.{kind_of_token, sign_op, binary_op}
+use Rattle.ckc_parser_grammar.specs.declared.parts.Setting.{Setting}
+use Rattle.ckc_parser_grammar.specs.code.Kinds.{kind_of_token, sign_op, compound_op, binary_op}
 use Rattle.ckc_parser_grammar.specs.code.Grammar.{Part, Symbol, t, n, Rule, left, right}
 use Rattle.ckc_parser_grammar.specs.code.Grammar as g
-use Rattle.ckc_parser_grammar.specs.code.Trees.{Item, TypeTree, Decl, Init, Limits, Expr, Stmt, Step, expr_at, stmt_at, starred, statics, local_of, locals, function_of, posted, literal}
-use Rattle.ckc_parser_grammar.specs.code.Values.{Value, directive_of, number_of, named, called, whole, struct_type}
+use Rattle.ckc_parser_grammar.specs.code.Trees.{Item, TypeTree, Decl, Init, Limits, Expr, Stmt, Step, expr_at, stmt_at, starred, statics, local_of, locals, function_of, posted, with_increment, by_one, set, changed, stepped, literal}
+use Rattle.ckc_parser_grammar.specs.code.Values.{Value, directive_of, number_of, named, called_or_named, whole, finished, struct_type}
 use Rattle.ckc_parser_grammar.specs.code.Values as v
 use Rattle.ckc_parser_values.specs.declared.held.Slot.{Slot}
 use Rattle.ckc_parser_values.specs.declared.held.Form.{Form}
 use Rattle.ckc_parser_values.specs.declared.held.Form.TheVariants as form
 use Rattle.ckc_parser_values.specs.declared.held.Held.{Held}
-use Rattle.ckc_parser_values.specs.code.Acts.{declare, declare_each, is_second, mode_of, step_of, mark}
+use Rattle.ckc_parser_values.specs.code.Acts.{declare, declare_each, is_second, mode_of, step_of, increment_of, mark}
 
 -- the types of `calloc` and the count
 pub record Allocated : Type 0 where
@@ -35,32 +36,62 @@ pub record Allocated : Type 0 where
   pub count : Expr
   pub sized : TypeTree
 
--- what goes on with an expression
+-- operators with their operands, and arms
 pub record Chain : Type 0 where
   pub steps : List Step
   pub arms : Option Arms
 
--- what a name goes on with in a value
-pub data NameRest : Type 0 where
-  calling : List Expr → NameRest
-  going : List Post → Chain → NameRest
-  allocating : Allocated → NameRest
+-- what goes on with an expression
+pub record Rest : Type 0 where
+  pub steps : List Step
+  pub arms : Option Arms
+  pub setting : Option Setting
+
+-- what goes on with a name in a unary
+pub record NameRest : Type 0 where
+  pub call : Option (List Expr)
+  pub posts : List Post
+  pub increment : Option Operation
+
+-- what `calloc` goes on with in a value
+pub data ValueRest : Type 0 where
+  going : NameRest → Rest → ValueRest
+  allocating : Allocated → ValueRest
 
 -- what `calloc <` goes on with
 pub data LessRest : Type 0 where
   compared : Expr → Chain → LessRest
   allocated : Allocated → LessRest
 
--- what a name goes on with as a statement: the tokens are `=` and `;`
-pub data StmtRest : Type 0 where
-  calls : List Expr → StmtRest
-  allocates : Allocated → StmtRest
-  assigning : List Post → Spelled → Spelled → Expr → StmtRest
+-- what changes an operand as a statement
+pub record Change : Type 0 where
+  pub increment : Option Operation
+  pub setting : Option Setting
+
+-- what a called name goes on with as a statement
+pub record CalledRest : Type 0 where
+  pub posts : List Post
+  pub change : Change
+
+-- what a name goes on with as a statement
+pub record StmtRest : Type 0 where
+  pub call : Option (List Expr)
+  pub called : CalledRest
+
+-- what `calloc` goes on with as a statement
+pub data CallocRest : Type 0 where
+  changing : StmtRest → CallocRest
+  allocates : Allocated → CallocRest
 
 -- what stands behind a `(`
 pub data Rounded : Type 0 where
   paren : Expr → Rounded
   cast : TypeTree → Expr → Rounded
+
+-- what stands behind a `(` that begins a statement
+pub data RoundedStmt : Type 0 where
+  paren_stmt : Stmt → RoundedStmt
+  cast_stmt : TypeTree → Expr → Option Setting → RoundedStmt
 
 -- what stands behind `bounds (`
 pub data BoundsRest : Type 0 where
@@ -70,7 +101,7 @@ pub data BoundsRest : Type 0 where
 -- what stands behind `bounds ( unknown`
 pub data UnknownRest : Type 0 where
   ended : UnknownRest
-  going_on : List Post → Chain → Expr → UnknownRest
+  going_on : NameRest → Rest → Expr → UnknownRest
 
 -- the parameters, the limits of the result and the body
 pub record HeadRest : Type 0 where
@@ -151,29 +182,38 @@ Kept g.more_locals = List Slot
 Kept g.local = Slot
 Kept g.local_initial = Init
 Kept g.value = Expr
-Kept g.named_value = NameRest
-Kept g.calloc_value = NameRest
+Kept g.calloc_value = ValueRest
 Kept g.less = LessRest
 Kept g.arguments = List Expr
 Kept g.more_arguments = List Expr
 Kept g.allocation = Allocated
+Kept g.setting = Option Setting
+Kept g.later_setting = Option Setting
+Kept g.change = Change
 Kept g.assign = Stmt
+Kept g.unnamed = Stmt
+Kept g.round_assign = RoundedStmt
 Kept g.stmt = Stmt
-Kept g.calloc_stmt = StmtRest
+Kept g.calloc_stmt = CallocRest
 Kept g.named_stmt = StmtRest
+Kept g.called_stmt = CalledRest
 Kept g.otherwise = Option Stmt
 Kept g.condition = Option Expr
 Kept g.for_start = Option Stmt
 Kept g.for_step = Option Stmt
 Kept g.assigns = List Stmt
 Kept g.expr = Expr
-Kept g.expr_rest = Chain
+Kept g.expr_rest = Rest
+Kept g.chain = Chain
 Kept g.choice = Option Arms
 Kept g.tail = List Step
 Kept g.operation = Operation
 Kept g.operation_but_less = Operation
 Kept g.second = Form
 Kept g.unary = Expr
+Kept g.name_rest = NameRest
+Kept g.call_rest = Option (List Expr)
+Kept g.increment = Option Operation
 Kept g.first = Expr
 Kept g.round = Rounded
 Kept g.posts = List Post
@@ -195,19 +235,30 @@ KeptAll (s ∷ ss) = KeptOf s × KeptAll ss
 abbrev pub allocation_at : Spelled → Allocated → Expr
 allocation_at name a = expr_at (node.Calloc a.element a.count a.sized) name.pos
 
-abbrev pub name_expr : NameRest → Spelled → Expr
-name_expr (calling es) name = called name es
-name_expr (going ps c) name = whole (posted (named name) ps) c.steps c.arms
-name_expr (allocating a) name = allocation_at name a
+abbrev pub unary_of : NameRest → Spelled → Expr
+unary_of n name = with_increment (posted (called_or_named name n.call) n.posts) n.increment
+
+abbrev pub rested : Expr → Rest → Expr
+rested e r = finished e r.steps r.arms r.setting
+
+abbrev pub value_expr : ValueRest → Spelled → Expr
+value_expr (going n r) name = rested (unary_of n name) r
+value_expr (allocating a) name = allocation_at name a
 
 abbrev pub less_expr : LessRest → Spelled → Pos → Expr
 less_expr (compared e c) name pos = whole (named name) (record { op = op.Lt; pos = pos; operand = e } ∷ c.steps) c.arms
 less_expr (allocated a) name pos = allocation_at name a
 
 abbrev pub name_stmt : StmtRest → Spelled → Stmt
-name_stmt (calls es) name = stmt_at (act.Call (called name es)) name.pos
-name_stmt (allocates a) name = stmt_at (act.Call (allocation_at name a)) name.pos
-name_stmt (assigning ps equals end e) name = stmt_at (act.Assign (posted (named name) ps) e) equals.pos
+name_stmt s name = changed (posted (called_or_named name s.call) s.called.posts) s.called.change.increment s.called.change.setting
+
+abbrev pub calloc_stmt : CallocRest → Spelled → Stmt
+calloc_stmt (changing s) name = name_stmt s name
+calloc_stmt (allocates a) name = stmt_at (act.Call (allocation_at name a)) name.pos
+
+abbrev pub round_stmt : RoundedStmt → Pos → Stmt
+round_stmt (paren_stmt s) pos = s
+round_stmt (cast_stmt c e s) pos = changed (expr_at (node.Cast c e) pos) None s
 
 abbrev pub round_expr : Rounded → Pos → Expr
 round_expr (paren e) pos = e
@@ -219,7 +270,7 @@ bounds_at (between e f) pos = bounds.Between e f pos
 
 abbrev pub unknown_rest : UnknownRest → Spelled → BoundsRest
 unknown_rest ended name = unknown
-unknown_rest (going_on ps c e) name = between (whole (posted (named name) ps) c.steps c.arms) e
+unknown_rest (going_on n r e) name = between (rested (unary_of n name) r) e
 
 abbrev pub head_item : HeadRest → Option Mode → TypeTree → Spelled → Item
 head_item h m result name = function_of (record { mode = m; result = result; name = name.text; params = h.params; bounds = h.bounds; pos = name.pos }) h.body
@@ -244,8 +295,16 @@ abbrev pub declarator_items : DeclaratorRest → TypeTree → TypeTree → Spell
 declarator_items (headed h) base whole name = head_item h None whole name ∷ []
 declarator_items (objects o ss) base whole name = statics (v.declared whole name o.length o.bounds o.init ∷ declare_each base ss)
 
-abbrev pub less_rest : LessRest → Pos → NameRest
-less_rest (compared e c) pos = going [] (record { steps = record { op = op.Lt; pos = pos; operand = e } ∷ c.steps; arms = c.arms })
+-- a name alone
+abbrev pub bare : NameRest
+bare = record { call = None; posts = []; increment = None }
+
+-- operators and arms without a setting
+abbrev pub chained : List Step → Option Arms → Rest
+chained ss c = record { steps = ss; arms = c; setting = None }
+
+abbrev pub less_rest : LessRest → Pos → ValueRest
+less_rest (compared e c) pos = going bare (chained (record { op = op.Lt; pos = pos; operand = e } ∷ c.steps) c.arms)
 less_rest (allocated a) pos = allocating a
 
 -- the value that is held
@@ -292,29 +351,38 @@ worth g.more_locals k = v.decls_of_base (λ base. declare_each base k)
 worth g.local k = v.decl_of_base (λ base. declare base k)
 worth g.local_initial k = v.init k
 worth g.value k = v.expr k
-worth g.named_value k = v.expr_of_name (λ name. name_expr k name)
-worth g.calloc_value k = v.expr_of_name (λ name. name_expr k name)
+worth g.calloc_value k = v.expr_of_name (λ name. value_expr k name)
 worth g.less k = v.expr_of_less (λ name pos. less_expr k name pos)
 worth g.arguments k = v.exprs k
 worth g.more_arguments k = v.exprs k
 worth g.allocation k = v.expr_of_name (λ name. allocation_at name k)
+worth g.setting k = v.setting k
+worth g.later_setting k = v.setting k
+worth g.change k = v.change k.increment k.setting
 worth g.assign k = v.stmt k
+worth g.unnamed k = v.stmt k
+worth g.round_assign k = v.stmt_behind (λ pos. round_stmt k pos)
 worth g.stmt k = v.stmt k
-worth g.calloc_stmt k = v.stmt_of_name (λ name. name_stmt k name)
+worth g.calloc_stmt k = v.stmt_of_name (λ name. calloc_stmt k name)
 worth g.named_stmt k = v.stmt_of_name (λ name. name_stmt k name)
+worth g.called_stmt k = v.called_change k.posts k.change.increment k.change.setting
 worth g.otherwise k = v.part k
 worth g.condition k = v.value k
 worth g.for_start k = v.part k
 worth g.for_step k = v.part k
 worth g.assigns k = v.stmts k
 worth g.expr k = v.expr k
-worth g.expr_rest k = v.rest k.steps k.arms
+worth g.expr_rest k = v.rest k.steps k.arms k.setting
+worth g.chain k = v.rest k.steps k.arms None
 worth g.choice k = v.arms k
 worth g.tail k = v.steps k
 worth g.operation k = v.operator k.op k.pos
 worth g.operation_but_less k = v.operator k.op k.pos
 worth g.second k = v.second (is_second k)
 worth g.unary k = v.expr k
+worth g.name_rest k = v.expr_of_name (λ name. unary_of k name)
+worth g.call_rest k = v.call k
+worth g.increment k = v.increment k
 worth g.first k = v.expr k
 worth g.round k = v.expr_behind (λ pos. round_expr k pos)
 worth g.posts k = v.posts k
@@ -331,23 +399,40 @@ put_allocated a w = record w { types = a.element ∷ a.sized ∷ w.types; exprs 
 abbrev pub put_chain : Chain → Held → Held
 put_chain c w = record w { steps = c.steps ∷ w.steps; arms = c.arms ∷ w.arms }
 
+abbrev pub put_rest : Rest → Held → Held
+put_rest r w = record w { steps = r.steps ∷ w.steps; arms = r.arms ∷ w.arms; settings = r.setting ∷ w.settings }
+
 abbrev pub put_name : NameRest → Held → Held
-put_name (calling es) w = record w { forms = form.First ∷ w.forms; expr_lists = es ∷ w.expr_lists }
-put_name (going ps c) w = record w { forms = form.Second ∷ w.forms; posts = ps ∷ w.posts; steps = c.steps ∷ w.steps; arms = c.arms ∷ w.arms }
-put_name (allocating a) w = mark form.Third (put_allocated a w)
+put_name n w = record w { calls = n.call ∷ w.calls; posts = n.posts ∷ w.posts; increments = n.increment ∷ w.increments }
+
+abbrev pub put_value : ValueRest → Held → Held
+put_value (going n r) w = mark form.First (put_name n (put_rest r w))
+put_value (allocating a) w = mark form.Second (put_allocated a w)
 
 abbrev pub put_less : LessRest → Held → Held
 put_less (compared e c) w = record w { forms = form.First ∷ w.forms; exprs = e ∷ w.exprs; steps = c.steps ∷ w.steps; arms = c.arms ∷ w.arms }
 put_less (allocated a) w = mark form.Second (put_allocated a w)
 
+abbrev pub put_change : Change → Held → Held
+put_change c w = record w { increments = c.increment ∷ w.increments; settings = c.setting ∷ w.settings }
+
+abbrev pub put_called : CalledRest → Held → Held
+put_called c w = (let u = put_change c.change w in record u { posts = c.posts ∷ u.posts })
+
 abbrev pub put_stmt_rest : StmtRest → Held → Held
-put_stmt_rest (calls es) w = record w { forms = form.First ∷ w.forms; expr_lists = es ∷ w.expr_lists }
-put_stmt_rest (allocates a) w = mark form.Second (put_allocated a w)
-put_stmt_rest (assigning ps equals end e) w = record w { forms = form.Third ∷ w.forms; posts = ps ∷ w.posts; tokens = equals ∷ end ∷ w.tokens; exprs = e ∷ w.exprs }
+put_stmt_rest s w = (let u = put_called s.called w in record u { calls = s.call ∷ u.calls })
+
+abbrev pub put_calloc : CallocRest → Held → Held
+put_calloc (changing s) w = mark form.First (put_stmt_rest s w)
+put_calloc (allocates a) w = mark form.Second (put_allocated a w)
 
 abbrev pub put_round : Rounded → Held → Held
 put_round (paren e) w = record w { forms = form.First ∷ w.forms; exprs = e ∷ w.exprs }
 put_round (cast c e) w = record w { forms = form.Second ∷ w.forms; types = c ∷ w.types; exprs = e ∷ w.exprs }
+
+abbrev pub put_round_stmt : RoundedStmt → Held → Held
+put_round_stmt (paren_stmt s) w = record w { forms = form.First ∷ w.forms; stmts = s ∷ w.stmts }
+put_round_stmt (cast_stmt c e s) w = record w { forms = form.Second ∷ w.forms; types = c ∷ w.types; exprs = e ∷ w.exprs; settings = s ∷ w.settings }
 
 abbrev pub put_bounds : BoundsRest → Held → Held
 put_bounds unknown w = mark form.First w
@@ -355,7 +440,7 @@ put_bounds (between e f) w = record w { forms = form.Second ∷ w.forms; exprs =
 
 abbrev pub put_unknown : UnknownRest → Held → Held
 put_unknown ended w = mark form.First w
-put_unknown (going_on ps c e) w = record w { forms = form.Second ∷ w.forms; posts = ps ∷ w.posts; steps = c.steps ∷ w.steps; arms = c.arms ∷ w.arms; exprs = e ∷ w.exprs }
+put_unknown (going_on n r e) w = mark form.Second (put_name n (put_rest r (record w { exprs = e ∷ w.exprs })))
 
 abbrev pub put_head : HeadRest → Held → Held
 put_head h w = record w { decl_lists = h.params ∷ w.decl_lists; bounds = h.bounds ∷ w.bounds; parts = h.body ∷ w.parts }
@@ -422,29 +507,38 @@ put g.more_locals k w = record w { slot_lists = k ∷ w.slot_lists }
 put g.local k w = record w { slots = k ∷ w.slots }
 put g.local_initial k w = record w { inits = k ∷ w.inits }
 put g.value k w = record w { exprs = k ∷ w.exprs }
-put g.named_value k w = put_name k w
-put g.calloc_value k w = put_name k w
+put g.calloc_value k w = put_value k w
 put g.less k w = put_less k w
 put g.arguments k w = record w { expr_lists = k ∷ w.expr_lists }
 put g.more_arguments k w = record w { expr_lists = k ∷ w.expr_lists }
 put g.allocation k w = put_allocated k w
+put g.setting k w = record w { settings = k ∷ w.settings }
+put g.later_setting k w = record w { settings = k ∷ w.settings }
+put g.change k w = put_change k w
 put g.assign k w = record w { stmts = k ∷ w.stmts }
+put g.unnamed k w = record w { stmts = k ∷ w.stmts }
+put g.round_assign k w = put_round_stmt k w
 put g.stmt k w = record w { stmts = k ∷ w.stmts }
-put g.calloc_stmt k w = put_stmt_rest k w
+put g.calloc_stmt k w = put_calloc k w
 put g.named_stmt k w = put_stmt_rest k w
+put g.called_stmt k w = put_called k w
 put g.otherwise k w = record w { parts = k ∷ w.parts }
 put g.condition k w = record w { values = k ∷ w.values }
 put g.for_start k w = record w { parts = k ∷ w.parts }
 put g.for_step k w = record w { parts = k ∷ w.parts }
 put g.assigns k w = record w { stmt_lists = k ∷ w.stmt_lists }
 put g.expr k w = record w { exprs = k ∷ w.exprs }
-put g.expr_rest k w = put_chain k w
+put g.expr_rest k w = put_rest k w
+put g.chain k w = put_chain k w
 put g.choice k w = record w { arms = k ∷ w.arms }
 put g.tail k w = record w { steps = k ∷ w.steps }
 put g.operation k w = record w { operators = k ∷ w.operators }
 put g.operation_but_less k w = record w { operators = k ∷ w.operators }
 put g.second k w = record w { forms = k ∷ w.forms }
 put g.unary k w = record w { exprs = k ∷ w.exprs }
+put g.name_rest k w = put_name k w
+put g.call_rest k w = record w { calls = k ∷ w.calls }
+put g.increment k w = record w { increments = k ∷ w.increments }
 put g.first k w = record w { exprs = k ∷ w.exprs }
 put g.round k w = put_round k w
 put g.posts k w = record w { posts = k ∷ w.posts }
@@ -545,10 +639,10 @@ close g.Count (c, (a, (e, (b, z)))) = bounds.Count e c.pos
 close g.ByteCount (c, (a, (e, (b, z)))) = bounds.ByteCount e c.pos
 close g.BoundsOf (b, (a, (r, z))) = bounds_at r b.pos
 close g.Unknown (u, (r, z)) = unknown_rest r u
-close g.BetweenNamed (name, (ps, (r, (d, (e, (b, z)))))) = between (whole (posted (named name) ps) r.steps r.arms) e
-close g.Between (f, (r, (d, (e, (b, z))))) = between (whole f r.steps r.arms) e
+close g.BetweenNamed (name, (n, (r, (d, (e, (b, z)))))) = between (rested (unary_of n name) r) e
+close g.Between (f, (r, (d, (e, (b, z))))) = between (rested f r) e
 close g.UnknownEnd (b, z) = ended
-close g.UnknownName (ps, (r, (d, (e, (b, z))))) = going_on ps r e
+close g.UnknownName (n, (r, (d, (e, (b, z))))) = going_on n r e
 close g.EndBlock (b, z) = []
 close g.Locals (ds, (ss, z)) = locals ds ++ ss
 close g.Stmts (s, (ss, z)) = s ∷ ss
@@ -558,16 +652,16 @@ close g.NoLocals (a, z) = []
 close g.LocalName (ps, (name, (b, (i, z)))) = slot_of ps name (record { length = lengths.Plain; bounds = b; init = i })
 close g.LocalInitial (e, (x, z)) = inits.One x
 close g.NoLocalInitial z = inits.Nothing
-close g.CallocValue (name, (x, z)) = name_expr x name
-close g.NamedValue (name, (x, z)) = name_expr x name
-close g.Value (f, (r, z)) = whole f r.steps r.arms
-close g.CallValue (a, (es, z)) = calling es
-close g.ExprValue (ps, (r, z)) = going ps r
-close g.CallocCall (a, (es, z)) = calling es
+close g.CallocValue (name, (x, z)) = value_expr x name
+close g.NamedValue (name, (n, (r, z))) = rested (unary_of n name) r
+close g.Value (f, (r, z)) = rested f r
+close g.CallocCall (a, (es, (ps, (i, (r, z))))) = going (record { call = Some es; posts = ps; increment = i }) r
 close g.CallocLess (a, (x, z)) = less_rest x a.pos
-close g.CallocPost (p, (ps, (r, z))) = going (p ∷ ps) r
-close g.CallocStep (o, (e, (r, z))) = going [] (record { steps = step_of o e ∷ r.steps; arms = r.arms })
-close g.CallocName (c, z) = going [] (record { steps = []; arms = c })
+close g.CallocPost (p, (ps, (i, (r, z)))) = going (record { call = None; posts = p ∷ ps; increment = i }) r
+close g.CallocIncrement (o, (r, z)) = going (record { call = None; posts = []; increment = Some (increment_of o) }) r
+close g.CallocSetting (s, z) = going bare (record { steps = []; arms = None; setting = s })
+close g.CallocStep (o, (e, (r, z))) = going bare (chained (step_of o e ∷ r.steps) r.arms)
+close g.CallocName (c, z) = going bare (chained [] c)
 close g.LessOperand (e, (r, z)) = compared e r
 close g.LessType (a, z) = allocated a
 close g.NoArguments (b, z) = []
@@ -575,7 +669,21 @@ close g.Arguments (e, (es, z)) = e ∷ es
 close g.MoreArguments (c, (e, (es, z))) = e ∷ es
 close g.EndArguments (b, z) = []
 close g.Allocation (c, (a, (b, (e, (d, (s, (f, (u, (i, (j, z)))))))))) = record { element = c; count = e; sized = u }
-close g.Assign (e, (a, (x, z))) = stmt_at (act.Assign e x) a.pos
+close g.SetTo (a, (x, z)) = Some (record { op = None; pos = a.pos; value = x })
+close g.SetBy (o, (e, z)) = Some (record { op = Some (compound_op (kind_of_token o)); pos = o.pos; value = e })
+close g.LaterSetting (s, z) = s
+close g.NoSetting z = None
+close g.SettingChange (s, z) = record { increment = None; setting = s }
+close g.IncrementChange (o, (s, z)) = record { increment = Some (increment_of o); setting = s }
+close g.NamedAssign (name, (c, (ps, (d, z)))) = changed (posted (called_or_named name c) ps) d.increment d.setting
+close g.UnnamedAssign (s, z) = s
+close g.SignedAssign (a, (e, (s, z))) = changed (expr_at (node.Un (sign_op (kind_of_token a)) e) a.pos) None s
+close g.IncrementAssign (o, (e, (s, z))) = stepped e (increment_of o) s
+close g.RoundAssign (a, (r, z)) = round_stmt r a.pos
+close g.SizeofAssign (x, (a, (c, (b, (s, z))))) = changed (expr_at (node.Size c) x.pos) None s
+close g.PostfixAssign (e, (ps, (d, z))) = changed (posted e ps) d.increment d.setting
+close g.ParenAssign (e, (b, (ps, (d, z)))) = paren_stmt (changed (posted e ps) d.increment d.setting)
+close g.CastAssign (c, (b, (e, (s, z)))) = cast_stmt c e s
 close g.ModedBlock (m, (a, (ss, z))) = stmt_at (act.Block (Some (mode_of m.which)) ss) m.token.pos
 close g.Block (a, (ss, z)) = stmt_at (act.Block None ss) a.pos
 close g.Empty (a, z) = stmt_at act.Empty a.pos
@@ -587,13 +695,15 @@ close g.Break (b, (a, z)) = stmt_at act.Break b.pos
 close g.Continue (c, (a, z)) = stmt_at act.Continue c.pos
 close g.Check (c, (a, (e, (b, (d, z))))) = stmt_at (act.Check e) c.pos
 close g.Bundle (b, (a, (s, (c, (u, (d, (ss, z))))))) = stmt_at (act.Bundle (s ∷ u ∷ ss)) b.pos
-close g.CallocStmt (name, (s, z)) = name_stmt s name
-close g.NamedStmt (name, (s, z)) = name_stmt s name
-close g.AssignStmt (f, (a, (x, (b, z)))) = stmt_at (act.Assign f x) a.pos
-close g.CallocTypeStmt (a, (x, (b, z))) = allocates x
-close g.CallocNameStmt (s, z) = s
-close g.CallStmt (a, (es, (b, z))) = calls es
-close g.NamedAssign (ps, (a, (x, (b, z)))) = assigning ps a b x
+close g.CallocStmt (name, (s, (a, z))) = calloc_stmt s name
+close g.NamedStmt (name, (s, (a, z))) = name_stmt s name
+close g.AssignStmt (s, (a, z)) = s
+close g.CallocTypeStmt (a, (x, z)) = allocates x
+close g.CallocNameStmt (s, z) = changing s
+close g.CallStmt (a, (es, (c, z))) = record { call = Some es; called = c }
+close g.ChangeStmt (ps, (d, z)) = record { call = None; called = record { posts = ps; change = d } }
+close g.CalledStmt z = record { posts = []; change = record { increment = None; setting = None } }
+close g.CalledChange (ps, (d, z)) = record { posts = ps; change = d }
 close g.Else (e, (s, z)) = Some s
 close g.NoElse z = None
 close g.NoCondition (a, z) = None
@@ -605,8 +715,10 @@ close g.NoStep (b, z) = None
 close g.AssignStep (s, (b, z)) = Some s
 close g.EndAssigns (b, z) = []
 close g.Assigns (s, (a, (ss, z))) = s ∷ ss
-close g.Expr (e, (r, z)) = whole e r.steps r.arms
-close g.ExprRest (ss, (c, z)) = record { steps = ss; arms = c }
+close g.Expr (e, (r, z)) = rested e r
+close g.ExprRest (c, z) = chained c.steps c.arms
+close g.ExprSetting (s, z) = record { steps = []; arms = None; setting = s }
+close g.Chain (ss, (c, z)) = record { steps = ss; arms = c }
 close g.Choice (q, (e, (c, (f, z)))) = Some (record { pos = q.pos; yes = e; no = f })
 close g.NoChoice z = None
 close g.Step (o, (e, (ss, z))) = step_of o e ∷ ss
@@ -617,13 +729,19 @@ close g.Operator (a, z) = record { op = binary_op (kind_of_token a); pos = a.pos
 close g.Greater (a, (b, z)) = record { op = if is_second b then op.Shr else op.Gt; pos = a.pos }
 close g.Second (a, z) = form.Second
 close g.NoSecond z = form.First
-close g.Named (name, (ps, z)) = posted (named name) ps
+close g.Named (name, (n, z)) = unary_of n name
+close g.NameRest (c, (ps, (i, z))) = record { call = c; posts = ps; increment = i }
+close g.CallRest (a, (es, z)) = Some es
+close g.NoCall z = None
+close g.Increment (o, z) = Some (increment_of o)
+close g.NoIncrement z = None
 close g.Unnamed (e, z) = e
 close g.Signed (a, (e, z)) = expr_at (node.Un (sign_op (kind_of_token a)) e) a.pos
+close g.Incremented (o, (e, z)) = set e (by_one (increment_of o))
 close g.Round (a, (e, z)) = round_expr e a.pos
 close g.Sizeof (s, (a, (c, (b, z)))) = expr_at (node.Size c) s.pos
-close g.Postfix (e, (ps, z)) = posted e ps
-close g.Paren (e, (b, (ps, z))) = paren (posted e ps)
+close g.Postfix (e, (ps, (i, z))) = with_increment (posted e ps) i
+close g.Paren (e, (b, (ps, (i, z)))) = paren (with_increment (posted e ps) i)
 close g.Cast (c, (b, (e, z))) = cast c e
 close g.Posts (p, (ps, z)) = p ∷ ps
 close g.NoPosts z = []

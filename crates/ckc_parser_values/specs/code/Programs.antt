@@ -18,6 +18,7 @@ pub data Action : Type 0 where
   name_expr : Action
   post_expr : Action
   join_expr : Action
+  increment_expr : Action
   named_value : Action
   signed : Action
   round : Action
@@ -28,6 +29,14 @@ pub data Action : Type 0 where
   end_of_file : Action
   tested : Action
   trusted : Action
+  incremented : Action
+  some_increment : Action
+  no_increment : Action
+  some_call : Action
+  no_call : Action
+  set_to : Action
+  set_by : Action
+  no_setting : Action
   new_exprs : Action
   add_expr : Action
   no_posts : Action
@@ -79,7 +88,9 @@ pub data Action : Type 0 where
   new_decls : Action
   add_decl : Action
   add_decls : Action
-  assign : Action
+  change_stmt : Action
+  step_stmt : Action
+  round_stmt : Action
   moded_block : Action
   block : Action
   empty : Action
@@ -109,7 +120,7 @@ pub data Action : Type 0 where
 
 -- the actions, by their numbers
 abbrev pub all_actions : List Action
-all_actions = skip ∷ first ∷ second ∷ third ∷ name_expr ∷ post_expr ∷ join_expr ∷ named_value ∷ signed ∷ round ∷ size_of ∷ constant ∷ string ∷ null ∷ end_of_file ∷ tested ∷ trusted ∷ new_exprs ∷ add_expr ∷ no_posts ∷ add_post ∷ index ∷ dot ∷ arrow ∷ no_steps ∷ add_step ∷ no_arms ∷ choose ∷ less ∷ operator ∷ greater ∷ calloc_less ∷ some_value ∷ no_value ∷ void ∷ int ∷ unsigned ∷ char ∷ point ∷ point_array ∷ point_string ∷ structure_type ∷ star ∷ no_stars ∷ add_star ∷ count ∷ byte_count ∷ bounds_of ∷ unknown ∷ some_limits ∷ no_limits ∷ no_init ∷ one_init ∷ many_init ∷ plain ∷ raw_array ∷ checked_array ∷ nt_array ∷ some_size ∷ no_size ∷ make_slot ∷ new_slots ∷ add_slot ∷ declare_one ∷ declare_all ∷ new_decls ∷ add_decl ∷ add_decls ∷ assign ∷ moded_block ∷ block ∷ empty ∷ if_stmt ∷ while_stmt ∷ for_stmt ∷ return_stmt ∷ break_stmt ∷ continue_stmt ∷ check ∷ bundle ∷ new_stmts ∷ add_stmt ∷ add_next_stmt ∷ add_locals ∷ some_stmt ∷ no_part ∷ local_stmt ∷ named_stmt ∷ new_items ∷ directive ∷ moded ∷ voided ∷ items_of_base ∷ structure ∷ add_items ∷ []
+all_actions = skip ∷ first ∷ second ∷ third ∷ name_expr ∷ post_expr ∷ join_expr ∷ increment_expr ∷ named_value ∷ signed ∷ round ∷ size_of ∷ constant ∷ string ∷ null ∷ end_of_file ∷ tested ∷ trusted ∷ incremented ∷ some_increment ∷ no_increment ∷ some_call ∷ no_call ∷ set_to ∷ set_by ∷ no_setting ∷ new_exprs ∷ add_expr ∷ no_posts ∷ add_post ∷ index ∷ dot ∷ arrow ∷ no_steps ∷ add_step ∷ no_arms ∷ choose ∷ less ∷ operator ∷ greater ∷ calloc_less ∷ some_value ∷ no_value ∷ void ∷ int ∷ unsigned ∷ char ∷ point ∷ point_array ∷ point_string ∷ structure_type ∷ star ∷ no_stars ∷ add_star ∷ count ∷ byte_count ∷ bounds_of ∷ unknown ∷ some_limits ∷ no_limits ∷ no_init ∷ one_init ∷ many_init ∷ plain ∷ raw_array ∷ checked_array ∷ nt_array ∷ some_size ∷ no_size ∷ make_slot ∷ new_slots ∷ add_slot ∷ declare_one ∷ declare_all ∷ new_decls ∷ add_decl ∷ add_decls ∷ change_stmt ∷ step_stmt ∷ round_stmt ∷ moded_block ∷ block ∷ empty ∷ if_stmt ∷ while_stmt ∷ for_stmt ∷ return_stmt ∷ break_stmt ∷ continue_stmt ∷ check ∷ bundle ∷ new_stmts ∷ add_stmt ∷ add_next_stmt ∷ add_locals ∷ some_stmt ∷ no_part ∷ local_stmt ∷ named_stmt ∷ new_items ∷ directive ∷ moded ∷ voided ∷ items_of_base ∷ structure ∷ add_items ∷ []
 
 abbrev pub action_of : ℕ → Action
 action_of b = get_or all_actions b skip
@@ -122,6 +133,7 @@ acted third h = a.mark form.Third h
 acted name_expr h = a.name_expr h
 acted post_expr h = a.post_expr h
 acted join_expr h = a.join_expr h
+acted increment_expr h = a.increment_expr h
 acted named_value h = a.named_value h
 acted signed h = a.signed h
 acted round h = a.round h
@@ -132,6 +144,14 @@ acted null h = a.null h
 acted end_of_file h = a.end_of_file h
 acted tested h = a.tested h
 acted trusted h = a.trusted h
+acted incremented h = a.incremented h
+acted some_increment h = a.some_increment h
+acted no_increment h = a.no_increment h
+acted some_call h = a.some_call h
+acted no_call h = a.no_call h
+acted set_to h = a.set_to h
+acted set_by h = a.set_by h
+acted no_setting h = a.no_setting h
 acted new_exprs h = a.new_exprs h
 acted add_expr h = a.add_expr h
 acted no_posts h = a.no_posts h
@@ -183,7 +203,9 @@ acted declare_all h = a.declare_all h
 acted new_decls h = a.new_decls h
 acted add_decl h = a.add_decl h
 acted add_decls h = a.add_decls h
-acted assign h = a.assign h
+acted change_stmt h = a.change_stmt h
+acted step_stmt h = a.step_stmt h
+acted round_stmt h = a.round_stmt h
 acted moded_block h = a.moded_block h
 acted block h = a.block h
 acted empty h = a.empty h
@@ -290,7 +312,7 @@ program g.Count = count ∷ skip ∷ skip ∷ []
 program g.ByteCount = byte_count ∷ skip ∷ skip ∷ []
 program g.BoundsOf = bounds_of ∷ skip ∷ []
 program g.Unknown = unknown ∷ []
-program g.BetweenNamed = name_expr ∷ post_expr ∷ join_expr ∷ skip ∷ skip ∷ second ∷ []
+program g.BetweenNamed = name_expr ∷ post_expr ∷ increment_expr ∷ join_expr ∷ skip ∷ skip ∷ second ∷ []
 program g.Between = join_expr ∷ skip ∷ skip ∷ second ∷ []
 program g.UnknownEnd = skip ∷ first ∷ []
 program g.UnknownName = skip ∷ skip ∷ second ∷ []
@@ -304,15 +326,15 @@ program g.LocalName = plain ∷ make_slot ∷ []
 program g.LocalInitial = skip ∷ one_init ∷ []
 program g.NoLocalInitial = no_init ∷ []
 program g.CallocValue = named_value ∷ []
-program g.NamedValue = named_value ∷ []
+program g.NamedValue = name_expr ∷ post_expr ∷ increment_expr ∷ join_expr ∷ []
 program g.Value = join_expr ∷ []
-program g.CallValue = skip ∷ first ∷ []
-program g.ExprValue = second ∷ []
-program g.CallocCall = skip ∷ first ∷ []
+program g.CallocCall = skip ∷ some_call ∷ first ∷ []
 program g.CallocLess = calloc_less ∷ []
-program g.CallocPost = add_post ∷ second ∷ []
-program g.CallocStep = add_step ∷ no_posts ∷ second ∷ []
-program g.CallocName = no_steps ∷ no_posts ∷ second ∷ []
+program g.CallocPost = add_post ∷ no_call ∷ first ∷ []
+program g.CallocIncrement = some_increment ∷ no_posts ∷ no_call ∷ first ∷ []
+program g.CallocSetting = no_steps ∷ no_arms ∷ no_posts ∷ no_increment ∷ no_call ∷ first ∷ []
+program g.CallocStep = add_step ∷ no_setting ∷ no_posts ∷ no_increment ∷ no_call ∷ first ∷ []
+program g.CallocName = no_steps ∷ no_setting ∷ no_posts ∷ no_increment ∷ no_call ∷ first ∷ []
 program g.LessOperand = first ∷ []
 program g.LessType = second ∷ []
 program g.NoArguments = skip ∷ new_exprs ∷ []
@@ -320,7 +342,21 @@ program g.Arguments = add_expr ∷ []
 program g.MoreArguments = skip ∷ add_expr ∷ []
 program g.EndArguments = skip ∷ new_exprs ∷ []
 program g.Allocation = skip ∷ skip ∷ skip ∷ skip ∷ skip ∷ skip ∷ skip ∷ []
-program g.Assign = assign ∷ []
+program g.SetTo = set_to ∷ []
+program g.SetBy = set_by ∷ []
+program g.LaterSetting = []
+program g.NoSetting = no_setting ∷ []
+program g.SettingChange = no_increment ∷ []
+program g.IncrementChange = some_increment ∷ []
+program g.NamedAssign = name_expr ∷ post_expr ∷ change_stmt ∷ []
+program g.UnnamedAssign = []
+program g.SignedAssign = signed ∷ no_increment ∷ change_stmt ∷ []
+program g.IncrementAssign = step_stmt ∷ []
+program g.RoundAssign = round_stmt ∷ []
+program g.SizeofAssign = size_of ∷ skip ∷ skip ∷ no_increment ∷ change_stmt ∷ []
+program g.PostfixAssign = post_expr ∷ change_stmt ∷ []
+program g.ParenAssign = skip ∷ post_expr ∷ change_stmt ∷ first ∷ []
+program g.CastAssign = skip ∷ second ∷ []
 program g.ModedBlock = moded_block ∷ skip ∷ []
 program g.Block = block ∷ []
 program g.Empty = empty ∷ []
@@ -332,13 +368,15 @@ program g.Break = break_stmt ∷ skip ∷ []
 program g.Continue = continue_stmt ∷ skip ∷ []
 program g.Check = check ∷ skip ∷ skip ∷ skip ∷ []
 program g.Bundle = add_next_stmt ∷ add_stmt ∷ bundle ∷ skip ∷ skip ∷ skip ∷ []
-program g.CallocStmt = named_stmt ∷ []
-program g.NamedStmt = named_stmt ∷ []
-program g.AssignStmt = assign ∷ skip ∷ []
-program g.CallocTypeStmt = skip ∷ skip ∷ second ∷ []
-program g.CallocNameStmt = []
-program g.CallStmt = skip ∷ skip ∷ first ∷ []
-program g.NamedAssign = third ∷ []
+program g.CallocStmt = named_stmt ∷ skip ∷ []
+program g.NamedStmt = name_expr ∷ post_expr ∷ change_stmt ∷ skip ∷ []
+program g.AssignStmt = skip ∷ []
+program g.CallocTypeStmt = skip ∷ second ∷ []
+program g.CallocNameStmt = first ∷ []
+program g.CallStmt = skip ∷ some_call ∷ []
+program g.ChangeStmt = no_call ∷ []
+program g.CalledStmt = no_posts ∷ no_increment ∷ no_setting ∷ []
+program g.CalledChange = []
 program g.Else = skip ∷ some_stmt ∷ []
 program g.NoElse = no_part ∷ []
 program g.NoCondition = skip ∷ no_value ∷ []
@@ -351,7 +389,9 @@ program g.AssignStep = skip ∷ some_stmt ∷ []
 program g.EndAssigns = skip ∷ new_stmts ∷ []
 program g.Assigns = skip ∷ add_stmt ∷ []
 program g.Expr = join_expr ∷ []
-program g.ExprRest = []
+program g.ExprRest = no_setting ∷ []
+program g.ExprSetting = no_steps ∷ no_arms ∷ []
+program g.Chain = []
 program g.Choice = choose ∷ skip ∷ []
 program g.NoChoice = no_arms ∷ []
 program g.Step = add_step ∷ []
@@ -362,13 +402,19 @@ program g.Operator = operator ∷ []
 program g.Greater = greater ∷ []
 program g.Second = skip ∷ second ∷ []
 program g.NoSecond = first ∷ []
-program g.Named = name_expr ∷ post_expr ∷ []
+program g.Named = name_expr ∷ post_expr ∷ increment_expr ∷ []
+program g.NameRest = []
+program g.CallRest = skip ∷ some_call ∷ []
+program g.NoCall = no_call ∷ []
+program g.Increment = some_increment ∷ []
+program g.NoIncrement = no_increment ∷ []
 program g.Unnamed = []
 program g.Signed = signed ∷ []
+program g.Incremented = incremented ∷ []
 program g.Round = round ∷ []
 program g.Sizeof = size_of ∷ skip ∷ skip ∷ []
-program g.Postfix = post_expr ∷ []
-program g.Paren = skip ∷ post_expr ∷ first ∷ []
+program g.Postfix = post_expr ∷ increment_expr ∷ []
+program g.Paren = skip ∷ post_expr ∷ increment_expr ∷ first ∷ []
 program g.Cast = skip ∷ second ∷ []
 program g.Posts = add_post ∷ []
 program g.NoPosts = no_posts ∷ []
