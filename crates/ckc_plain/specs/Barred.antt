@@ -68,9 +68,13 @@ in_decl known d = in_bounds known d.bounds ++ in_static_init known d.init
 abbrev pub in_head : Integers → NamedHead → List Pos
 in_head known h = inside_each listed (in_decl known) h.params ++ in_bounds known h.bounds
 
+-- the refused effects of a function, whose body knows its locals
+abbrev pub in_function : Integers → NamedHead → NamedStmt → List Pos
+in_function known h body = in_head known h ++ in_stmt (known_in known h body) body false
+
 -- the refused effects of an item of a text
 abbrev pub in_item : Integers → NamedItem → List Pos
-in_item known (item.Function h body) = in_head known h ++ in_stmt (known_in known h body) body false
+in_item known (item.Function h body) = in_function known h body
 in_item known i = inside_item listed (in_decl known) (in_head known) (λ s. []) i
 
 -- the places of the effects of a text that may not stand where they stand, in walk order

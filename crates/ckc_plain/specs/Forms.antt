@@ -45,6 +45,11 @@ form_of_layer n = form.Other
 abbrev pub form_of : NamedExpr → Form
 form_of e = form_of_layer (out-Node Name (Unit {0}) e.node)
 
+-- whether an operator is the assignment
+abbrev pub is_set : Work → Bool
+is_set work.Sets = true
+is_set w = false
+
 abbrev pub is_name : Form → Bool
 is_name (form.Name n) = true
 is_name f = false

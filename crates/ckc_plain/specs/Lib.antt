@@ -7,3 +7,4 @@ pub mod Taken
 pub mod Expressions
 pub mod Statements
 pub mod Phase
+pub mod code

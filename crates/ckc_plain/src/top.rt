@@ -1,0 +1,142 @@
+//! The phase, and the limits and all phases up to it.
+
+ghost use Rattle.std.specs.Prelude.{◌≡◌, IfOk, OnOk};
+ghost use Rattle.ckc_base.specs.Outcomes.{AnswersOutcome};
+ghost use Rattle.ckc_plain.specs.Integers.{known_of};
+ghost use Rattle.ckc_base.specs.Phases.{Exact};
+ghost use Rattle.ckc_plain.specs.Statements.{item_plain};
+ghost use Rattle.ckc_plain.specs.Phase.{unless_some, text_plain, plaining, relimiting, resolving};
+ghost use Rattle.ckc_plain.specs.code.Statements.{items_plain};
+ghost use Rattle.ckc_plain.specs.Barred.{barred};
+ghost use Rattle.ckc_syntax_limits.specs.Phase.{limiting};
+
+use crate::barred::first_in_items;
+use crate::integers::{Integers, known_of, locals_of};
+use crate::statements::stmt_alone;
+use ckc_base::{Fault, Seq, refused};
+use ckc_resolve::resolve;
+use ckc_syntax::{Head, Item, Name, NamedText, Spelling, Stmt, Tree, boxed_head};
+use ckc_syntax_limits::fits;
+use std::alloc::{AllocError, Global};
+use std::mem::{forget, replace};
+
+/// E408: an effect stands where it may not, or cannot be taken out of its expression.
+pub const MISPLACED_EFFECT: u16 = 408;
+
+fn plain_function(
+    alloc: Global,
+    known: &mut Integers,
+    head: &Head<Name, ()>,
+    body: &Stmt<Name, ()>,
+) -> Result<Item<Name, ()>, AllocError>
+    ensures made { IfOk result (λ i. i ≡ item_plain known.old (Item.Function head.now body.now)) }
+    ensures kept { OnOk result (known.new ≡ known.old) }
+{
+    let locals = locals_of(alloc, head, body)?;
+    let mut next = count(locals.len())?;
+    let outer = replace(&mut known.locals, locals);
+    let body = stmt_alone(alloc, known, body, &mut next)?;
+    known.locals = outer;
+    let head = boxed_head(alloc, head)?;
+    Ok(Item::Function(head, body))
+}
+
+/// A number of locals. One that does not fit is taken for want of memory.
+fn count(n: usize) -> Result<u32, AllocError>
+    ensures { IfOk result (λ k. k ≡ n) }
+{
+    if n > 4_294_967_295 {
+        return Err(AllocError);
+    }
+    Ok(n as u32)
+}
+
+/// An item. One that is no function is kept as it is.
+fn plain_item(
+    alloc: Global,
+    known: &mut Integers,
+    item: Item<Name, ()>,
+) -> Result<Item<Name, ()>, AllocError>
+    ensures made { IfOk result (λ i. i ≡ item_plain known.old item) }
+    ensures kept { OnOk result (known.new ≡ known.old) }
+{
+    match &item {
+        Item::Function(head, body) => plain_function(alloc, known, head.get(), body.get()),
+        _ => Ok(item),
+    }
+}
+
+fn plain_items(
+    alloc: Global,
+    known: &mut Integers,
+    items: Seq<Item<Name, ()>>,
+) -> Result<Seq<Item<Name, ()>>, AllocError>
+    ensures { IfOk result (λ made. made ≡ items_plain known.old items) }
+{
+    let mut all = Seq::new(alloc);
+    for item in items.into_vec() {
+        let made = plain_item(alloc, known, item)?;
+        all.push(made)?;
+    }
+    Ok(all)
+}
+
+/// E408 at the first effect that is refused.
+fn judged(alloc: Global, known: &mut Integers, tree: &Tree<Name, ()>) -> Result<(), Fault>
+    ensures answers { known.old ≡ known_of tree.now
+        → AnswersOutcome result (unless_some (barred tree.now)) }
+    ensures kept { OnOk result (known.new ≡ known.old) }
+{
+    match first_in_items(alloc, known, tree.items.as_slice())? {
+        Some(pos) => Err(refused(MISPLACED_EFFECT, pos)),
+        None => Ok(()),
+    }
+}
+
+/// The text without effects in its expressions: calls, assignments and increments within expressions become statements
+/// of their own. Or E408 at the first effect in walk order that stands where it may not, or cannot be taken out.
+pub fn plain(alloc: Global, named: NamedText) -> Result<NamedText, Fault>
+    ensures exact { Exact plaining named.entry result }
+{
+    plained(alloc, named)
+}
+
+fn plained(alloc: Global, named: NamedText) -> Result<NamedText, Fault>
+    ensures { AnswersOutcome result (text_plain named) }
+{
+    let mut known = known_of(alloc, &named.tree)?;
+    judged(alloc, &mut known, &named.tree)?;
+    let NamedText { tree, main } = named;
+    let Tree { items } = tree;
+    let items = plain_items(alloc, &mut known, items)?;
+    Ok(NamedText {
+        tree: Tree { items },
+        main,
+    })
+}
+
+/// The text, if its tree keeps the limits of a text (E202 to E205). One that does not is left to the end of the process.
+pub fn limited(named: NamedText) -> Result<NamedText, Fault>
+    ensures exact { Exact relimiting named.entry result }
+{
+    match fits(&named.tree) {
+        Ok(()) => Ok(named),
+        Err(fault) => {
+            forget(named);
+            Err(fault)
+        }
+    }
+}
+
+/// All phases from a tree of spellings to the plain tree within the limits: names (E301 to E304), effects (E408), and
+/// the limits again (E202 to E205).
+pub fn resolve_plainly<'a>(
+    alloc: Global,
+    tree: Tree<Spelling<'a>, ()>,
+) -> Result<NamedText, Fault>
+    ensures exact { Exact resolving tree.entry result }
+{
+    let named = resolve(alloc, tree)?;
+    let made = plain(alloc, named)?;
+    limited(made)
+}
