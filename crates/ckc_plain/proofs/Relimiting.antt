@@ -1,5 +1,5 @@
 -- The limits of a text and the phases up to its plain tree are exact, and effects are refused with one code.
-use Rattle.std.proofs.Common.{◌≡◌, refl, ap, sym, ◌∙◌, List, [], ◌∷◌}
+use Rattle.std.proofs.Common.{◌≡◌, ℕ, refl, ap, sym, ◌∙◌, List, [], ◌∷◌}
 use Rattle.std.specs.Prelude.{Option, Some, None, Ok, Err}
 use Rattle.ckc_base.specs.declared.places.Pos.{Pos}
 use Rattle.ckc_base.specs.declared.places.Refusal.{Refusal}
@@ -17,8 +17,11 @@ use Rattle.ckc_plain.specs.Barred.{barred}
 use Rattle.ckc_plain.specs.Statements.{plain}
 use Rattle.ckc_plain.specs.Phase.{text_plain, plaining, relimiting, resolving, unless_some}
 
+abbrev text_of : NamedTree → ℕ → NamedText
+text_of tree main = record { tree = tree; main = main }
+
 same_text : (n m : NamedText) → n.tree ≡ m.tree → n.main ≡ m.main → n ≡ m
-same_text n m t h = cc
+same_text n m t h = ap (λ x. text_of x n.main) t ∙ ap (λ k. text_of m.tree k) h
 
 pub relimiting_exact : IsExact relimiting
 relimiting_exact =

@@ -1,6 +1,6 @@
 -- The effects of a text that may not stand where they stand, in walk order: the parts of a statement from left to right,
 -- and the step of a `for` after its body.
-use Rattle.std.specs.Prelude.{Bool, true, false, List, [], ◌++◌, flat_map, Option}
+use Rattle.std.specs.Prelude.{Bool, true, false, List, [], ◌++◌}
 use Rattle.ckc_base.specs.declared.places.Pos.{Pos}
 use Rattle.ckc_syntax.specs.declared.tree.Name.{Name}
 use Rattle.ckc_syntax.specs.declared.tree.Init.TheVariants as init

@@ -1,13 +1,13 @@
 -- The effects in an expression that may not stand where they stand. An effect is a call, an assignment, or a step of a
 -- variable within an expression. It is barred in the second and third operand of `?:`, in bounds, in bundles, in what an
 -- object of file scope begins as, and in the target of an assignment.
-use Rattle.std.specs.Prelude.{Bool, true, false, ◌||◌, List, [], ◌∷◌, ◌++◌, Option, None, flat_map, is_none, if◌then◌else◌}
+use Rattle.std.specs.Prelude.{Bool, true, false, ◌||◌, List, [], ◌∷◌, ◌++◌, Option, None, is_none, if◌then◌else◌}
 use Rattle.ckc_base.specs.declared.places.Pos.{Pos}
 use Rattle.ckc_syntax.specs.declared.tree.Name.{Name}
 use Rattle.ckc_syntax.specs.declared.tree.Limits.{Limits-F, fold-Limits}
 use Rattle.ckc_syntax.specs.declared.tree.Node.{Node-F, fold-Node}
 use Rattle.ckc_syntax.specs.declared.tree.Expr.{Expr-F, fold-Expr}
-use Rattle.ckc_syntax.specs.Inside.{listed, inside_if, inside_limits, inside_node}
+use Rattle.ckc_syntax.specs.Inside.{listed, inside_if, inside_each, inside_limits, inside_node}
 use Rattle.ckc_syntax.specs.Trees.{NamedLimits, NamedNode, NamedExpr}
 use Rattle.ckc_plain.specs.declared.integers.Integer.{Integer}
 use Rattle.ckc_plain.specs.declared.integers.Integers.{Integers}
@@ -113,7 +113,7 @@ in_right known target e barred = right_in (found_in known target) (found_in know
 
 -- the same of expressions from left to right
 abbrev pub in_exprs : Integers → List NamedExpr → Bool → List Pos
-in_exprs known es barred = flat_map (λ e. in_expr known e barred) es
+in_exprs known es barred = inside_each listed (λ e. in_expr known e barred) es
 
 -- the refused effects in bounds that may be left out
 abbrev pub in_bounds : Integers → Option NamedLimits → List Pos
