@@ -10,7 +10,7 @@ use Rattle.ckc_syntax.specs.Trees.{NamedLimits, NamedNode, NamedExpr}
 use Rattle.ckc_plain.specs.declared.integers.Integers.{Integers}
 use Rattle.ckc_plain.specs.Effects.{Found, OfLimits, limits_parts, node_parts, expr_parts, in_limits, found_in_node, found_in}
 
-abbrev Layer : Type 0
+abbrev pub Layer : Type 0
 Layer = Node-F Name (Unit {0}) NamedLimits NamedNode NamedExpr
 
 module _ (known : Integers) where

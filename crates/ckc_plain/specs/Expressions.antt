@@ -142,6 +142,11 @@ whole_plain known e p = unless_call known (expr_kept known e p)
 abbrev pub right_plain : Integers → NamedExpr → NamedExpr → OfExpr
 right_plain known target e p = unless_stays known target (expr_kept known e p)
 
+-- bounds that may be left out
+abbrev pub bounds_plain : Integers → Option NamedLimits → Pending → Option NamedLimits × Pending
+bounds_plain known None p = (None, p)
+bounds_plain known (Some l) p = after (limits_plain known l p) (λ k q. (Some k, q))
+
 -- an expression that may be left out
 abbrev pub maybe_plain : Integers → Option NamedExpr → Pending → Option NamedExpr × Pending
 maybe_plain known None p = (None, p)

@@ -11,7 +11,7 @@ use Rattle.ckc_plain.specs.declared.integers.Integers.{Integers}
 use Rattle.ckc_plain.specs.declared.pending.Pending.{Pending}
 use Rattle.ckc_plain.specs.Integers.{known_of, known_in}
 use Rattle.ckc_plain.specs.Taken.{stmt_at, block_at, number_at, after, none_pending}
-use Rattle.ckc_plain.specs.Expressions.{expr_plain, exprs_plain, whole_plain, right_plain, maybe_plain}
+use Rattle.ckc_plain.specs.Expressions.{expr_plain, exprs_plain, whole_plain, right_plain, bounds_plain, maybe_plain}
 
 -- a statement after those that go before it: a block of all of them, if there are some
 abbrev pub joined : List NamedStmt → NamedStmt → NamedStmt
@@ -80,7 +80,7 @@ init_plain known (init.Many es) p = after (exprs_plain known es p) (λ all q. (i
 
 -- the declaration of a local
 abbrev pub local_plain : Integers → NamedDecl → Pending → NamedDecl × Pending
-local_plain known d p = after (init_plain known d.init p) (λ i q. (record d { init = i }, q))
+local_plain known d p = after (bounds_plain known d.bounds p) (λ b q. after (init_plain known d.init q) (λ i r. (record d { bounds = b; init = i }, r)))
 
 -- the same that is pending, with another next number
 abbrev pub with_next : Pending → ℕ → Pending

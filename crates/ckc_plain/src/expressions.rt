@@ -1,8 +1,8 @@
 //! Expressions without the effects in them.
 
-ghost use Rattle.ckc_plain.specs.Expressions.{limits_plain, expr_kept, expr_plain, exprs_plain, whole_plain, maybe_plain, if_true, if_false, truth_at};
+ghost use Rattle.ckc_plain.specs.Expressions.{bounds_plain, limits_plain, expr_kept, expr_plain, exprs_plain, whole_plain, maybe_plain, if_true, if_false, truth_at};
 ghost use Rattle.ckc_plain.specs.Taken.{expr_at};
-ghost use Rattle.ckc_plain.specs.code.Parts.{chosen_by, start_by, choice_by, choice_at, bounds_plain, right_by, binary_kept};
+ghost use Rattle.ckc_plain.specs.code.Parts.{chosen_by, start_by, choice_by, choice_at, right_by, binary_kept};
 ghost use Rattle.ckc_plain.specs.code.Steps.{Steps};
 ghost use Rattle.std.specs.Prelude.{◌≡◌, ◌+◌, IfOk};
 
@@ -365,7 +365,7 @@ pub fn plain_exprs(
 
 /// Bounds that may be left out.
 #[cycle(plain)]
-fn plain_bounds(
+pub fn plain_bounds(
     alloc: Global,
     known: &Integers,
     bounds: &Option<Boxed<Limits<Name, ()>>>,

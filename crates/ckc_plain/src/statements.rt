@@ -6,13 +6,15 @@ ghost use Rattle.ckc_plain.specs.Statements.{joined, placed, alone, loop_conditi
 ghost use Rattle.ckc_plain.specs.code.Statements.{first_pos, or_break, tested_body, local_act, assign_act, pieces, part_plain, part_made, for_after};
 ghost use Rattle.ckc_plain.specs.code.Steps.{Steps};
 
-use crate::expressions::{boxed_expr, maybe_expr, plain_expr, plain_exprs, right_expr, whole_expr};
+use crate::expressions::{
+    boxed_expr, maybe_expr, plain_bounds, plain_expr, plain_exprs, right_expr, whole_expr,
+};
 use crate::forms::form_of;
 use crate::integers::Integers;
 use crate::pending::Pending;
 use crate::taken::{block_at, number_at, stmt_at};
 use ckc_base::{Boxed, Pos, Seq};
-use ckc_syntax::{Act, Decl, Expr, Init, Name, Stmt, decl_with};
+use ckc_syntax::{Act, Decl, Expr, Init, Name, Stmt, copied_type};
 use std::alloc::{AllocError, Global};
 
 /// The place of the first of the statements, if there is one.
@@ -172,8 +174,17 @@ fn plain_local(
 ) -> Result<Act<Name, ()>, AllocError>
     ensures { Steps result pending.new (local_act known.now d.now pending.old) }
 {
+    let bounds = plain_bounds(alloc, known, &d.bounds, pending)?;
     let init = plain_init(alloc, known, &d.init, pending)?;
-    let decl = decl_with(alloc, d, init)?;
+    let ctype = copied_type(alloc, &d.ctype)?;
+    let decl = Decl {
+        ctype,
+        name: d.name,
+        length: d.length,
+        bounds,
+        init,
+        pos: d.pos,
+    };
     let boxed = Boxed::new(alloc, decl)?;
     Ok(Act::Local(boxed))
 }

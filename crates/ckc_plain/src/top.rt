@@ -2,9 +2,9 @@
 
 ghost use Rattle.std.specs.Prelude.{◌≡◌, IfOk, OnOk};
 ghost use Rattle.ckc_base.specs.Outcomes.{AnswersOutcome};
-ghost use Rattle.ckc_plain.specs.Integers.{known_of};
+ghost use Rattle.ckc_plain.specs.Integers.{known_of, known_in};
 ghost use Rattle.ckc_base.specs.Phases.{Exact};
-ghost use Rattle.ckc_plain.specs.Statements.{item_plain};
+ghost use Rattle.ckc_plain.specs.Statements.{body_plain, item_plain};
 ghost use Rattle.ckc_plain.specs.Phase.{unless_some, text_plain, plaining, relimiting, resolving};
 ghost use Rattle.ckc_plain.specs.code.Statements.{items_plain};
 ghost use Rattle.ckc_plain.specs.Barred.{barred};
@@ -13,9 +13,9 @@ ghost use Rattle.ckc_syntax_limits.specs.Phase.{limiting};
 use crate::barred::first_in_items;
 use crate::integers::{Integers, known_of, locals_of};
 use crate::statements::stmt_alone;
-use ckc_base::{Fault, Seq, refused};
+use ckc_base::{Boxed, Fault, Seq, refused};
 use ckc_resolve::resolve;
-use ckc_syntax::{Head, Item, Name, NamedText, Spelling, Stmt, Tree, boxed_head};
+use ckc_syntax::{Head, Item, Name, NamedText, Spelling, Stmt, Tree};
 use ckc_syntax_limits::fits;
 use std::alloc::{AllocError, Global};
 use std::mem::{forget, replace};
@@ -23,22 +23,22 @@ use std::mem::{forget, replace};
 /// E408: an effect stands where it may not, or cannot be taken out of its expression.
 pub const MISPLACED_EFFECT: u16 = 408;
 
-fn plain_function(
+/// The body of a function.
+fn plain_body(
     alloc: Global,
     known: &mut Integers,
     head: &Head<Name, ()>,
     body: &Stmt<Name, ()>,
-) -> Result<Item<Name, ()>, AllocError>
-    ensures made { IfOk result (λ i. i ≡ item_plain known.old (Item.Function head.now body.now)) }
+) -> Result<Boxed<Stmt<Name, ()>>, AllocError>
+    ensures made { IfOk result (λ b. b ≡ body_plain (known_in known.old head.now body.now) body.now) }
     ensures kept { OnOk result (known.new ≡ known.old) }
 {
     let locals = locals_of(alloc, head, body)?;
     let mut next = count(locals.len())?;
     let outer = replace(&mut known.locals, locals);
-    let body = stmt_alone(alloc, known, body, &mut next)?;
+    let made = stmt_alone(alloc, known, body, &mut next)?;
     known.locals = outer;
-    let head = boxed_head(alloc, head)?;
-    Ok(Item::Function(head, body))
+    Ok(made)
 }
 
 /// A number of locals. One that does not fit is taken for want of memory.
@@ -51,19 +51,20 @@ fn count(n: usize) -> Result<u32, AllocError>
     Ok(n as u32)
 }
 
-/// An item. One that is no function is kept as it is.
+/// An item. Only the body of a function is made anew.
 fn plain_item(
     alloc: Global,
     known: &mut Integers,
-    item: Item<Name, ()>,
-) -> Result<Item<Name, ()>, AllocError>
-    ensures made { IfOk result (λ i. i ≡ item_plain known.old item) }
+    item: &mut Item<Name, ()>,
+) -> Result<(), AllocError>
+    ensures made { OnOk result (item.new ≡ item_plain known.old item.old) }
     ensures kept { OnOk result (known.new ≡ known.old) }
 {
-    match &item {
-        Item::Function(head, body) => plain_function(alloc, known, head.get(), body.get()),
-        _ => Ok(item),
+    if let Item::Function(head, body) = item {
+        let made = plain_body(alloc, known, head.get(), body.get())?;
+        *body = made;
     }
+    Ok(())
 }
 
 fn plain_items(
@@ -74,9 +75,9 @@ fn plain_items(
     ensures { IfOk result (λ made. made ≡ items_plain known.old items) }
 {
     let mut all = Seq::new(alloc);
-    for item in items.into_vec() {
-        let made = plain_item(alloc, known, item)?;
-        all.push(made)?;
+    for mut item in items.into_vec() {
+        plain_item(alloc, known, &mut item)?;
+        all.push(item)?;
     }
     Ok(all)
 }
@@ -116,6 +117,7 @@ fn plained(alloc: Global, named: NamedText) -> Result<NamedText, Fault>
 }
 
 /// The text, if its tree keeps the limits of a text (E202 to E205). One that does not is left to the end of the process.
+#[tactic(auto, using(crate::proofs::Relimiting::limits_kept, crate::proofs::Relimiting::limits_broken))]
 pub fn limited(named: NamedText) -> Result<NamedText, Fault>
     ensures exact { Exact relimiting named.entry result }
 {

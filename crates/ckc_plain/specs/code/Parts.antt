@@ -1,15 +1,15 @@
 -- What parts of expressions become.
-use Rattle.std.specs.Prelude.{ℕ, Bool, true, false, [], ◌∷◌, ◌++◌, Option, None, Some, if◌then◌else◌}
+use Rattle.std.specs.Prelude.{ℕ, Bool, true, false, [], ◌∷◌, ◌++◌, if◌then◌else◌}
 use Rattle.ckc_base.specs.declared.places.Pos.{Pos}
 use Rattle.ckc_syntax.specs.declared.tree.TreeOp.{TreeOp}
-use Rattle.ckc_syntax.specs.Trees.{NamedLimits, NamedExpr, NamedStmt}
+use Rattle.ckc_syntax.specs.Trees.{NamedExpr, NamedStmt}
 use Rattle.ckc_plain.specs.declared.integers.Integer.TheVariants as integer
 use Rattle.ckc_plain.specs.declared.integers.Integers.{Integers}
 use Rattle.ckc_plain.specs.declared.pending.Pending.{Pending}
 use Rattle.ckc_plain.specs.declared.forms.Form.{Form}
 use Rattle.ckc_plain.specs.Forms.{work_of, form_of, stays}
 use Rattle.ckc_plain.specs.Taken.{expr_at, local_at, number_at, block_at, after, with_stmt, with_fresh, taken}
-use Rattle.ckc_plain.specs.Expressions.{choice, if_true, if_false, truth_at, binary_parts, limits_plain, expr_kept}
+use Rattle.ckc_plain.specs.Expressions.{choice, if_true, if_false, truth_at, binary_parts, expr_kept}
 
 -- the `if` of `&&` or of `||`
 abbrev pub chosen_by : Bool → NamedExpr → NamedStmt → Pos → NamedStmt
@@ -36,8 +36,3 @@ binary_kept known o x e pos p = after (binary_parts known (work_of o) o (expr_ke
 -- the right side of an assignment to a target of this form
 abbrev pub right_by : Integers → Form → NamedExpr → Pending → NamedExpr × Pending
 right_by known target e p = if stays target (form_of (expr_kept known e p).0) then expr_kept known e p else taken known (expr_kept known e p)
-
--- bounds that may be left out
-abbrev pub bounds_plain : Integers → Option NamedLimits → Pending → Option NamedLimits × Pending
-bounds_plain known None p = (None, p)
-bounds_plain known (Some l) p = after (limits_plain known l p) (λ k q. (Some k, q))

@@ -20,7 +20,7 @@ abbrev pub steps_refused : Integers → Work → Form → Bool → Bool
 steps_refused known (work.Steps by) operand barred = barred || is_none (integer_local known operand)
 steps_refused known w operand barred = false
 
-abbrev node_refused : Integers → Node-F Name (Unit {0}) NamedLimits NamedNode NamedExpr → Bool → Bool
+abbrev pub node_refused : Integers → Node-F Name (Unit {0}) NamedLimits NamedNode NamedExpr → Bool → Bool
 node_refused known (Node-F.Un o x) barred = steps_refused known (work_of o) (form_of x) barred
 node_refused known (Node-F.Bin o x e) barred = sets_refused known (work_of o) (form_of x) (form_of e) barred
 node_refused known (Node-F.Call n es) barred = barred || is_none (result_of known n)
