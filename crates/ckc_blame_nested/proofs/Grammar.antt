@@ -19,7 +19,7 @@ use Rattle.ckc_parser_grammar.specs.code.Values.{Value, made, as_token, as_items
 use Rattle.ckc_parser_grammar.specs.code.Derives.{Sign, Derives}
 use Rattle.ckc_parser_grammar.specs.code.Derives as D
 use Rattle.ckc_parser_grammar.proofs.Same.{same_tree}
-use Rattle.ckc_blame_nested.specs.Nested.{Nesting, plain, is_branch, begins, steps, nesting_by, nesting_in, nesting_of_act, nesting_of}
+use Rattle.ckc_blame_nested.specs.Nested.{Nesting, is_branch, begins, steps, nesting_by, nesting_in, nesting_of_act, nesting_of}
 use Rattle.ckc_blame_nested.proofs.Items.{is_nested, all_joined, first_of}
 
 abbrev IsFine : Stmt → Type 0
@@ -30,7 +30,7 @@ abbrev IsBranch : Stmt → Type 0
 IsBranch s = is_branch (nesting_of s) ≡ true
 
 abbrev IsAssign : Stmt → Type 0
-IsAssign s = nesting_of s ≡ record { fine = true; declares = false; assigns = true }
+IsAssign s = nesting_of s ≡ record { fine = true; declares = false; jumps = false }
 
 abbrev AllItems : List Item → Type 0
 AllItems is = list_all is_nested is ≡ true
@@ -82,8 +82,8 @@ rolled d a pos is =
     fold-roll-Stmt Name (Unit {0}) Nesting Nesting nesting_by nesting_in (record { body = a; pos = pos; note = tt })
     ∙ ap (λ (x : Act). nesting_of_act x) (sym is) ∙ fold-roll-Act Name (Unit {0}) Nesting Nesting nesting_by nesting_in d
 
-branch : (s : Stmt) (b : Bool) → nesting_of s ≡ plain b → b ≡ true → IsBranch s
-branch s b is h = ap is_branch is ∙ ap (λ c. c && true) h
+branch : (s : Stmt) (m : Nesting) → nesting_of s ≡ m → is_branch m ≡ true → IsBranch s
+branch s m is h = ap is_branch is ∙ h
 
 fine_of : (s : Stmt) → IsBranch s → IsFine s
 fine_of s h = first_of _ _ h
@@ -93,10 +93,10 @@ mapped [] = refl
 mapped (s ∷ ss) = ap (λ b. (nesting_of s).fine && b) (mapped ss)
 
 block_is : (m : Option Mode) (ss : List Stmt) (pos : Pos) → AllStmts ss → IsBranch (stmt_at (act.Block m ss) pos)
-block_is m ss pos h = branch _ _ (rolled (Act-F.Block m ss) _ pos (act.rolls-Block m ss)) (mapped ss ∙ h)
+block_is m ss pos h = branch _ _ (rolled (Act-F.Block m ss) _ pos (act.rolls-Block m ss)) (both _ _ (mapped ss ∙ h) refl)
 
 empty_is : (pos : Pos) → IsBranch (stmt_at act.Empty pos)
-empty_is pos = branch _ true (rolled Act-F.Empty _ pos act.rolls-Empty) refl
+empty_is pos = branch _ _ (rolled Act-F.Empty _ pos act.rolls-Empty) refl
 
 assign_is : (e f : Expr) (pos : Pos) → IsAssign (stmt_at (act.Assign e f) pos)
 assign_is e f pos = rolled (Act-F.Assign e f) _ pos (act.rolls-Assign e f)
@@ -105,39 +105,39 @@ assigned_is : (e f : Expr) (pos : Pos) → IsBranch (stmt_at (act.Assign e f) po
 assigned_is e f pos = ap is_branch (assign_is e f pos)
 
 call_is : (e : Expr) (pos : Pos) → IsBranch (stmt_at (act.Call e) pos)
-call_is e pos = branch _ true (rolled (Act-F.Call e) _ pos (act.rolls-Call e)) refl
+call_is e pos = branch _ _ (rolled (Act-F.Call e) _ pos (act.rolls-Call e)) refl
 
 if_is : (e : Expr) (s : Stmt) (o : Option Stmt) (pos : Pos) → IsBranch s → IfSome o IsBranch → IsBranch (stmt_at (act.If e s o) pos)
-if_is e s None pos h k = branch _ _ (rolled (Act-F.If e s None) _ pos (act.rolls-If e s None)) (both _ _ h refl)
-if_is e s (Some u) pos h k = branch _ _ (rolled (Act-F.If e s (Some u)) _ pos (act.rolls-If e s (Some u))) (both _ _ h k)
+if_is e s None pos h k = branch _ _ (rolled (Act-F.If e s None) _ pos (act.rolls-If e s None)) (both _ _ (both _ _ h refl) refl)
+if_is e s (Some u) pos h k = branch _ _ (rolled (Act-F.If e s (Some u)) _ pos (act.rolls-If e s (Some u))) (both _ _ (both _ _ h k) refl)
 
 while_is : (e : Expr) (s : Stmt) (pos : Pos) → IsBranch s → IsBranch (stmt_at (act.While e s) pos)
-while_is e s pos h = branch _ _ (rolled (Act-F.While e s) _ pos (act.rolls-While e s)) h
+while_is e s pos h = branch _ _ (rolled (Act-F.While e s) _ pos (act.rolls-While e s)) (both _ _ h refl)
 
 for_is : (a : Option Stmt) (c : Option Expr) (b : Option Stmt) (s : Stmt) (pos : Pos) → begins (option_map nesting_of a) ≡ true
     → steps (option_map nesting_of b) ≡ true → IsBranch s → IsBranch (stmt_at (act.For a c b s) pos)
-for_is None c None s pos i k l = branch _ _ (rolled (Act-F.For None c None s) _ pos (act.rolls-For None c None s)) (both _ _ i (both _ _ k l))
-for_is None c (Some b) s pos i k l = branch _ _ (rolled (Act-F.For None c (Some b) s) _ pos (act.rolls-For None c (Some b) s)) (both _ _ i (both _ _ k l))
-for_is (Some a) c None s pos i k l = branch _ _ (rolled (Act-F.For (Some a) c None s) _ pos (act.rolls-For (Some a) c None s)) (both _ _ i (both _ _ k l))
+for_is None c None s pos i k l = branch _ _ (rolled (Act-F.For None c None s) _ pos (act.rolls-For None c None s)) (both _ _ (both _ _ i (both _ _ k l)) refl)
+for_is None c (Some b) s pos i k l = branch _ _ (rolled (Act-F.For None c (Some b) s) _ pos (act.rolls-For None c (Some b) s)) (both _ _ (both _ _ i (both _ _ k l)) refl)
+for_is (Some a) c None s pos i k l = branch _ _ (rolled (Act-F.For (Some a) c None s) _ pos (act.rolls-For (Some a) c None s)) (both _ _ (both _ _ i (both _ _ k l)) refl)
 for_is (Some a) c (Some b) s pos i k l =
-    branch _ _ (rolled (Act-F.For (Some a) c (Some b) s) _ pos (act.rolls-For (Some a) c (Some b) s)) (both _ _ i (both _ _ k l))
+    branch _ _ (rolled (Act-F.For (Some a) c (Some b) s) _ pos (act.rolls-For (Some a) c (Some b) s)) (both _ _ (both _ _ i (both _ _ k l)) refl)
 
 return_is : (e : Option Expr) (pos : Pos) → IsBranch (stmt_at (act.Return e) pos)
-return_is e pos = branch _ true (rolled (Act-F.Return e) _ pos (act.rolls-Return e)) refl
+return_is e pos = branch _ _ (rolled (Act-F.Return e) _ pos (act.rolls-Return e)) refl
 
 break_is : (pos : Pos) → IsBranch (stmt_at act.Break pos)
-break_is pos = branch _ true (rolled Act-F.Break _ pos act.rolls-Break) refl
+break_is pos = branch _ _ (rolled Act-F.Break _ pos act.rolls-Break) refl
 
 continue_is : (pos : Pos) → IsBranch (stmt_at act.Continue pos)
-continue_is pos = branch _ true (rolled Act-F.Continue _ pos act.rolls-Continue) refl
+continue_is pos = branch _ _ (rolled Act-F.Continue _ pos act.rolls-Continue) refl
 
 check_is : (e : Expr) (pos : Pos) → IsBranch (stmt_at (act.Check e) pos)
-check_is e pos = branch _ true (rolled (Act-F.Check e) _ pos (act.rolls-Check e)) refl
+check_is e pos = branch _ _ (rolled (Act-F.Check e) _ pos (act.rolls-Check e)) refl
 
 bundle_is : (ss : List Stmt) (pos : Pos) → IsBranch (stmt_at (act.Bundle ss) pos)
-bundle_is ss pos = branch _ true (rolled (Act-F.Bundle ss) _ pos (act.rolls-Bundle ss)) refl
+bundle_is ss pos = branch _ _ (rolled (Act-F.Bundle ss) _ pos (act.rolls-Bundle ss)) refl
 
-local_is : (d : Decl) → nesting_of (local_of d) ≡ record { fine = true; declares = true; assigns = false }
+local_is : (d : Decl) → nesting_of (local_of d) ≡ record { fine = true; declares = true; jumps = false }
 local_is d = rolled (Act-F.Local d) _ d.pos (act.rolls-Local d)
 
 locals_nested : (ds : List Decl) → AllStmts (locals ds)

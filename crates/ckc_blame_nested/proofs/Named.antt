@@ -2,7 +2,6 @@
 use Rattle.std.proofs.Common.{◌≡◌, ◌∙◌, sym, ap, refl, true, ◌&&◌, List, ◌∷◌, map}
 use Rattle.std.specs.Prelude.{Ok, Some}
 use Rattle.std.specs.List.{list_all}
-use Rattle.ckc_syntax.specs.Inside.{all_have, inside_each}
 use Rattle.ckc_syntax.specs.declared.tree.Name.{Name}
 use Rattle.ckc_syntax.specs.declared.tree.NamedText.{NamedText}
 use Rattle.ckc_syntax.specs.declared.tree.Act.{Act-F, map-Act, roll-Act, fold-roll-Act}
@@ -19,7 +18,7 @@ use Rattle.ckc_typed_fit.proofs.NamedActs as acts
 use Rattle.ckc_typed_fit.proofs.NamedActs.{ActOf, NamedActOf, StmtsNamed, ActNamed, BodyNamed}
 use Rattle.ckc_typed_fit.proofs.NamedItems as items
 use Rattle.ckc_typed_fit.proofs.NamedItems.{ItemNamed, ItemsNamed, text_is}
-use Rattle.ckc_blame_nested.specs.Nested.{Nesting, plain, is_branch, begins, steps, nesting_by, nesting_in, nesting_of_act, nesting_of}
+use Rattle.ckc_blame_nested.specs.Nested.{Nesting, nesting_by, nesting_in, nesting_of_act, nesting_of}
 use Rattle.ckc_blame_nested.proofs.Items.{is_nested}
 
 module _ (names : Names) where
@@ -43,29 +42,29 @@ module _ (names : Names) where
   named_inside = map-Act Name (Unit {0}) NamedAct NamedStmt Nesting Nesting nesting_of_act nesting_of
 
   act_parts : (before : Scopes) (x : ActOf) (d : NamedActOf) (after : Scopes) → ActNamed names SameAct before x d after → nesting_by (named_inside d) ≡ nesting_by (inside x)
-  act_parts before x d after (acts.block m hs is) = ap (λ gs. plain (inside_each all_have (λ (s : Nesting). s.fine) gs)) (stmts_are _ _ _ _ hs)
+  act_parts before x d after (acts.block m hs is) = ap (λ gs. nesting_by (Act-F.Block {N = Name} {A = Unit {0}} m gs)) (stmts_are _ _ _ _ hs)
   act_parts before x d after acts.empty = refl
   act_parts before x d after (acts.local c e is) = refl
   act_parts before x d after (acts.assign e f a b h i) = refl
   act_parts before x d after (acts.call e a h) = refl
-  act_parts before x d after (acts.choice {s = s} {t = t} e a h i acts.nothing) = ap (λ b. plain (is_branch b && true)) (stmt_is s t i)
+  act_parts before x d after (acts.choice {s = s} {t = t} e a h i acts.nothing) = ap (λ b. nesting_by (Act-F.If a b None)) (stmt_is s t i)
   act_parts before x d after (acts.choice {s = s} {t = t} e a h i (acts.just {s = o} {t = u} g)) =
-      ap (λ b. plain (is_branch b && is_branch (nesting_of u))) (stmt_is s t i) ∙ ap (λ b. plain (is_branch (nesting_of s) && is_branch b)) (stmt_is o u g)
-  act_parts before x d after (acts.while {s = s} {t = t} e a h i) = ap (λ b. plain (is_branch b)) (stmt_is s t i)
-  act_parts before x d after (acts.for {s = s} {t = t} e a acts.nothing h i acts.nothing is) = ap (λ b. plain (is_branch b)) (stmt_is s t i)
+      ap (λ b. nesting_by (Act-F.If a b (Some (nesting_of u)))) (stmt_is s t i) ∙ ap (λ b. nesting_by (Act-F.If a (nesting_of s) (Some b))) (stmt_is o u g)
+  act_parts before x d after (acts.while {s = s} {t = t} e a h i) = ap (λ b. nesting_by (Act-F.While a b)) (stmt_is s t i)
+  act_parts before x d after (acts.for {s = s} {t = t} e a acts.nothing h i acts.nothing is) = ap (λ b. nesting_by (Act-F.For None a None b)) (stmt_is s t i)
   act_parts before x d after (acts.for {s = s} {t = t} e a acts.nothing h i (acts.just {s = o} {t = u} g) is) =
-      ap (λ b. plain (steps (Some (nesting_of u)) && is_branch b)) (stmt_is s t i) ∙ ap (λ b. plain (steps (Some b) && is_branch (nesting_of s))) (stmt_is o u g)
+      ap (λ b. nesting_by (Act-F.For None a (Some (nesting_of u)) b)) (stmt_is s t i) ∙ ap (λ b. nesting_by (Act-F.For None a (Some b) (nesting_of s))) (stmt_is o u g)
   act_parts before x d after (acts.for {s = s} {t = t} e a (acts.just {s = o} {t = u} f) h i acts.nothing is) =
-      ap (λ b. plain (begins (Some (nesting_of u)) && is_branch b)) (stmt_is s t i) ∙ ap (λ b. plain (begins (Some b) && is_branch (nesting_of s))) (stmt_is o u f)
+      ap (λ b. nesting_by (Act-F.For (Some (nesting_of u)) a None b)) (stmt_is s t i) ∙ ap (λ b. nesting_by (Act-F.For (Some b) a None (nesting_of s))) (stmt_is o u f)
   act_parts before x d after (acts.for {s = s} {t = t} e a (acts.just {s = o} {t = u} f) h i (acts.just {s = p} {t = v} g) is) =
-      ap (λ b. plain (begins (Some (nesting_of u)) && (steps (Some (nesting_of v)) && is_branch b))) (stmt_is s t i)
-      ∙ ap (λ b. plain (begins (Some b) && (steps (Some (nesting_of v)) && is_branch (nesting_of s)))) (stmt_is o u f)
-      ∙ ap (λ b. plain (begins (Some (nesting_of o)) && (steps (Some b) && is_branch (nesting_of s)))) (stmt_is p v g)
+      ap (λ b. nesting_by (Act-F.For (Some (nesting_of u)) a (Some (nesting_of v)) b)) (stmt_is s t i)
+      ∙ ap (λ b. nesting_by (Act-F.For (Some b) a (Some (nesting_of v)) (nesting_of s))) (stmt_is o u f)
+      ∙ ap (λ b. nesting_by (Act-F.For (Some (nesting_of o)) a (Some b) (nesting_of s))) (stmt_is p v g)
   act_parts before x d after (acts.returns e a h) = refl
   act_parts before x d after acts.breaks = refl
   act_parts before x d after acts.continues = refl
   act_parts before x d after (acts.check e a h) = refl
-  act_parts before x d after (acts.bundle hs) = refl
+  act_parts before x d after (acts.bundle hs) = ap (λ gs. nesting_by (Act-F.Bundle {N = Name} {A = Unit {0}} gs)) (stmts_are _ _ _ _ hs)
 
   closed_up : (x : ActOf) (d : NamedActOf) → nesting_by (named_inside d) ≡ nesting_by (inside x)
       → nesting_of_act (roll-Act Name (Unit {0}) d) ≡ nesting_of_act (roll-Act Spelling (Unit {0}) x)
@@ -78,7 +77,7 @@ module _ (names : Names) where
   body_is : (before : Scopes) (a : Act) (b : NamedAct) (after : Scopes) → BodyNamed SameAct before a b after → nesting_of_act b ≡ nesting_of_act a
   body_is before a b after (acts.outermost {ss = ss} {ts = ts} m is js hs) =
       ap (λ (z : NamedAct). nesting_of_act z) (sym js)
-      ∙ closed_up (Act-F.Block m ss) (Act-F.Block m ts) (ap (λ gs. plain (inside_each all_have (λ (s : Nesting). s.fine) gs)) (stmts_are _ _ _ _ hs))
+      ∙ closed_up (Act-F.Block m ss) (Act-F.Block m ts) (ap (λ gs. nesting_by (Act-F.Block {N = Name} {A = Unit {0}} m gs)) (stmts_are _ _ _ _ hs))
       ∙ ap (λ (z : Act). nesting_of_act z) is
   body_is before a b after (acts.other h) = h
 
