@@ -1,0 +1,9 @@
+pub mod Codes
+pub mod Integers
+pub mod Forms
+pub mod Effects
+pub mod Barred
+pub mod Taken
+pub mod Expressions
+pub mod Statements
+pub mod Phase
