@@ -43,7 +43,7 @@ module _ (N A : Type 0) where
   stmts_same (k ∷ ks) = ap (λ x. x ∷ map nesting_of (map bare_stmt (map (λ (k : KeptStmt). k.0) ks))) k.1 ∙ ap (λ xs. nesting_of k.0 ∷ xs) (stmts_same ks)
 
   act_same : (y : Act-F N A KeptAct KeptStmt) → nesting_by (bare_inside (bared (inner_act y))) ≡ nesting_by (inside (inner_act y))
-  act_same (Act-F.Block m ks) = ap (λ xs. nesting_by (Act-F.Block m xs)) (stmts_same ks)
+  act_same (Act-F.Block m ks) = ap (λ xs. nesting_by {N = N} {A = A} (Act-F.Block m xs)) (stmts_same ks)
   act_same Act-F.Empty = refl
   act_same (Act-F.Local d) = refl
   act_same (Act-F.Assign e f) = refl
@@ -65,7 +65,7 @@ module _ (N A : Type 0) where
   act_same Act-F.Break = refl
   act_same Act-F.Continue = refl
   act_same (Act-F.Check e) = refl
-  act_same (Act-F.Bundle ks) = ap (λ xs. nesting_by (Act-F.Bundle xs)) (stmts_same ks)
+  act_same (Act-F.Bundle ks) = ap (λ xs. nesting_by {N = N} {A = A} (Act-F.Bundle xs)) (stmts_same ks)
 
   act_by : (x : Act-F N A (Act N A) (Stmt N A)) (y : Act-F N A KeptAct KeptStmt) → inner_act y ≡ x → ActSame (roll-Act N A x)
   act_by x y is =

@@ -212,22 +212,22 @@ module _ (names : Names) where
   act_parts before x d after (acts.assign e f a b h i) =
       ap (λ z. record { fine = z; nested = true; assigns = true; declares = false; jumps = false }) (both (inner e a (expr_kept before e a h)) (right f b (expr_kept before f b i)))
   act_parts before x d after (acts.call e a h) = ap alone (ap (λ (f : Form). f.call) (form e a (expr_kept before e a h)))
-  act_parts before x d after (acts.choice {s = s} {t = t} e a h i acts.nothing) = branches a e _ _ None (inner e a (expr_kept before e a h)) (stmt_is s t i)
+  act_parts before x d after (acts.choice {s = s} {t = t} e a h i acts.nothing) = branches a e (placed_stmt with_calls t) (placed_stmt with_calls s) None (inner e a (expr_kept before e a h)) (stmt_is s t i)
   act_parts before x d after (acts.choice {s = s} {t = t} e a h i (acts.just {s = o} {t = u} g)) =
-      branches a e _ _ (Some (placed_stmt with_calls u)) (inner e a (expr_kept before e a h)) (stmt_is s t i) ∙ ap (λ z. placed_act with_calls (Act-F.If e (placed_stmt with_calls s) (Some z))) (stmt_is o u g)
+      branches a e (placed_stmt with_calls t) (placed_stmt with_calls s) (Some (placed_stmt with_calls u)) (inner e a (expr_kept before e a h)) (stmt_is s t i) ∙ ap (λ z. placed_act with_calls (Act-F.If e (placed_stmt with_calls s) (Some z))) (stmt_is o u g)
   act_parts before x d after (acts.while {s = s} {t = t} e a h i) =
       ap (λ z. placed_act with_calls (Act-F.While a z)) (stmt_is s t i)
       ∙ ap (λ b. record (placed_act with_calls (Act-F.While e (placed_stmt with_calls s))) { fine = b && (placed_stmt with_calls s).fine }) (inner e a (expr_kept before e a h))
   act_parts before x d after (acts.for {s = s} {t = t} e a acts.nothing h i acts.nothing is) =
-      turns a e None None _ (value_kept (opened before) e a h) ∙ ap (λ z. placed_act with_calls (Act-F.For None e None z)) (stmt_is s t i)
+      turns a e None None (placed_stmt with_calls t) (value_kept (opened before) e a h) ∙ ap (λ z. placed_act with_calls (Act-F.For None e None z)) (stmt_is s t i)
   act_parts before x d after (acts.for {s = s} {t = t} e a acts.nothing h i (acts.just {s = o} {t = u} g) is) =
-      turns a e None (Some (placed_stmt with_calls u)) _ (value_kept (opened before) e a h) ∙ ap (λ z. placed_act with_calls (Act-F.For None e (Some z) (placed_stmt with_calls t))) (stmt_is o u g)
+      turns a e None (Some (placed_stmt with_calls u)) (placed_stmt with_calls t) (value_kept (opened before) e a h) ∙ ap (λ z. placed_act with_calls (Act-F.For None e (Some z) (placed_stmt with_calls t))) (stmt_is o u g)
       ∙ ap (λ z. placed_act with_calls (Act-F.For None e (Some (placed_stmt with_calls o)) z)) (stmt_is s t i)
   act_parts before x d after (acts.for {begun = begun} {s = s} {t = t} e a (acts.just {s = o} {t = u} f) h i acts.nothing is) =
-      turns a e (Some (placed_stmt with_calls u)) None _ (value_kept begun e a h) ∙ ap (λ z. placed_act with_calls (Act-F.For (Some z) e None (placed_stmt with_calls t))) (stmt_is o u f)
+      turns a e (Some (placed_stmt with_calls u)) None (placed_stmt with_calls t) (value_kept begun e a h) ∙ ap (λ z. placed_act with_calls (Act-F.For (Some z) e None (placed_stmt with_calls t))) (stmt_is o u f)
       ∙ ap (λ z. placed_act with_calls (Act-F.For (Some (placed_stmt with_calls o)) e None z)) (stmt_is s t i)
   act_parts before x d after (acts.for {begun = begun} {s = s} {t = t} e a (acts.just {s = o} {t = u} f) h i (acts.just {s = p} {t = v} g) is) =
-      turns a e (Some (placed_stmt with_calls u)) (Some (placed_stmt with_calls v)) _ (value_kept begun e a h)
+      turns a e (Some (placed_stmt with_calls u)) (Some (placed_stmt with_calls v)) (placed_stmt with_calls t) (value_kept begun e a h)
       ∙ ap (λ z. placed_act with_calls (Act-F.For (Some z) e (Some (placed_stmt with_calls v)) (placed_stmt with_calls t))) (stmt_is o u f)
       ∙ ap (λ z. placed_act with_calls (Act-F.For (Some (placed_stmt with_calls o)) e (Some z) (placed_stmt with_calls t))) (stmt_is p v g)
       ∙ ap (λ z. placed_act with_calls (Act-F.For (Some (placed_stmt with_calls o)) e (Some (placed_stmt with_calls p)) z)) (stmt_is s t i)

@@ -173,6 +173,7 @@ nested_in (Act-F.Block m ss) = inside_each all_have (λ (s : Given). s.nested) s
 nested_in (Act-F.If e s t) = is_branch s && inside_if all_have is_branch t
 nested_in (Act-F.While e s) = is_branch s
 nested_in (Act-F.For s e t body) = inside_if all_have (λ (s : Given). s.nested) s && (inside_if all_have is_branch t && is_branch body)
+nested_in (Act-F.Bundle ss) = inside_each all_have is_branch ss
 nested_in _ = true
 
 abbrev pub placed_act : {N A : Type 0} → Places N A → Act-F N A Given Given → Given
