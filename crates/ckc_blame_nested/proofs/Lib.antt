@@ -1,5 +1,4 @@
 mod Items
-mod Grammar
-mod Named
+mod Given
 mod Noteless
 pub mod Whole

@@ -2,13 +2,12 @@
 use Rattle.std.proofs.Common.{◌≡◌, List, [], ◌∷◌, map, refl, sym, ap, subst, ◌∙◌, true, ◌&&◌}
 use Rattle.std.specs.Prelude.{Some, None}
 use Rattle.std.specs.List.{list_all}
-use Rattle.ckc_syntax.specs.Inside.{all_have, inside_each}
 use Rattle.ckc_syntax.specs.declared.tree.Act.{Act, Act-F, map-Act, roll-Act, fold-roll-Act}
 use Rattle.ckc_syntax.specs.declared.tree.Stmt.{Stmt, Stmt-F, map-Stmt, ind-Stmt, roll-Stmt, fold-roll-Stmt}
 use Rattle.ckc_syntax.specs.declared.tree.Item.{Item}
 use Rattle.ckc_syntax.specs.declared.tree.Item.TheVariants as item
 use Rattle.ckc_typed_welltyped.specs.Noteless.{BareAct, BareStmt, act_noteless, act_bared, stmt_bared, bare_act, bare_stmt, bare_item}
-use Rattle.ckc_blame_nested.specs.Nested.{Nesting, plain, is_branch, begins, steps, nesting_by, nesting_in, nesting_of_act, nesting_of}
+use Rattle.ckc_blame_nested.specs.Nested.{Nesting, nesting_by, nesting_in, nesting_of_act, nesting_of}
 use Rattle.ckc_blame_nested.proofs.Items.{is_nested}
 
 module _ (N A : Type 0) where
@@ -44,29 +43,29 @@ module _ (N A : Type 0) where
   stmts_same (k ∷ ks) = ap (λ x. x ∷ map nesting_of (map bare_stmt (map (λ (k : KeptStmt). k.0) ks))) k.1 ∙ ap (λ xs. nesting_of k.0 ∷ xs) (stmts_same ks)
 
   act_same : (y : Act-F N A KeptAct KeptStmt) → nesting_by (bare_inside (bared (inner_act y))) ≡ nesting_by (inside (inner_act y))
-  act_same (Act-F.Block m ks) = ap (λ xs. plain (inside_each all_have (λ (s : Nesting). s.fine) xs)) (stmts_same ks)
+  act_same (Act-F.Block m ks) = ap (λ xs. nesting_by {N = N} {A = A} (Act-F.Block m xs)) (stmts_same ks)
   act_same Act-F.Empty = refl
   act_same (Act-F.Local d) = refl
   act_same (Act-F.Assign e f) = refl
   act_same (Act-F.Call e) = refl
-  act_same (Act-F.If e k None) = ap (λ x. plain (is_branch x && true)) k.1
+  act_same (Act-F.If e k None) = ap (λ x. nesting_by (Act-F.If e x None)) k.1
   act_same (Act-F.If e k (Some l)) =
-      ap (λ x. plain (is_branch x && is_branch (nesting_of (bare_stmt l.0)))) k.1 ∙ ap (λ x. plain (is_branch (nesting_of k.0) && is_branch x)) l.1
-  act_same (Act-F.While e k) = ap (λ x. plain (is_branch x)) k.1
-  act_same (Act-F.For None e None k) = ap (λ x. plain (is_branch x)) k.1
+      ap (λ x. nesting_by (Act-F.If e x (Some (nesting_of (bare_stmt l.0))))) k.1 ∙ ap (λ x. nesting_by (Act-F.If e (nesting_of k.0) (Some x))) l.1
+  act_same (Act-F.While e k) = ap (λ x. nesting_by (Act-F.While e x)) k.1
+  act_same (Act-F.For None e None k) = ap (λ x. nesting_by (Act-F.For None e None x)) k.1
   act_same (Act-F.For None e (Some m) k) =
-      ap (λ x. plain (steps (Some x) && is_branch (nesting_of (bare_stmt k.0)))) m.1 ∙ ap (λ x. plain (steps (Some (nesting_of m.0)) && is_branch x)) k.1
+      ap (λ x. nesting_by (Act-F.For None e (Some x) (nesting_of (bare_stmt k.0)))) m.1 ∙ ap (λ x. nesting_by (Act-F.For None e (Some (nesting_of m.0)) x)) k.1
   act_same (Act-F.For (Some l) e None k) =
-      ap (λ x. plain (begins (Some x) && is_branch (nesting_of (bare_stmt k.0)))) l.1 ∙ ap (λ x. plain (begins (Some (nesting_of l.0)) && is_branch x)) k.1
+      ap (λ x. nesting_by (Act-F.For (Some x) e None (nesting_of (bare_stmt k.0)))) l.1 ∙ ap (λ x. nesting_by (Act-F.For (Some (nesting_of l.0)) e None x)) k.1
   act_same (Act-F.For (Some l) e (Some m) k) =
-      ap (λ x. plain (begins (Some x) && (steps (Some (nesting_of (bare_stmt m.0))) && is_branch (nesting_of (bare_stmt k.0))))) l.1
-      ∙ ap (λ x. plain (begins (Some (nesting_of l.0)) && (steps (Some x) && is_branch (nesting_of (bare_stmt k.0))))) m.1
-      ∙ ap (λ x. plain (begins (Some (nesting_of l.0)) && (steps (Some (nesting_of m.0)) && is_branch x))) k.1
+      ap (λ x. nesting_by (Act-F.For (Some x) e (Some (nesting_of (bare_stmt m.0))) (nesting_of (bare_stmt k.0)))) l.1
+      ∙ ap (λ x. nesting_by (Act-F.For (Some (nesting_of l.0)) e (Some x) (nesting_of (bare_stmt k.0)))) m.1
+      ∙ ap (λ x. nesting_by (Act-F.For (Some (nesting_of l.0)) e (Some (nesting_of m.0)) x)) k.1
   act_same (Act-F.Return e) = refl
   act_same Act-F.Break = refl
   act_same Act-F.Continue = refl
   act_same (Act-F.Check e) = refl
-  act_same (Act-F.Bundle ks) = refl
+  act_same (Act-F.Bundle ks) = ap (λ xs. nesting_by {N = N} {A = A} (Act-F.Bundle xs)) (stmts_same ks)
 
   act_by : (x : Act-F N A (Act N A) (Stmt N A)) (y : Act-F N A KeptAct KeptStmt) → inner_act y ≡ x → ActSame (roll-Act N A x)
   act_by x y is =

@@ -1,7 +1,7 @@
 -- Trees in which each statement stands where the grammar lets it (ISO C11, 6.8).
-use Rattle.std.specs.Prelude.{◌≡◌, Bool, true, false, not, ◌&&◌, ◌||◌, List, Option, None, Some}
+use Rattle.std.specs.Prelude.{◌≡◌, Bool, true, false, not, ◌&&◌, List, Option, None, Some}
 use Rattle.std.specs.List.{Contains}
-use Rattle.ckc_syntax.specs.Inside.{all_have, inside_each}
+use Rattle.ckc_syntax.specs.Inside.{all_have, inside_each, jumps_out}
 use Rattle.ckc_syntax.specs.declared.tree.Act.{Act, Act-F, fold-Act}
 use Rattle.ckc_syntax.specs.declared.tree.Head.{Head}
 use Rattle.ckc_syntax.specs.declared.tree.Item.{Item}
@@ -9,15 +9,12 @@ use Rattle.ckc_syntax.specs.declared.tree.Item.TheVariants as item
 use Rattle.ckc_syntax.specs.declared.tree.Stmt.{Stmt, Stmt-F, fold-Stmt}
 
 -- Whether each statement in a statement stands where the grammar lets it (a declaration stands in a block or begins a
--- `for`, and is no branch and no body), and whether the statement is a declaration or an assignment.
+-- `for`, and is no branch and no body), whether the statement is a declaration, and whether a `break` or a `continue`
+-- leaves it.
 pub record Nesting : Type 0 where
   pub fine : Bool
   pub declares : Bool
-  pub assigns : Bool
-
--- a statement that is neither
-abbrev pub plain : Bool → Nesting
-plain fine = record { fine = fine; declares = false; assigns = false }
+  pub jumps : Bool
 
 -- a branch or a body
 abbrev pub is_branch : Nesting → Bool
@@ -28,25 +25,30 @@ abbrev pub is_branch_if : Option Nesting → Bool
 is_branch_if None = true
 is_branch_if (Some s) = is_branch s
 
--- what a `for` begins with: a declaration, an assignment or nothing
+-- what a `for` begins with: nothing, or a statement that `break` and `continue` do not leave
 abbrev pub begins : Option Nesting → Bool
 begins None = true
-begins (Some s) = s.fine && (s.declares || s.assigns)
+begins (Some s) = s.fine && not s.jumps
 
--- the step of a `for`: an assignment or nothing
+-- the step of a `for`: nothing, or such a statement that is no declaration
 abbrev pub steps : Option Nesting → Bool
 steps None = true
-steps (Some s) = s.fine && s.assigns
+steps (Some s) = is_branch s && not s.jumps
 
--- the same of what a statement does
+-- whether the statements in what a statement does stand where they may
+abbrev pub is_fine : {N A : Type 0} → Act-F N A Nesting Nesting → Bool
+is_fine (Act-F.Block m ss) = inside_each all_have (λ (s : Nesting). s.fine) ss
+is_fine (Act-F.If e s t) = is_branch s && is_branch_if t
+is_fine (Act-F.While e s) = is_branch s
+is_fine (Act-F.For s e t body) = begins s && (steps t && is_branch body)
+is_fine _ = true
+
+abbrev pub is_declaration : {N A : Type 0} → Act-F N A Nesting Nesting → Bool
+is_declaration (Act-F.Local d) = true
+is_declaration _ = false
+
 abbrev pub nesting_by : {N A : Type 0} → Act-F N A Nesting Nesting → Nesting
-nesting_by (Act-F.Block m ss) = plain (inside_each all_have (λ (s : Nesting). s.fine) ss)
-nesting_by (Act-F.Local d) = record { fine = true; declares = true; assigns = false }
-nesting_by (Act-F.Assign e f) = record { fine = true; declares = false; assigns = true }
-nesting_by (Act-F.If e s t) = plain (is_branch s && is_branch_if t)
-nesting_by (Act-F.While e s) = plain (is_branch s)
-nesting_by (Act-F.For s e t body) = plain (begins s && (steps t && is_branch body))
-nesting_by _ = plain true
+nesting_by a = record { fine = is_fine a; declares = is_declaration a; jumps = jumps_out (λ (s : Nesting). s.jumps) a }
 
 -- a statement is placed as what it does
 abbrev pub nesting_in : {N A : Type 0} → Stmt-F N A Nesting Nesting → Nesting

@@ -24,6 +24,7 @@ use Rattle.ckc_typed.specs.Trees.{NotedDecl, NotedHead, NotedStmt, Tree, Item}
 use Rattle.ckc_typed.specs.Environment.{same_name, objects_of, or_variable, object_named, variable_named, variable_declared, variables_of, locals_of, type_of_name}
 use Rattle.ckc_typed_fit.proofs.NamedItems as items
 use Rattle.ckc_typed_fit.proofs.NamedItems.{ItemsNamed, text_is}
+use Rattle.ckc_typed_plain.proofs.Items.{resolved_of, flat_items}
 use Rattle.ckc_bounds.specs.ckc_bounds_points.specs.declared.frame.Local.{Local}
 use Rattle.ckc_bounds.specs.ckc_bounds_points.specs.declared.frame.Frame.{Frame}
 use Rattle.ckc_bounds.specs.ckc_bounds_points.specs.Frames.{local_at}
@@ -149,7 +150,9 @@ named_type globals h body k t n os e = by (variable_named (variables_of h body) 
 pub statics_named : (p : Typed) → IsJudged p → All IsStaticNamed (globals_in p).objects
 statics_named p j =
     subst (λ (t : Tree). All IsStaticNamed (objects_of t.items)) (sym (tree_named p j))
-    (objects_named (names_of j.spelled) j.spelled.items no_names j.spelled.items j.named.tree.items (text_is j.spelled j.named j.has_names).items)
+    (let r = resolved_of j.spelled j.named j.has_names in
+    subst (λ os. All IsStaticNamed os) (sym (flat_items j.spelled j.named r objects_declared_by (λ h b c. refl)))
+    (objects_named (names_of j.spelled) j.spelled.items no_names j.spelled.items r.resolved.tree.items (text_is j.spelled r.resolved r.has_names).items))
 
 -- the local of a frame has the type at its number
 frame_type : (p : Typed) (h : NotedHead) (body : NotedStmt) (k : ℕ) (l : Local) (t : CType) → local_at (function_frame (frame_of_text p) h body) k ≡ Some l

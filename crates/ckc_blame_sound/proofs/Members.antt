@@ -21,9 +21,11 @@ use Rattle.ckc_typed.specs.declared.typed.Typed.{Typed}
 use Rattle.ckc_typed.specs.Environment.{same_name}
 use Rattle.ckc_typed.specs.Layouts.{member_number, members_in_item, members_declared, shape_of, shapes_below, tag_count, bare_structs, bounded_member, structs_of}
 use Rattle.ckc_typed_fit.specs.Members.{AreDifferent, decl_member, member_in, item_members}
+use Rattle.ckc_plain.specs.Phase.{resolving}
 use Rattle.ckc_typed_fit.proofs.MembersDiffer.{members_differ}
 use Rattle.ckc_typed_fit.proofs.NamedItems as items
 use Rattle.ckc_typed_fit.proofs.NamedItems.{MembersNamed, ItemNamed, ItemsNamed, text_is}
+use Rattle.ckc_typed_plain.proofs.Items.{resolved_of, all_items}
 use Rattle.ckc_blame_sound.specs.Cells.{HaveOwnNames}
 use Rattle.ckc_blame_sound.specs.JudgedTexts.{IsJudged}
 use Rattle.ckc_blame_sound.proofs.Bounded.{layout_kept}
@@ -134,6 +136,9 @@ own_names (f ∷ fs) back m h = All-cons (λ (n : MemberShape). n.name ≢ m.nam
 named_own : (tree : Tree) (n : NamedText) → text_named tree ≡ Ok n → All HasOwn n.tree.items
 named_own tree n e = items_own (names_of tree) tree.items no_names tree.items n.tree.items (text_is tree n e).items (members_differ tree n e)
 
+plain_own : (tree : Tree) (n : NamedText) → resolving.Makes tree n → All HasOwn n.tree.items
+plain_own tree n m = let r = resolved_of tree n m in all_items tree n r HasOwn (λ h b c own. own) (named_own tree r.resolved r.has_names)
+
 structs_own : (js : List NamedItem) → All HasOwn js → HaveOwnNames (structs_of js)
 structs_own js own tag front back m split =
     own_names front back m
@@ -145,4 +150,4 @@ pub have_own_names : (p : Typed) → IsJudged p → HaveOwnNames p.layout
 have_own_names p j =
     let same : p.layout ≡ structs_of j.named.tree.items =
     layout_kept j.typed p j.has_bounds ∙ j.has_types.typed.layout ∙ ap (λ (t : NamedTree). structs_of t.items) j.has_types.tree in
-    subst HaveOwnNames (sym same) (structs_own j.named.tree.items (named_own j.spelled j.named j.has_names))
+    subst HaveOwnNames (sym same) (structs_own j.named.tree.items (plain_own j.spelled j.named j.has_names))

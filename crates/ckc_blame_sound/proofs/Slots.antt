@@ -18,6 +18,7 @@ use Rattle.ckc_syntax.specs.declared.tree.Name.TheVariants as name
 use Rattle.ckc_syntax.specs.declared.tree.Item.{Item}
 use Rattle.ckc_syntax.specs.declared.tree.Item.TheVariants as item
 use Rattle.ckc_syntax.specs.declared.tree.Limits.{Limits}
+use Rattle.ckc_syntax.specs.declared.tree.NamedText.{NamedText}
 use Rattle.ckc_resolve.specs.declared.names.Names.{Names}
 use Rattle.ckc_resolve.specs.Scoping.{no_names, names_of}
 use Rattle.ckc_resolve.specs.Trees as trees
@@ -34,6 +35,11 @@ use Rattle.ckc_typed_fit.specs.Numbers.{CountsFrom, static_in, static_numbers}
 use Rattle.ckc_typed_fit.proofs.Numbered.{statics_count}
 use Rattle.ckc_typed_fit.proofs.NamedItems as items
 use Rattle.ckc_typed_fit.proofs.NamedItems.{ItemsNamed, text_is}
+use Rattle.ckc_typed_plain.specs.Resolved.{IsResolved}
+use Rattle.ckc_typed_plain.proofs.Items.{resolved_of}
+use Rattle.ckc_plain.specs.declared.integers.Integers.{Integers}
+use Rattle.ckc_plain.specs.Integers.{known_of}
+use Rattle.ckc_plain.specs.Statements.{item_plain}
 use Rattle.ckc_bounds.specs.ckc_bounds_declared.specs.Written.{takes_bounds}
 use Rattle.ckc_source.specs.declared.expr.Count.{Count}
 use Rattle.ckc_build_values.specs.Kinds.{width_of, count_of_kind, pointee_of}
@@ -134,6 +140,23 @@ statics_from names all before k is js (items.more {js = rest} (items.static {e =
 statics_from names all before k is js (items.more {js = rest} (items.proto g there) hs) h = statics_from names all _ k _ rest hs h
 statics_from names all before k is js (items.more {js = rest} (items.function g new made) hs) h = statics_from names all _ k _ rest hs h
 
+-- the bodies of functions declare none
+statics_plain : (known : Integers) (k : ℕ) (is : List trees.NamedItem) → StaticsFrom k is → StaticsFrom k (map (item_plain known) is)
+statics_plain known k [] h = tt
+statics_plain known k (item.Static d ∷ is) h = (h.0, statics_plain known (k + 1) is h.1)
+statics_plain known k (item.Directive d ∷ is) h = statics_plain known k is h
+statics_plain known k (item.Tag n at ∷ is) h = statics_plain known k is h
+statics_plain known k (item.Struct n ms at ∷ is) h = statics_plain known k is h
+statics_plain known k (item.Proto g ∷ is) h = statics_plain known k is h
+statics_plain known k (item.Function g body ∷ is) h = statics_plain known k is h
+
+statics_resolved : (t : trees.Tree) (n : NamedText) → IsResolved t n → StaticsFrom 0 n.tree.items
+statics_resolved t n r =
+    let js = r.resolved.tree.items in
+    subst (λ (x : trees.NamedTree). StaticsFrom 0 x.items) (sym r.tree)
+    (statics_plain (known_of r.resolved.tree) 0 js
+    (statics_from (names_of t) t.items no_names 0 t.items js (text_is t r.resolved r.has_names).items (statics_count t r.resolved r.has_names)))
+
 from_bare : (k : ℕ) (is : List NotedItem) → StaticsFrom k (map bare_item is) → StaticsFrom k is
 from_bare k [] h = tt
 from_bare k (item.Static d ∷ is) h = (h.0, from_bare (k + 1) is h.1)
@@ -218,7 +241,7 @@ pub static_declared : (p : Typed) (j : IsJudged p) (n : ℕ) (d : NotedDecl) →
 static_declared p j n d e =
     let from : StaticsFrom 0 p.tree.items =
     from_bare 0 p.tree.items (subst (λ (t : Tree). StaticsFrom 0 t.items) (sym (tree_named p j))
-    (statics_from (names_of j.spelled) j.spelled.items no_names 0 j.spelled.items j.named.tree.items (text_is j.spelled j.named j.has_names).items (statics_count j.spelled j.named j.has_names))) in
+    (statics_resolved j.spelled j.named (resolved_of j.spelled j.named j.has_names))) in
     let is = statics_are p j in
     sym (slice_get-map (λ (o : StaticObject). o.element) p.statics n) ∙ ap (λ ts. slice_get ts n) is.1
     ∙ more_at (static_types p.tree.items) is.0 n (type_written d.ctype) (type_found [] p.tree.items n d from e)

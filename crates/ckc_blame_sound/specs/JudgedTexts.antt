@@ -1,15 +1,16 @@
 -- Texts that have been judged, by what each phase made of them.
-use Rattle.std.specs.Prelude.{◌≡◌, false, Ok}
+use Rattle.std.specs.Prelude.{◌≡◌, true, false, Ok}
 use Rattle.std.specs.List.{Contains}
 use Rattle.ckc_base.specs.declared.arithmetic.Mode.{Mode}
 use Rattle.ckc_syntax.specs.declared.tree.Item.TheVariants as item
 use Rattle.ckc_syntax.specs.declared.tree.NamedText.{NamedText}
-use Rattle.ckc_resolve.specs.Trees.{Tree}
-use Rattle.ckc_resolve.specs.Phase.{naming}
+use Rattle.ckc_syntax.specs.Trees.{Tree}
+use Rattle.ckc_plain.specs.Phase.{resolving}
 use Rattle.ckc_typed.specs.declared.typed.Typed.{Typed}
 use Rattle.ckc_typed.specs.declared.environment.Globals.{Globals}
 use Rattle.ckc_typed.specs.Texts.{globals_of}
 use Rattle.ckc_typed_welltyped.specs.Noteless.{without_notes}
+use Rattle.ckc_typed_welltyped.specs.Productions.{spoken_tree}
 use Rattle.ckc_typed_welltyped.specs.Texts.{TypedAs}
 use Rattle.ckc_typed.specs.Environment.{variables_of}
 use Rattle.ckc_typed.specs.Trees.{NotedHead, NotedStmt}
@@ -19,13 +20,14 @@ use Rattle.ckc_bounds.specs.Phase.{bounding}
 use Rattle.ckc_bounds.specs.Texts.{body_judged}
 use Rattle.ckc_blame_sound.specs.Settings.{frame_of_text}
 
--- The names of a tree were replaced by what they mean, then it got its types, and then its bounds were judged: that
--- is the text p.
+-- The names of a tree that the grammar gives were replaced by what they mean, and it was made plain; then it got its
+-- types, and then its bounds were judged: that is the text p.
 pub record IsJudged (p : Typed) : Type 0 where
   pub spelled : Tree
   pub named : NamedText
   pub typed : Typed
-  pub has_names : naming.Makes spelled named
+  pub has_form : spoken_tree spelled ≡ true
+  pub has_names : resolving.Makes spelled named
   pub has_types : TypedAs named typed
   pub has_bounds : bounding.Makes typed p
 

@@ -22,7 +22,7 @@ ghost use Rattle.ckc_typed.specs.Statics.{strings_of_item};
 ghost use Rattle.ckc_typed.specs.Types.{is_scalar};
 ghost use Rattle.ckc_typed.specs.Environment.{member_type, variable_declared, variables_of};
 ghost use Rattle.ckc_resolve.specs.Trees.{Tree};
-ghost use Rattle.ckc_resolve.specs.Phase.{naming};
+ghost use Rattle.ckc_plain.specs.Phase.{resolving};
 ghost use Rattle.ckc_scopes.specs.Phase.{scoping};
 ghost use Rattle.ckc_typed_welltyped.specs.Expressions.{WellTypedExpr};
 ghost use Rattle.ckc_typed_welltyped.specs.Noteless.{without_notes};
@@ -127,11 +127,11 @@ pub fn accesses_are_parts()
         → IsPart structs t 0 (width_of t) }
 {}
 
-/// What the phases make of a tree is judged: its names are replaced, it gets its types, and its scopes and its bounds
-/// are judged.
+/// What the phases make of a tree that the grammar gives is judged: its names are replaced and it is made plain, it
+/// gets its types, and its scopes and its bounds are judged.
 pub fn phases_judge()
-    ensures { (tree : Tree) (named : NamedText) (typed p : Typed) → naming.Makes tree named
-        → TypedAs named typed → (scoping >=> bounding).Makes typed p → IsJudged p }
+    ensures { (tree : Tree) (named : NamedText) (typed p : Typed) → spoken_tree tree ≡ true
+        → resolving.Makes tree named → TypedAs named typed → (scoping >=> bounding).Makes typed p → IsJudged p }
 {}
 
 /// The static objects of a judged text that come after the declared ones are those of its string literals, one after

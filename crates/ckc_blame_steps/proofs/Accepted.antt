@@ -21,8 +21,8 @@ use Rattle.ckc_typed.specs.declared.typed.Typed.{Typed}
 use Rattle.ckc_typed.specs.Statics.{strings_of_expr}
 use Rattle.ckc_typed.specs.Trees.{NotedExpr}
 use Rattle.ckc_typed_welltyped.specs.Productions.{callless_value, given_tree}
-use Rattle.ckc_typed_fit.proofs.FormKept.{form_kept}
-use Rattle.ckc_typed_fit.proofs.SmallKept.{small_kept}
+use Rattle.ckc_typed_plain.proofs.Given.{plain_given}
+use Rattle.ckc_typed_plain.proofs.Stay.{small_kept}
 use Rattle.ckc_typed_wellformed.proofs.Derived.{tree_given}
 use Rattle.ckc_blame_sound.specs.ckc_bounds.specs.Phase.{bounding}
 use Rattle.ckc_blame_sound.specs.ckc_bounds_views.specs.Views.{view}
@@ -136,6 +136,7 @@ module _ (text : List ℕ) (p : Typed) (a : IsAccepted text p) where
     spelled = a.spelled;
     named = a.named;
     typed = a.typed;
+    has_form = tree_given _ a.spelled a.has_tree;
     has_names = a.has_names;
     has_types = a.has_types;
     has_bounds = subst (λ (q : Typed). bounding.Makes q p) a.has_bounds.1.1 a.has_bounds.2;
@@ -143,11 +144,11 @@ module _ (text : List ℕ) (p : Typed) (a : IsAccepted text p) where
 
   given : given_tree j.named.tree ≡ true
   unfolding j
-  given = form_kept a.spelled a.named a.has_names ∙ tree_given _ a.spelled a.has_tree
+  given = plain_given a.spelled a.named (tree_given _ a.spelled a.has_tree) a.has_names
 
   small : Small j.named.tree
   unfolding j
-  small = small_kept a.spelled a.named a.has_names a.small
+  small = small_kept a.spelled a.named a.has_names
 
   words : HaveWords p
   words = literals_are_words text a.tokens a.spelled a.named a.typed p a.has_tokens a.has_tree a.has_names a.has_types a.has_bounds
@@ -305,7 +306,7 @@ module _ (text : List ℕ) (p : Typed) (a : IsAccepted text p) where
   unfolding j granted
   known = record {
     granted = granted;
-    nested = typed_nested a.tokens a.spelled a.named a.typed a.has_tree a.has_names a.has_types;
+    nested = typed_nested a.spelled a.named a.typed (tree_given _ a.spelled a.has_tree) a.has_names a.has_types;
     tests = tests;
     spares = results_are_spared p j;
     arguments = λ m s h spot target number es next f mode. arguments s h m spot target number es next f mode;

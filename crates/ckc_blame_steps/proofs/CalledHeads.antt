@@ -15,8 +15,7 @@ use Rattle.ckc_typed.specs.Trees.{Head, Item, Tree, NotedHead, NotedItem, NotedS
 use Rattle.ckc_typed_fit.specs.Bodies.{body_of, Defines, IsDefined, FunctionsHaveBodies}
 use Rattle.ckc_typed_fit.specs.Members.{AreDifferent}
 use Rattle.ckc_typed_fit.specs.Numbers.{function_in, function_numbers, CountsUp}
-use Rattle.ckc_typed_fit.proofs.BodiesKept.{bodies_kept}
-use Rattle.ckc_typed_fit.proofs.Numbered.{functions_count}
+use Rattle.ckc_typed_plain.proofs.Stay.{bodies_kept, functions_count}
 use Rattle.ckc_typed_welltyped.specs.Noteless.{bare_head, bare_item}
 use Rattle.ckc_blame_sound.specs.ckc_bounds_points.specs.declared.frame.Frame.{Frame}
 use Rattle.ckc_blame_sound.specs.ckc_bounds_points.specs.declared.frame.HeadBounds.{HeadBounds}

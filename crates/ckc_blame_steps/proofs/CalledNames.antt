@@ -15,6 +15,7 @@ use Rattle.ckc_typed.specs.Environment.{same_name, getchar, putchar, signature_d
 use Rattle.ckc_typed.specs.Trees.{Item}
 use Rattle.ckc_typed_fit.proofs.NamedItems as items
 use Rattle.ckc_typed_fit.proofs.NamedItems.{ItemNamed, ItemsNamed, text_is}
+use Rattle.ckc_typed_plain.proofs.Items.{resolved_of, all_items}
 use Rattle.ckc_typed_welltyped.specs.Noteless.{without_notes}
 use Rattle.ckc_blame_sound.specs.JudgedTexts.{IsJudged, globals_in}
 use Rattle.ckc_blame_sound.proofs.Functions.{tree_named}
@@ -82,7 +83,8 @@ called_callable p j n t e =
     let js = (without_notes p.tree).items in
     let functions : All HasFunction js =
     subst (λ (tree : _). All HasFunction tree.items) (sym (tree_named p j))
-    (items_function (names_of j.spelled) j.spelled.items no_names j.spelled.items j.named.tree.items (text_is j.spelled j.named j.has_names).items) in
+    (let r = resolved_of j.spelled j.named j.has_names in
+    all_items j.spelled j.named r HasFunction (λ h b c k. k) (items_function (names_of j.spelled) j.spelled.items no_names j.spelled.items r.resolved.tree.items (text_is j.spelled r.resolved r.has_names).items)) in
     first_or (IsCallable n) (same_name name.Getchar n) getchar t (find (λ (s : Signature). same_name s.name n) (putchar ∷ flat_map signatures_of_item js))
     (by_getchar n)
     (first_or (IsCallable n) (same_name name.Putchar n) putchar t (found_in n js) (by_putchar n) (found_callable n t js functions)) e

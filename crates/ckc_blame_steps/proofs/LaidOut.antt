@@ -20,7 +20,7 @@ use Rattle.ckc_syntax.specs.declared.tree.Init.TheVariants as init
 use Rattle.ckc_syntax.specs.declared.tree.Item.TheVariants as item
 use Rattle.ckc_lexer.specs.Phase.{lexing}
 use Rattle.ckc_parser.specs.Phase.{parsing}
-use Rattle.ckc_resolve.specs.Phase.{naming}
+use Rattle.ckc_plain.specs.Phase.{resolving}
 use Rattle.ckc_scopes.specs.Phase.{scoping}
 use Rattle.ckc_typed.specs.declared.environment.Constant.{Constant}
 use Rattle.ckc_typed.specs.declared.typed.StaticObject.{StaticObject}
@@ -50,7 +50,7 @@ use Rattle.ckc_blame_walk.proofs.Starts.{IsBegun, blocks_begun}
 use Rattle.ckc_blame_words.specs.Literals.{are_bytes, init_has_words, limits_have_words, item_has_words, tree_has_words}
 use Rattle.ckc_blame_words.proofs.Tokens.{tokens_hold_words}
 use Rattle.ckc_blame_words.proofs.Chain.{parsed_words, types_keep_words}
-use Rattle.ckc_blame_words.proofs.Named.{names_keep_words}
+use Rattle.ckc_blame_words.proofs.Whole.{resolved_words}
 use Rattle.ckc_blame_steps.proofs.TreeStrings.{HasBytes, HaveBytes, items_bytes, string_bytes}
 
 -- ---- bytes
@@ -184,7 +184,7 @@ module _ (q p : Typed) (typed : WellTyped q) (judged : text_judged q ≡ Ok p) w
   }
 
 pub programs_laid_out : (text : List ℕ) (tokens : Tokens) (whole : Tree) (named : NamedText) (typed p : Typed) → lexing.Makes text tokens → parsing.Makes tokens whole
-    → naming.Makes whole named → TypedAs named typed → (scoping >=> bounding).Makes typed p → IsLaidOut (elaborated p)
+    → resolving.Makes whole named → TypedAs named typed → (scoping >=> bounding).Makes typed p → IsLaidOut (elaborated p)
 programs_laid_out text tokens whole named typed p cut parsed resolved is judged =
     text_laid_out judged.0 p (subst (λ (t : Typed). WellTyped t) (sym judged.1.1) is.typed) judged.2
-    (ap (λ (t : Typed). tree_has_words t.tree) judged.1.1 ∙ types_keep_words named typed is ∙ names_keep_words whole named resolved ∙ parsed_words tokens whole (tokens_hold_words text tokens cut) parsed)
+    (ap (λ (t : Typed). tree_has_words t.tree) judged.1.1 ∙ types_keep_words named typed is ∙ resolved_words whole named resolved (parsed_words tokens whole (tokens_hold_words text tokens cut) parsed))

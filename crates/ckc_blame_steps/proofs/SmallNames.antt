@@ -23,6 +23,10 @@ use Rattle.ckc_typed.specs.Environment.{same_name}
 use Rattle.ckc_typed.specs.Layouts.{member_number, members_in_item, members_declared, bare_structs, bounded_member, structs_of}
 use Rattle.ckc_typed_fit.proofs.NamedItems as items
 use Rattle.ckc_typed_fit.proofs.NamedItems.{MembersNamed, ItemNamed, ItemsNamed, text_is}
+use Rattle.ckc_typed_plain.proofs.Items.{resolved_of, all_items}
+use Rattle.ckc_plain.specs.declared.integers.Integers.{Integers}
+use Rattle.ckc_plain.specs.Integers.{known_of}
+use Rattle.ckc_plain.specs.Statements.{item_plain}
 use Rattle.ckc_blame_sound.specs.JudgedTexts.{IsJudged}
 use Rattle.ckc_blame_sound.proofs.Bounded.{layout_kept}
 use Rattle.ckc_blame_sound.proofs.Members.{members_are}
@@ -64,21 +68,22 @@ members_few names scope before ds es ms (items.member {d = d} {e = e} {ds = more
     omega (arith, later, one, parts)
 
 module _ (names : Names) (all : List Item) where
-  item_few : (before : Names) (i : Item) (j : NamedItem) → ItemNamed names all before i j → length (noted before i).members ≤ length before.members + nodes (marks_of_item j)
-  item_few before i j (items.directive d) = omega arith
-  item_few before i j (items.tag s pos) = omega arith
-  item_few before i j (items.struct {ds = ds} {es = es} s pos hs) = members_few names _ [] ds es before.members hs
-  item_few before i j (items.static h new) = omega arith
-  item_few before i j (items.proto is there) = omega arith
-  item_few before i j (items.function is new made) = omega arith
+  -- the bodies of functions declare none, whatever they become
+  item_few : (known : Integers) (before : Names) (i : Item) (j : NamedItem) → ItemNamed names all before i j → length (noted before i).members ≤ length before.members + nodes (marks_of_item (item_plain known j))
+  item_few known before i j (items.directive d) = omega arith
+  item_few known before i j (items.tag s pos) = omega arith
+  item_few known before i j (items.struct {ds = ds} {es = es} s pos hs) = members_few names _ [] ds es before.members hs
+  item_few known before i j (items.static h new) = omega arith
+  item_few known before i j (items.proto is there) = omega arith
+  item_few known before i j (items.function is new made) = omega arith
 
-  items_few : (before : Names) (is : List Item) (js : List NamedItem) → ItemsNamed names all before is js
-      → length (fold noted before is).members ≤ length before.members + nodes (flat_map (λ (j : NamedItem). marks_of_item j) js)
-  items_few before is js items.none = omega arith
-  items_few before is js (items.more {i = i} {j = j} {is = others} {js = rest} k ks) =
-      let one = item_few before i j k in
-      let later = items_few (noted before i) others rest ks in
-      omega (arith, one, later, tally-append is_node (marks_of_item j) (flat_map (λ (j : NamedItem). marks_of_item j) rest))
+  items_few : (known : Integers) (before : Names) (is : List Item) (js : List NamedItem) → ItemsNamed names all before is js
+      → length (fold noted before is).members ≤ length before.members + nodes (flat_map (λ (j : NamedItem). marks_of_item j) (map (item_plain known) js))
+  items_few known before is js items.none = omega arith
+  items_few known before is js (items.more {i = i} {j = j} {is = others} {js = rest} k ks) =
+      let one = item_few known before i j k in
+      let later = items_few known (noted before i) others rest ks in
+      omega (arith, one, later, tally-append is_node (marks_of_item (item_plain known j)) (flat_map (λ (j : NamedItem). marks_of_item j) (map (item_plain known) rest)))
 
   -- ---- the numbers of members
 
@@ -152,10 +157,14 @@ pub names_small : (p : Typed) (j : IsJudged p) → Small j.named.tree → HaveSm
 names_small p j small =
     let same : p.layout ≡ structs_of j.named.tree.items =
     layout_kept j.typed p j.has_bounds ∙ j.has_types.typed.layout ∙ ap (λ (t : NamedTree). structs_of t.items) j.has_types.tree in
-    let named = (text_is j.spelled j.named j.has_names).items in
+    let r = resolved_of j.spelled j.named j.has_names in
+    let js = r.resolved.tree.items in
+    let named = (text_is j.spelled r.resolved r.has_names).items in
     let names : Names = names_of j.spelled in
-    let counted : length names.members ≤ 0 + nodes (marks_of j.named.tree) = items_few names j.spelled.items no_names j.spelled.items j.named.tree.items named in
+    let counted : length names.members ≤ 0 + nodes (marks_of j.named.tree) =
+    subst (λ (t : NamedTree). length names.members ≤ 0 + nodes (marks_of t)) (sym r.tree) (items_few names j.spelled.items (known_of r.resolved.tree) no_names j.spelled.items js named) in
     let limit = small.nodes in
     let marks = is_tally is_node (marks_of j.named.tree) in
     subst HaveSmallNames (sym same)
-    (structs_small names j.spelled.items j.named.tree.items (omega (arith, counted, limit, marks)) (items_small names j.spelled.items no_names j.spelled.items j.named.tree.items named))
+    (structs_small names j.spelled.items j.named.tree.items (omega (arith, counted, limit, marks))
+    (all_items j.spelled j.named r (HasSmall names j.spelled.items) (λ h b c k. k) (items_small names j.spelled.items no_names j.spelled.items js named)))

@@ -24,7 +24,9 @@ use Rattle.ckc_typed.specs.Trees.{Item, Tree, NotedDecl, NotedHead, NotedItem, N
 use Rattle.ckc_typed.specs.Types.{type_written}
 use Rattle.ckc_typed_fit.specs.Numbers.{static_numbers, CountsFrom}
 use Rattle.ckc_typed_fit.proofs.NamedItems.{text_is}
-use Rattle.ckc_typed_fit.proofs.Numbered.{statics_count}
+use Rattle.ckc_typed_plain.specs.Resolved.{IsResolved}
+use Rattle.ckc_typed_plain.proofs.Items.{resolved_of, all_items}
+use Rattle.ckc_typed_plain.proofs.Stay.{statics_count}
 use Rattle.ckc_typed_welltyped.specs.Noteless.{bare_item, without_notes}
 use Rattle.ckc_blame_sound.specs.ckc_bounds_points.specs.declared.frame.Frame.{Frame}
 use Rattle.ckc_blame_sound.specs.ckc_bounds_declared.specs.declared.limits.Holder.TheVariants as holder
@@ -60,10 +62,13 @@ module _ (p : Typed) (j : IsJudged p) where
   items_named : map bare_item p.tree.items ≡ j.named.tree.items
   items_named = ap (λ (t : Tree). t.items) (tree_named p j)
 
+  r : IsResolved j.spelled j.named
+  r = resolved_of j.spelled j.named j.has_names
+
   pub are_statics : AreStatics 0 (decls p.tree.items)
   are_statics =
       statics_numbered p.tree.items 0
-      (subst (λ (is : List Item). All HasStatic is) (sym items_named) (items_static (names_of j.spelled) j.spelled.items no_names j.spelled.items j.named.tree.items (text_is j.spelled j.named j.has_names).items))
+      (subst (λ (is : List Item). All HasStatic is) (sym items_named) (all_items j.spelled j.named r HasStatic (λ h b c k. k) (items_static (names_of j.spelled) j.spelled.items no_names j.spelled.items r.resolved.tree.items (text_is j.spelled r.resolved r.has_names).items)))
       (subst (λ (is : List Item). CountsFrom 0 (static_numbers is)) (sym items_named) (statics_count j.spelled j.named j.has_names))
 
   abbrev first_frame : Frame

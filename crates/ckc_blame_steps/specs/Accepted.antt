@@ -6,7 +6,7 @@ use Rattle.ckc_syntax.specs.declared.tree.NamedText.{NamedText}
 use Rattle.ckc_syntax_limits.specs.Small.{Small}
 use Rattle.ckc_lexer.specs.Phase.{lexing}
 use Rattle.ckc_parser.specs.Phase.{SpelledTree, parsing}
-use Rattle.ckc_resolve.specs.Phase.{naming}
+use Rattle.ckc_plain.specs.Phase.{resolving}
 use Rattle.ckc_scopes.specs.Phase.{scoping}
 use Rattle.ckc_blame_sound.specs.ckc_bounds.specs.Phase.{bounding}
 use Rattle.ckc_typed.specs.declared.typed.Typed.{Typed}
@@ -22,6 +22,6 @@ pub record IsAccepted (text : List ℕ) (p : Typed) : Type 0 where
   pub has_tokens : lexing.Makes text tokens
   pub has_tree : parsing.Makes tokens spelled
   pub small : Small spelled
-  pub has_names : naming.Makes spelled named
+  pub has_names : resolving.Makes spelled named
   pub has_types : TypedAs named typed
   pub has_bounds : (scoping >=> bounding).Makes typed p

@@ -9,7 +9,7 @@ ghost use Rattle.ckc_syntax.specs.declared.tree.NamedText.{NamedText};
 ghost use Rattle.ckc_lexer.specs.Phase.{lexing};
 ghost use Rattle.ckc_parser.specs.Phase.{parsing};
 ghost use Rattle.ckc_syntax.specs.Trees.{Tree};
-ghost use Rattle.ckc_resolve.specs.Phase.{naming};
+ghost use Rattle.ckc_plain.specs.Phase.{resolving};
 ghost use Rattle.ckc_scopes.specs.Phase.{scoping};
 ghost use Rattle.ckc_blame_sound.specs.ckc_bounds.specs.Phase.{bounding};
 ghost use Rattle.ckc_typed_welltyped.specs.Productions.{given_tree};
@@ -68,6 +68,6 @@ pub fn bodies_are_given()
 pub fn objects_begin_as_bytes()
     ensures { (text : List ℕ) (tokens : Tokens) (whole : Tree) (named : NamedText)
         (typed p : Typed) → lexing.Makes text tokens → parsing.Makes tokens whole
-        → naming.Makes whole named → TypedAs named typed → (scoping >=> bounding).Makes typed p
+        → resolving.Makes whole named → TypedAs named typed → (scoping >=> bounding).Makes typed p
         → IsLaidOut (elaborated p) }
 {}

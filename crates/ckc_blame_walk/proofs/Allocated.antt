@@ -26,7 +26,7 @@ use Rattle.ckc_typed.specs.Texts.{globals_of}
 use Rattle.ckc_typed.specs.Trees.{Item, Tree, NotedAct, NotedExpr, NotedInit, NotedItem, NotedLayer, NotedStmt}
 use Rattle.ckc_typed.specs.Walk.{pragma_after}
 use Rattle.ckc_typed_fit.specs.Tests.{Tests, Walked, type_passes, expr_passes, value_passes, init_passes, head_passes, item_passes, items_pass, pass_in_turn, names_declared}
-use Rattle.ckc_typed_fit.proofs.Found.{tags_have_bodies}
+use Rattle.ckc_typed_plain.proofs.Found.{tags_have_bodies}
 use Rattle.ckc_typed_welltyped.specs.Declarations.{WellTypedInit}
 use Rattle.ckc_typed_welltyped.specs.Expressions.{WellTypedExpr, IsNoted, HasType}
 use Rattle.ckc_typed_welltyped.specs.Noteless.{bare_expr, bare_init, bare_head, bare_item, without_notes}
@@ -259,7 +259,7 @@ texts_allocate_sizes p j given small q h body w bounded there =
     let same : js ≡ j.named.tree.items = ap (λ (t : Tree). t.items) (sym (same_tree q p bounded) ∙ tree_named p j) in
     let all_given : list_all given_item js ≡ true = ap (λ (is : List Item). list_all given_item is) same ∙ given in
     let few = subst (λ (is : List Item). how_many is_node (flat_map marks_of_item is) < 16385) (sym same) (let n = small.nodes in omega arith) in
-    let passes : items_pass (tag_tests js) js ≡ true = subst (λ (is : List Item). items_pass (tag_tests is) is ≡ true) (sym same) (tags_have_bodies j.spelled j.named j.has_names) in
+    let passes : items_pass (tag_tests js) js ≡ true = subst (λ (is : List Item). items_pass (tag_tests is) is ≡ true) (sym same) (tags_have_bodies j.spelled j.named j.has_form j.has_names) in
     let globals = globals_of (without_notes q.tree).items in
     let members = all_members globals Unchecked q.tree.items w.items all_given (omega arith) in
     let all : All (IsSizedItem js members) q.tree.items = items_are_sized js members globals Unchecked q.tree.items w.items passes in

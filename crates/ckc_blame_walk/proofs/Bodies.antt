@@ -16,7 +16,7 @@ use Rattle.ckc_typed_welltyped.specs.Noteless.{bare_limits, bare_init, bare_decl
 use Rattle.ckc_typed_fit.specs.Tests as tests
 use Rattle.ckc_typed_fit.specs.Tests.{Tests, type_passes, bounds_pass, init_passes, decl_passes, decls_pass, head_passes, item_passes, items_pass}
 use Rattle.ckc_typed_fit.proofs.EachOnce.{once, all_below}
-use Rattle.ckc_typed_fit.proofs.Found.{names_visible}
+use Rattle.ckc_typed_plain.proofs.Found.{names_visible}
 use Rattle.ckc_blame_sound.specs.ckc_bounds_known.proofs.Reaching.{and_cases}
 use Rattle.ckc_blame_sound.specs.ckc_bounds_points.specs.declared.frame.Frame.{Frame}
 use Rattle.ckc_blame_sound.specs.ckc_bounds_points.specs.declared.frame.Local.{Local}
@@ -180,7 +180,7 @@ module _ (p : Typed) (j : IsJudged p) (s : Setting) (frame : Frame) (h : NotedHe
 
   passed : item_passes t (bare_item (item.Function h body)) ≡ true
   passed =
-      let all : list_all (item_passes t) j.named.tree.items ≡ true = subst (λ is. items_pass (tests_of is) j.named.tree.items ≡ true) (sym items_are) (names_visible j.spelled j.named j.has_names) in
+      let all : list_all (item_passes t) j.named.tree.items ≡ true = subst (λ is. items_pass (tests_of is) j.named.tree.items ≡ true) (sym items_are) (names_visible j.spelled j.named j.has_form j.has_names) in
       let each : All (λ i. item_passes t i ≡ true) (map bare_item j.typed.tree.items) =
       subst (λ (x : _). All (λ i. item_passes t i ≡ true) x.items) (sym j.has_types.tree) (all_true (item_passes t) j.named.tree.items all) in
       All-contains (λ (i : NotedItem). item_passes t (bare_item i) ≡ true) j.typed.tree.items (item.Function h body) (all_made (λ i. item_passes t i ≡ true) bare_item j.typed.tree.items each) there

@@ -95,7 +95,7 @@ fine_if (Some s) = s.fine
 
 abbrev pub is_plain_if : Option Nesting → Bool
 is_plain_if None = true
-is_plain_if (Some s) = s.declares || s.assigns
+is_plain_if (Some s) = not s.jumps
 
 module _ (s : Setting) (Claimed : Type 0) where
   -- what a judged statement leaves, and that its code leads there
@@ -122,7 +122,7 @@ module _ (s : Setting) (Claimed : Type 0) where
 
   pub record Whole (path : Path) (nest : Nesting) (w : Walked) : Type 0 where
     pub judged : nest.fine ≡ true → (here : Here) → Gives (Next path.assigned nest (own_of w path) path.breaks path.continues here) (path.judged s.frame s.head here)
-    pub plain : (nest.declares || nest.assigns) ≡ true → (path.breaks ≡ false) × (path.continues ≡ false)
+    pub plain : not nest.jumps ≡ true → (path.breaks ≡ false) × (path.continues ≡ false)
 
   pub record WholeIf (path : Option Path) (nest : Option Nesting) (w : Option Walked) : Type 0 where
     pub judged : fine_if nest ≡ true → (here : Here)

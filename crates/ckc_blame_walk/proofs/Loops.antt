@@ -285,15 +285,11 @@ module _ (s : Setting) (Claimed : Type 0) where
 
     begins_plain : (n : Option Nesting) → begins n ≡ true → (fine_if n ≡ true) × (is_plain_if n ≡ true)
     begins_plain None h = (refl, refl)
-    begins_plain (Some n) h = and_cases n.fine (n.declares || n.assigns) h
+    begins_plain (Some n) h = and_cases n.fine (not n.jumps) h
 
     steps_plain : (n : Option Nesting) → steps n ≡ true → (fine_if n ≡ true) × (is_plain_if n ≡ true)
     steps_plain None h = (refl, refl)
-    steps_plain (Some n) h = let g = and_cases n.fine n.assigns h in (g.0, by n.declares n.assigns g.1)
-      where
-        by : (a b : Bool) → b ≡ true → (a || b) ≡ true
-        by true b h = refl
-        by false b h = h
+    steps_plain (Some n) h = let g = and_cases (is_branch n) (not n.jumps) h in ((and_cases n.fine (not n.declares) g.0).0, g.1)
 
     module _ (p : Option NotedStmt × Here) (first : NextIf s Claimed is init_nest init_own (breaks_if init) (continues_if init) here p) where
       abbrev for_head : Here

@@ -13,7 +13,7 @@ use Rattle.ckc_typed.specs.Environment.{same_name}
 use Rattle.ckc_typed_fit.specs.Bodies.{body_of, DefinesMain}
 use Rattle.ckc_typed_fit.specs.Members.{AreDifferent}
 use Rattle.ckc_typed_fit.specs.Numbers.{function_in}
-use Rattle.ckc_typed_fit.proofs.BodiesKept.{bodies_kept, main_kept}
+use Rattle.ckc_typed_plain.proofs.Stay.{bodies_kept, main_kept}
 use Rattle.ckc_typed_welltyped.specs.Noteless.{bare_decl, bare_item}
 use Rattle.ckc_build_elaborate.specs.Names.{params_of}
 use Rattle.ckc_build_elaborate.specs.Bodies.{IsDefined}

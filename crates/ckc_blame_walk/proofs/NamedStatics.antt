@@ -27,6 +27,7 @@ use Rattle.ckc_typed.specs.Texts.{globals_of}
 use Rattle.ckc_typed.specs.Walk.{pragma_after}
 use Rattle.ckc_typed_fit.proofs.NamedItems as items
 use Rattle.ckc_typed_fit.proofs.NamedItems.{ItemNamed, ItemsNamed, text_is}
+use Rattle.ckc_typed_plain.proofs.Items.{resolved_of, all_items}
 use Rattle.ckc_typed_welltyped.specs.Noteless.{bare_decl, bare_item, without_notes}
 use Rattle.ckc_typed_welltyped.specs.Declarations.{WellTypedBare}
 use Rattle.ckc_typed_welltyped.specs.Texts.{WellTypedItem, WellTypedItems, members_seen}
@@ -177,6 +178,7 @@ members_named p j =
     let js = (without_notes q.tree).items in
     let same : js ≡ j.named.tree.items = ap (λ (t : Tree). t.items) j.has_types.tree in
     let statics : All HasStatic js = subst (λ (is : List Item). All HasStatic is) (sym same)
-    (items_static (names_of j.spelled) j.spelled.items no_names j.spelled.items j.named.tree.items (text_is j.spelled j.named j.has_names).items) in
+    (let r = resolved_of j.spelled j.named j.has_names in
+    all_items j.spelled j.named r HasStatic (λ h b c k. k) (items_static (names_of j.spelled) j.spelled.items no_names j.spelled.items r.resolved.tree.items (text_is j.spelled r.resolved r.has_names).items)) in
     let named : NameMembers (structs_of js) = all_named js statics (items_own js statics Unchecked q.tree.items w.items) in
     subst NameMembers (sym (layout_kept q p j.has_bounds ∙ w.layout)) named

@@ -33,7 +33,7 @@ use Rattle.ckc_typed.specs.Texts.{globals_of}
 use Rattle.ckc_typed.specs.Walk.{pragma_after}
 use Rattle.ckc_typed_fit.specs.Tests.{Tests, type_parts, type_passes, item_passes, items_pass}
 use Rattle.ckc_typed_fit.specs.Visible.{is_one_of, struct_of, has_body}
-use Rattle.ckc_typed_fit.proofs.Found.{tags_have_bodies}
+use Rattle.ckc_typed_plain.proofs.Found.{tags_have_bodies}
 use Rattle.ckc_typed_welltyped.specs.Noteless.{bare_item, without_notes}
 use Rattle.ckc_typed_welltyped.specs.Productions.{given_item, given_tree}
 use Rattle.ckc_typed_welltyped.specs.Texts.{WellTypedItem, WellTypedItems}
@@ -176,7 +176,7 @@ objects_sized p j given small =
     let same : js ≡ j.named.tree.items = ap (λ (t : Tree). t.items) j.has_types.tree in
     let all_given : list_all given_item js ≡ true = ap (λ (is : List Item). list_all given_item is) same ∙ given in
     let few = subst (λ (is : List Item). how_many is_node (flat_map marks_of_item is) < 16385) (sym same) (let n = small.nodes in omega arith) in
-    let passes : items_pass (tag_tests js) js ≡ true = subst (λ (is : List Item). items_pass (tag_tests is) is ≡ true) (sym same) (tags_have_bodies j.spelled j.named j.has_names) in
+    let passes : items_pass (tag_tests js) js ≡ true = subst (λ (is : List Item). items_pass (tag_tests is) is ≡ true) (sym same) (tags_have_bodies j.spelled j.named j.has_form j.has_names) in
     let globals = globals_of (without_notes q.tree).items in
     let members = all_members globals Unchecked q.tree.items w.items all_given (omega arith) in
     let first : All (HasSize (structs_of js)) (blocks (structs_of js) q.tree.items) =

@@ -59,6 +59,17 @@ use Rattle.ckc_blame_walk.proofs.Steps.{IsAssignment, HasAssignments, own_of_act
 use Rattle.ckc_typed_fit.specs.Tests as tests
 use Rattle.ckc_typed_fit.specs.Tests.{left_by, pass_in_turn}
 
+neither : (a b : Bool) → not (a || b) ≡ true → (not a ≡ true) × (not b ≡ true)
+neither true b e = absurd (cc)
+neither false b e = (refl, e)
+
+no_one : (a b : Bool) → a ≡ false → b ≡ false → (a || b) ≡ false
+no_one a b e f = ap (λ c. c || b) e ∙ f
+
+no_value : (e : Option NotedExpr) → inside_if one_has (λ (f : NotedExpr). false) e ≡ false
+no_value None = refl
+no_value (Some e) = refl
+
 gives_weaker : {A : Type 0} (P Q : A → Type 0) (o : Outcome A) → ((a : A) → P a → Q a) → Gives P o → Gives Q o
 gives_weaker P Q o f h = record { made = λ a e. f a (h.made a e) }
 
@@ -110,7 +121,7 @@ module _ (s : Setting) (Claimed : Type 0) where
     pub judged : nest.fine ≡ true → (at : Pos) (note : Note) → (Claimed → IsInBody s (stated at note a)) → (here : Here)
         → Gives (λ p. IsWalk s (stated at note a) here p → Next s Claimed path.assigned nest (record { walked = w; declared = path.declared }) path.breaks path.continues here p) (path.judged s.frame s.head at note here)
     pub part : (bundle at : Pos) (note : Note) (here : Here) → Gives (PartNext path.assigned (stated at note a) here) (path.part s.frame bundle at note here)
-    pub plain : (nest.declares || nest.assigns) ≡ true → (path.breaks ≡ false) × (path.continues ≡ false)
+    pub plain : not nest.jumps ≡ true → (path.breaks ≡ false) × (path.continues ≡ false)
 
   record AnyAct (a : NotedAct) : Type 0 where
     pub holds : ActHolds (path_of_act a) (nesting_of_act a) (scope_of_act (items_of s) a) a
@@ -118,6 +129,7 @@ module _ (s : Setting) (Claimed : Type 0) where
   pub record StmtHolds (st : NotedStmt) : Type 0 where
     pub whole : (Claimed → IsInBody s st) → Whole s Claimed (path st) (nesting_of st) (scope_of (items_of s) st)
     pub part : (bundle : Pos) (here : Here) → Gives (PartNext (path st).assigned st here) ((path st).part s.frame bundle here)
+    pub plain : not (nesting_of st).jumps ≡ true → ((path st).breaks ≡ false) × ((path st).continues ≡ false)
 
   abbrev KeptAct : Type 0
   KeptAct = (a : NotedAct) × AnyAct a
@@ -236,6 +248,19 @@ module _ (s : Setting) (Claimed : Type 0) where
         assign = (one.assigns, rest.assign);
         stores = one.stores q.0 ∙ ap (λ x. (path k.0).assigned ++ x) rest.stores;
       })))
+
+  -- ---- what `break` and `continue` do not leave
+
+  abbrev jumps_in : List KeptStmt → Bool
+  jumps_in ks = inside_each one_has (λ (v : Nesting). v.jumps) (map nesting_of (firsts ks))
+
+  no_jumps : (ks : List KeptStmt) → not (jumps_in ks) ≡ true → (breaks_in ks ≡ false) × (continues_in ks ≡ false)
+  no_jumps [] e = (refl, refl)
+  no_jumps (k ∷ ks) e =
+      let both = neither (nesting_of k.0).jumps (jumps_in ks) e in
+      let one = k.1.plain both.0 in
+      let rest = no_jumps ks both.1 in
+      (no_one (path k.0).breaks (breaks_in ks) one.0 rest.0, no_one (path k.0).continues (continues_in ks) one.1 rest.1)
 
   -- ---- a block
 
@@ -458,7 +483,7 @@ module _ (s : Setting) (Claimed : Type 0) where
   act_step (Act-F.Block m ks) = record {
     judged = λ fine at note inside here. through_parts _ here _ _ (block_gives m ks fine (λ a. parts_inside s at note (inner_act (Act-F.Block m ks)) (inside a)) (nesting_by (act_nested (inner_act (Act-F.Block m ks)))) at note here);
     part = λ bundle at note here. no_part _ _ here bundle;
-    plain = λ e. absurd (cc);
+    plain = no_jumps ks;
   }
   act_step Act-F.Empty = record {
     judged = λ fine at note inside here. given _ (stated at note act.Empty, here) (λ walk. record {
@@ -471,7 +496,7 @@ module _ (s : Setting) (Claimed : Type 0) where
       code = λ st on tame room k exits strings may. inl (code_is s Claimed at note Act-F.Empty act.Empty k act.rolls-Empty, refl);
     });
     part = λ bundle at note here. no_part _ _ here bundle;
-    plain = λ e. absurd (cc);
+    plain = λ e. (refl, refl);
   }
   act_step (Act-F.Local d) = record {
     judged = λ fine at note inside here. local_gives (roll-Act Name Note (Act-F.Local d)) at note inside here d (act_out (Act-F.Local d)) (nesting_by (Act-F.Local d)) refl false false;
@@ -486,7 +511,7 @@ module _ (s : Setting) (Claimed : Type 0) where
   act_step (Act-F.Call e) = record {
     judged = λ fine at note inside here. call_gives (roll-Act Name Note (Act-F.Call e)) at note inside here e (act_out (Act-F.Call e)) (nesting_by (Act-F.Call e)) false false;
     part = λ bundle at note here. no_part _ _ here bundle;
-    plain = λ e. absurd (cc);
+    plain = λ e. (refl, refl);
   }
   act_step (Act-F.If e k None) = record {
     judged = λ fine at note inside here.
@@ -494,7 +519,9 @@ module _ (s : Setting) (Claimed : Type 0) where
         let i : Claimed → PartsInBody s note.mode (inner_act (Act-F.If e k None)) = λ a. parts_inside s at note (inner_act (Act-F.If e k None)) (inside a) in
         through_parts _ here _ _ (if_gives s Claimed at note e (path k.0) (nesting_of k.0) (scope_of (items_of s) k.0) (k.1.whole (λ a. (i a).1)) None None None (whole_none s Claimed) b.0 refl (λ a. (i a).0) (nesting_by (act_nested (inner_act (Act-F.If e k None)))) here);
     part = λ bundle at note here. no_part _ _ here bundle;
-    plain = λ e. absurd (cc);
+    plain = λ h.
+        let one = k.1.plain (neither (nesting_of k.0).jumps false h).0 in
+        (no_one (path k.0).breaks false one.0 refl, no_one (path k.0).continues false one.1 refl);
   }
   act_step (Act-F.If e k (Some j)) = record {
     judged = λ fine at note inside here.
@@ -503,30 +530,34 @@ module _ (s : Setting) (Claimed : Type 0) where
         through_parts _ here _ _ (if_gives s Claimed at note e (path k.0) (nesting_of k.0) (scope_of (items_of s) k.0) (k.1.whole (λ a. (i a).1)) (Some (path j.0)) (Some (nesting_of j.0)) (Some (scope_of (items_of s) j.0)) (whole_some s Claimed (path j.0) (nesting_of j.0) (scope_of (items_of s) j.0) (j.1.whole (λ a. (i a).2))) b.0 b.1 (λ a. (i a).0)
         (nesting_by (act_nested (inner_act (Act-F.If e k (Some j))))) here);
     part = λ bundle at note here. no_part _ _ here bundle;
-    plain = λ e. absurd (cc);
+    plain = λ h.
+        let both = neither (nesting_of k.0).jumps (nesting_of j.0).jumps h in
+        let one = k.1.plain both.0 in
+        let other = j.1.plain both.1 in
+        (no_one (path k.0).breaks (path j.0).breaks one.0 other.0, no_one (path k.0).continues (path j.0).continues one.1 other.1);
   }
   act_step (Act-F.While e k) = record {
     judged = λ fine at note inside here.
         let i : Claimed → PartsInBody s note.mode (inner_act (Act-F.While e k)) = λ a. parts_inside s at note (inner_act (Act-F.While e k)) (inside a) in
         through_parts _ here _ _ (while_gives s Claimed at note e (path k.0) (nesting_of k.0) (scope_of (items_of s) k.0) (k.1.whole (λ a. (i a).1)) fine (λ a. (i a).0) (nesting_by (act_nested (inner_act (Act-F.While e k)))) false false here);
     part = λ bundle at note here. no_part _ _ here bundle;
-    plain = λ e. absurd (cc);
+    plain = λ e. (refl, refl);
   }
   act_step (Act-F.Return e) = record {
     judged = λ fine at note inside here. return_gives (roll-Act Name Note (Act-F.Return e)) at note inside here e (act_out (Act-F.Return e)) _ (nesting_by (Act-F.Return e)) _ _;
     part = λ bundle at note here. no_part _ _ here bundle;
-    plain = λ e. absurd (cc);
+    plain = λ h. (no_value e, no_value e);
   }
   act_step (Act-F.Check e) = record {
     judged = λ fine at note inside here. check_gives (roll-Act Name Note (Act-F.Check e)) at note inside here e (act_out (Act-F.Check e)) (nesting_by (Act-F.Check e)) false false;
     part = λ bundle at note here. no_part _ _ here bundle;
-    plain = λ e. absurd (cc);
+    plain = λ e. (refl, refl);
   }
   act_step (Act-F.Bundle ks) = record {
     judged = λ fine at note inside here. bundle_gives (roll-Act Name Note (inner_act (Act-F.Bundle ks))) at note inside here ks (act_out (inner_act (Act-F.Bundle ks)))
         (nesting_by (act_nested (inner_act (Act-F.Bundle ks)))) (breaks_in ks) (continues_in ks);
     part = λ bundle at note here. no_part _ _ here bundle;
-    plain = λ e. absurd (cc);
+    plain = no_jumps ks;
   }
   act_step Act-F.Break = record {
     judged = λ fine at note inside here. given _ (stated at note act.Break, gone s.frame here) (λ walk. record {
@@ -565,7 +596,7 @@ module _ (s : Setting) (Claimed : Type 0) where
         None None None (whole_none s Claimed) c.0 (path k.0) (nesting_of k.0) (scope_of (items_of s) k.0) (k.1.whole (λ a. (i a).3)) c.1 (λ a. (i a).1)
         (nesting_by (act_nested (inner_act (Act-F.For None e None k)))) false false (inside_if listed (λ e. []) e) (inside_if listed (λ e. []) e) here);
     part = λ bundle at note here. no_part _ _ here bundle;
-    plain = λ e. absurd (cc);
+    plain = λ e. (refl, refl);
   }
   act_step (Act-F.For None e (Some j) k) = record {
     judged = λ fine at note inside here.
@@ -576,7 +607,7 @@ module _ (s : Setting) (Claimed : Type 0) where
         (Some (path j.0)) (Some (nesting_of j.0)) (Some (scope_of (items_of s) j.0)) (whole_some s Claimed (path j.0) (nesting_of j.0) (scope_of (items_of s) j.0) (j.1.whole (λ a. (i a).2))) c.0 (path k.0) (nesting_of k.0) (scope_of (items_of s) k.0) (k.1.whole (λ a. (i a).3)) c.1 (λ a. (i a).1)
         (nesting_by (act_nested (inner_act (Act-F.For None e (Some j) k)))) false false (inside_if listed (λ e. []) e) (inside_if listed (λ e. []) e) here);
     part = λ bundle at note here. no_part _ _ here bundle;
-    plain = λ e. absurd (cc);
+    plain = λ e. (refl, refl);
   }
   act_step (Act-F.For (Some l) e None k) = record {
     judged = λ fine at note inside here.
@@ -587,7 +618,7 @@ module _ (s : Setting) (Claimed : Type 0) where
         None None None (whole_none s Claimed) c.0 (path k.0) (nesting_of k.0) (scope_of (items_of s) k.0) (k.1.whole (λ a. (i a).3)) c.1 (λ a. (i a).1)
         (nesting_by (act_nested (inner_act (Act-F.For (Some l) e None k)))) false false (inside_if listed (λ e. []) e) (inside_if listed (λ e. []) e) here);
     part = λ bundle at note here. no_part _ _ here bundle;
-    plain = λ e. absurd (cc);
+    plain = λ e. (refl, refl);
   }
   act_step (Act-F.For (Some l) e (Some j) k) = record {
     judged = λ fine at note inside here.
@@ -598,7 +629,7 @@ module _ (s : Setting) (Claimed : Type 0) where
         (Some (path j.0)) (Some (nesting_of j.0)) (Some (scope_of (items_of s) j.0)) (whole_some s Claimed (path j.0) (nesting_of j.0) (scope_of (items_of s) j.0) (j.1.whole (λ a. (i a).2))) c.0 (path k.0) (nesting_of k.0) (scope_of (items_of s) k.0) (k.1.whole (λ a. (i a).3)) c.1 (λ a. (i a).1)
         (nesting_by (act_nested (inner_act (Act-F.For (Some l) e (Some j) k)))) false false (inside_if listed (λ e. []) e) (inside_if listed (λ e. []) e) here);
     part = λ bundle at note here. no_part _ _ here bundle;
-    plain = λ e. absurd (cc);
+    plain = λ e. (refl, refl);
   }
 
   act_by : (x : Act-F Name Note NotedAct NotedStmt) (y : Act-F Name Note KeptAct KeptStmt) → inner_act y ≡ x → AnyAct (roll-Act Name Note x)
@@ -633,6 +664,7 @@ module _ (s : Setting) (Claimed : Type 0) where
                   plain = h.plain;
                 })));
             part = λ bundle here. subst (λ (p : Path). Gives (PartNext p.assigned (stated at note a) here) (p.part s.frame bundle here)) (sym paths) (h.part bundle at note here);
+            plain = λ e. subst (λ (p : Path). (p.breaks ≡ false) × (p.continues ≡ false)) (sym paths) (h.plain (ap (λ (n : Nesting). not n.jumps) (sym nests) ∙ e));
           }
 
   pub all_hold : (st : NotedStmt) → StmtHolds st

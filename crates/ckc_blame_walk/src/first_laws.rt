@@ -6,7 +6,7 @@ ghost use Rattle.ckc_base.specs.Phases.{◌>=>◌};
 ghost use Rattle.ckc_syntax.specs.Spelled.{Tokens};
 ghost use Rattle.ckc_syntax.specs.declared.tree.NamedText.{NamedText};
 ghost use Rattle.ckc_parser.specs.Phase.{SpelledTree, parsing};
-ghost use Rattle.ckc_resolve.specs.Phase.{naming};
+ghost use Rattle.ckc_plain.specs.Phase.{resolving};
 ghost use Rattle.ckc_scopes.specs.Phase.{scoping};
 ghost use Rattle.ckc_blame_sound.specs.ckc_bounds.specs.Phase.{bounding};
 ghost use Rattle.ckc_typed_welltyped.specs.Texts.{TypedAs};
@@ -32,7 +32,7 @@ ghost use Rattle.ckc_blame_walk.specs.Entries.{IsCodeJudged, MayEnter};
 ghost use Rattle.ckc_blame_walk.specs.Ready.{first_blocks, next_behind, HaveSizes, NameMembers, HasObjects, HasFunctions};
 
 use ckc_blame_nested::judged_texts_are_nested;
-use ckc_typed_fit::{names_keep_form, small_stays};
+use ckc_typed_plain::{plain_texts_are_given, plain_texts_are_within};
 use ckc_typed_wellformed::trees_are_given;
 
 /// A function that is entered with values that it may be entered with stands at its first point, if its code is
@@ -75,17 +75,17 @@ pub fn first_state_is_sound()
         → IsLaidOut (elaborated p) → AreBytes input → Sound p (first_state (elaborated p) input) }
 {}
 
-/// So it is if the phases make the text of tokens: the grammar gives its tree, names and types keep what the grammar
-/// gives, and the limits of a text.
+/// So it is if the phases make the text of tokens: the grammar gives its tree, and the plain tree has calls apart from
+/// other expressions and keeps the limits of a text.
 pub fn phases_begin_soundly()
     ensures { (tokens : Tokens) (whole : SpelledTree) (named : NamedText) (typed p : Typed)
-        (input : List ℕ) → parsing.Makes tokens whole → Small whole → naming.Makes whole named
+        (input : List ℕ) → parsing.Makes tokens whole → resolving.Makes whole named
         → TypedAs named typed → (scoping >=> bounding).Makes typed p → IsLaidOut (elaborated p)
         → AreBytes input → Sound p (first_state (elaborated p) input) }
 {
     trees_are_given();
-    names_keep_form();
-    small_stays();
+    plain_texts_are_given();
+    plain_texts_are_within();
     judged_texts_are_nested();
     first_state_is_sound();
 }

@@ -5,4 +5,6 @@ pub mod Named
 mod Noteless
 pub mod Chain
 mod Words
+mod PlainExprs
+mod PlainStmts
 pub mod Whole

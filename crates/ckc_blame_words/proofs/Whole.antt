@@ -11,7 +11,7 @@ use Rattle.ckc_syntax.specs.declared.tree.Name.{Name}
 use Rattle.ckc_syntax.specs.declared.tree.NamedText.{NamedText}
 use Rattle.ckc_lexer.specs.Phase.{lexing}
 use Rattle.ckc_parser.specs.Phase.{parsing}
-use Rattle.ckc_resolve.specs.Phase.{naming}
+use Rattle.ckc_plain.specs.Phase.{resolving}
 use Rattle.ckc_scopes.specs.Phase.{scoping}
 use Rattle.ckc_blame_sound.specs.ckc_bounds.specs.Phase.{bounding}
 use Rattle.ckc_typed.specs.declared.typed.Note.{Note}
@@ -22,7 +22,9 @@ use Rattle.ckc_blame_sound.specs.Words.{HasOnlyWords, HaveWords}
 use Rattle.ckc_blame_sound.proofs.Bares.{same_tree}
 use Rattle.ckc_blame_words.specs.Literals.{stmt_has_words, head_has_words, item_has_words, tree_has_words}
 use Rattle.ckc_blame_words.proofs.Chain.{parsed_words, types_keep_words}
+use Rattle.ckc_typed_plain.proofs.Items.{resolved_of}
 use Rattle.ckc_blame_words.proofs.Named.{names_keep_words}
+use Rattle.ckc_blame_words.proofs.PlainStmts.{plain_keeps_words}
 use Rattle.ckc_blame_words.proofs.Noteless.{of_tree}
 use Rattle.ckc_blame_words.proofs.Tokens.{tokens_hold_words}
 use Rattle.ckc_blame_words.proofs.Words.{second_of, stmt_words}
@@ -40,8 +42,14 @@ body_words items h body words there =
 pub judged_words : (p : Typed) → tree_has_words p.tree ≡ true → HaveWords p
 judged_words p words q h body made there = body_words q.tree.items h body (sym (judging_keeps_words q p made) ∙ words) there
 
+-- a text whose names are resolved and that is plain
+pub resolved_words : (whole : Tree) (named : NamedText) → resolving.Makes whole named → tree_has_words whole ≡ true → tree_has_words named.tree ≡ true
+resolved_words whole named made h =
+    let r = resolved_of whole named made in
+    ap (λ (t : NamedTree). tree_has_words t) r.tree ∙ plain_keeps_words r.resolved.tree (names_keep_words whole r.resolved r.has_names ∙ h)
+
 pub literals_are_words : (text : List ℕ) (tokens : Tokens) (whole : Tree) (named : NamedText) (typed p : Typed) → lexing.Makes text tokens → parsing.Makes tokens whole
-    → naming.Makes whole named → TypedAs named typed → (scoping >=> bounding).Makes typed p → HaveWords p
+    → resolving.Makes whole named → TypedAs named typed → (scoping >=> bounding).Makes typed p → HaveWords p
 literals_are_words text tokens whole named typed p cut parsed resolved is judged =
-    judged_words p (judging_keeps_words judged.0 p judged.2 ∙ ap (λ (t : Typed). tree_has_words t.tree) judged.1.1 ∙ types_keep_words named typed is ∙ names_keep_words whole named resolved
-    ∙ parsed_words tokens whole (tokens_hold_words text tokens cut) parsed)
+    judged_words p (judging_keeps_words judged.0 p judged.2 ∙ ap (λ (t : Typed). tree_has_words t.tree) judged.1.1 ∙ types_keep_words named typed is
+    ∙ resolved_words whole named resolved (parsed_words tokens whole (tokens_hold_words text tokens cut) parsed))

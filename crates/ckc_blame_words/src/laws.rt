@@ -3,11 +3,13 @@
 ghost use Rattle.std.specs.Prelude.{◌≡◌, ℕ, List, true};
 ghost use Rattle.ckc_base.specs.Phases.{◌>=>◌};
 ghost use Rattle.ckc_syntax.specs.Spelled.{Tokens};
-ghost use Rattle.ckc_syntax.specs.Trees.{Tree};
+ghost use Rattle.ckc_syntax.specs.Trees.{Tree, NamedTree};
 ghost use Rattle.ckc_syntax.specs.declared.tree.NamedText.{NamedText};
 ghost use Rattle.ckc_lexer.specs.Phase.{lexing};
 ghost use Rattle.ckc_parser.specs.Phase.{parsing};
 ghost use Rattle.ckc_resolve.specs.Phase.{naming};
+ghost use Rattle.ckc_plain.specs.Phase.{resolving};
+ghost use Rattle.ckc_plain.specs.Statements.{plain};
 ghost use Rattle.ckc_scopes.specs.Phase.{scoping};
 ghost use Rattle.ckc_blame_sound.specs.ckc_bounds.specs.Phase.{bounding};
 ghost use Rattle.ckc_typed.specs.declared.typed.Typed.{Typed};
@@ -34,6 +36,11 @@ pub fn names_keep_words()
         → tree_has_words named.tree ≡ tree_has_words whole }
 {}
 
+/// So has a tree without effects in its expressions if the tree before has: all that is new in it are 0 and 1.
+pub fn plain_trees_keep_words()
+    ensures { (tree : NamedTree) → tree_has_words tree ≡ true → tree_has_words (plain tree) ≡ true }
+{}
+
 /// So has a typed text, exactly when the text before it had types has.
 pub fn types_keep_words()
     ensures { (named : NamedText) (typed : Typed) → TypedAs named typed
@@ -51,6 +58,6 @@ pub fn literals_are_words()
     ensures tree { (p : Typed) → tree_has_words p.tree ≡ true → HaveWords p }
     ensures text { (text : List ℕ) (tokens : Tokens) (whole : Tree) (named : NamedText)
         (typed p : Typed) → lexing.Makes text tokens → parsing.Makes tokens whole
-        → naming.Makes whole named → TypedAs named typed → (scoping >=> bounding).Makes typed p
+        → resolving.Makes whole named → TypedAs named typed → (scoping >=> bounding).Makes typed p
         → HaveWords p }
 {}

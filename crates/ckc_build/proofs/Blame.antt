@@ -7,7 +7,7 @@ use Rattle.ckc_blame.specs.Blamed.{IsBlamed, IsNeverStuck}
 use Rattle.ckc_blame.specs.Checked.{WhollyChecked}
 use Rattle.ckc_syntax.specs.declared.tree.NamedText.{NamedText}
 use Rattle.ckc_parser.specs.Phase.{SpelledTree}
-use Rattle.ckc_resolve.specs.Phase.{naming}
+use Rattle.ckc_plain.specs.Phase.{resolving}
 use Rattle.ckc_source.specs.Code.{Program}
 use Rattle.ckc_source.specs.LaidOut.{IsLaidOut}
 use Rattle.ckc_typed.specs.Texts.{named_typed}
@@ -30,7 +30,7 @@ accepted exactly text p m =
       has_tokens = m.1.1;
       has_tree = m.1.2;
       small = m.2.1.0;
-      has_names = subst (λ (t : SpelledTree). naming.Makes t rest.0) m.2.1.1 rest.1;
+      has_names = subst (λ (t : SpelledTree). resolving.Makes t rest.0) m.2.1.1 rest.1;
       has_types = (exactly rest.0 rest.2.0).0 rest.2.1;
       has_bounds = rest.2.2;
     }

@@ -4,7 +4,7 @@ use Rattle.ckc_syntax.specs.declared.tree.NamedText.{NamedText}
 use Rattle.ckc_syntax_limits.specs.Marks.{marks_of, is_node}
 use Rattle.ckc_syntax_limits.specs.Small.{how_many, Small}
 use Rattle.ckc_parser.specs.Phase.{SpelledTree}
-use Rattle.ckc_resolve.specs.Phase.{naming}
+use Rattle.ckc_plain.specs.Phase.{resolving}
 use Rattle.ckc_source.specs.Code.{Program}
 use Rattle.ckc_typed.specs.declared.typed.Typed.{Typed}
 use Rattle.ckc_typed.specs.Texts.{named_typed}
@@ -15,7 +15,7 @@ use Rattle.ckc_build_wellformed.specs.ckc_build_sizes.specs.Nodes.{text_nodes}
 use Rattle.ckc_build.specs.Meanings.{HasMeaning}
 
 module _
-    (named_small : (t : SpelledTree) (n : NamedText) → naming.Makes t n → Small t → Small n.tree)
+    (named_small : (t : SpelledTree) (n : NamedText) → resolving.Makes t n → Small n.tree)
     (typed_small : (n : NamedText) (p : Typed) → named_typed n ≡ Ok p → Small n.tree → Small p.tree)
     (marks_stay : (p q : Typed) → bounding.Makes p q → marks_of q.tree ≡ marks_of p.tree)
     (light : (p : Typed) → program_weight (elaborated p) ≤ 240 * text_nodes p) where
@@ -25,8 +25,7 @@ module _
       let named = limited.2 in
       let typed = named.2 in
       let scoped = typed.2 in
-      let first : Small limited.0 = let P : SpelledTree → Type 0 = λ t. Small t in subst P (sym limited.1.1) limited.1.0 in
-      let second : Small typed.0.tree = typed_small named.0 typed.0 typed.1 (named_small limited.0 named.0 named.1 first) in
+      let second : Small typed.0.tree = typed_small named.0 typed.0 typed.1 (named_small limited.0 named.0 named.1) in
       let third : Small scoped.0.tree = let P : Typed → Type 0 = λ t. Small t.tree in subst P (sym scoped.1.1) second in
       let nodes : text_nodes made.0 ≤ 16384 = subst (λ ms. how_many is_node ms ≤ 16384) (sym (marks_stay scoped.0 made.0 scoped.2)) third.nodes in
       let weight : program_weight (elaborated made.0) ≤ 4193275 = omega (arith, light made.0, nodes) in

@@ -7,7 +7,7 @@ use Rattle.ckc_blame.specs.Checked.{WhollyChecked}
 use Rattle.ckc_syntax_limits.specs.Phase.{limiting}
 use Rattle.ckc_lexer.specs.Phase.{lexing}
 use Rattle.ckc_parser.specs.Phase.{SpelledTree, parsing}
-use Rattle.ckc_resolve.specs.Phase.{naming}
+use Rattle.ckc_plain.specs.Phase.{resolving}
 use Rattle.ckc_source.specs.Code.{Program}
 use Rattle.ckc_typed.specs.declared.typed.Typed.{Typed}
 use Rattle.ckc_typing.specs.Phase.{typing}
@@ -21,7 +21,7 @@ reading = lexing >=> parsing
 
 -- the phases that judge a tree, in their order
 abbrev pub judging_tree : Phase SpelledTree Typed
-judging_tree = limiting >=> naming >=> typing >=> scoping >=> bounding
+judging_tree = limiting >=> resolving >=> typing >=> scoping >=> bounding
 
 -- a text with its types and the ranges of its pointers
 abbrev pub judging : Phase (List ℕ) Typed

@@ -25,7 +25,7 @@ use ckc_build_wellformed::{
     accepted_texts_have_the_form, marks_stay, programs_are_small, stores_are_to_blame,
 };
 use ckc_source::laws::states_are_orderly;
-use ckc_typed_fit::small_stays;
+use ckc_typed_plain::plain_texts_are_within;
 use ckc_typed_welltyped::{counts_stay, texts_exactly};
 
 /// A text is judged, with one outcome of its types, or it has one first error.
@@ -77,7 +77,7 @@ pub fn states_of_texts_are_orderly()
 pub fn programs_fit()
     ensures { (text : List ℕ) (p : Program) → HasMeaning text p → program_weight p ≤ most_weight }
 {
-    small_stays();
+    plain_texts_are_within();
     counts_stay();
     marks_stay();
     programs_are_small();

@@ -1,6 +1,6 @@
 -- What a statement of a judged text becomes has the form, by induction over the statement before it is judged.
 use Rattle.std.proofs.Common.{◌≡◌, ◌⊎◌, inl, inr, refl, sym, ap, subst, ◌∙◌, arith, ℕ, ◌+◌, ◌<◌, ◌≤◌, max, Bool, true, false, List, [], ◌∷◌, ◌++◌, map, length, length-append}
-use Rattle.std.specs.Prelude.{All, not, ◌&&◌, nat_le, Option, None, Some, Ok, Err, unwrap_or, IfSome}
+use Rattle.std.specs.Prelude.{All, not, ◌&&◌, ◌||◌, nat_le, Option, None, Some, Ok, Err, unwrap_or, IfSome}
 use Rattle.std.specs.List.{AllByRecursion}
 use Rattle.std.specs.Option.{option_map}
 use Rattle.std.proofs.lemmas.List.Elements.{All-head, All-tail}
@@ -8,7 +8,7 @@ use Rattle.ckc_base.specs.declared.places.Pos.{Pos}
 use Rattle.ckc_base.specs.declared.arithmetic.Mode.{Mode}
 use Rattle.ckc_base.specs.Outcomes.{Outcome, bind}
 use Rattle.ckc_types.specs.declared.types.CType.{CType}
-use Rattle.ckc_syntax.specs.Inside.{listed, highest, all_have, inside_each, inside_if, inside_init}
+use Rattle.ckc_syntax.specs.Inside.{listed, highest, all_have, one_has, inside_each, inside_if, inside_init}
 use Rattle.ckc_syntax.specs.declared.tree.Name.{Name}
 use Rattle.ckc_syntax.specs.declared.tree.Name.TheVariants as name
 use Rattle.ckc_syntax.specs.declared.tree.Init.TheVariants as init
@@ -58,6 +58,16 @@ use Rattle.ckc_build_forms.proofs.FormsOfValues.{Good, IsReady}
 use Rattle.ckc_build_forms.proofs.NodesOfStatements.{chained-append}
 use Rattle.ckc_build_forms.proofs.StatementParts.{act_inside, part_act, part_if, code_is, assigns_is, kept, if_kept, nothing, some_same, none_some, Layer, depths, act_out, step_off, bundle_sizes, good_bundle, fine_parts, depth_layered, path_is}
 
+-- what a `for` begins with is not left by `break` and `continue`
+begun_stays : (x : Act-F Name Note Given Given) → ((given_act x).declares || (given_act x).assigns) ≡ true → (given_act x).jumps ≡ false
+begun_stays (Act-F.Local d) h = refl
+begun_stays (Act-F.Assign e f) h = refl
+begun_stays _ h = absurd cc
+
+is_false : (b : Bool) → not b ≡ true → b ≡ false
+is_false true h = absurd cc
+is_false false h = refl
+
 module _ (p : Typed) (globals : Globals) (s : Setting) (js : List Item) (members : All HasMembers js) (layout : p.layout ≡ structs_of js) (ready : IsReady p globals s) (callees : HaveParams p globals) where
   abbrev n : ℕ
   n = length s.variables
@@ -98,9 +108,19 @@ module _ (p : Typed) (globals : Globals) (s : Setting) (js : List Item) (members
     pub fine : (given_act (given_inside x)).fine ≡ true
     pub deep : act_depth (depths x) ≤ 64
 
-  -- a statement stands in a loop by the second flag if it does by the first, or it is an assignment
+  -- a statement stands in a loop by the second flag if it does by the first, or no `break` and no `continue` leaves it
   abbrev Allows : Bool → Bool → Bool → Type 0
-  Allows looped other assigns = (looped ≡ true → other ≡ true) ⊎ (assigns ≡ true)
+  Allows looped other jumps = (looped ≡ true → other ≡ true) ⊎ (jumps ≡ false)
+
+  allow_first : (looped other a b : Bool) → Allows looped other (a || b) → Allows looped other a
+  allow_first looped other a b (inl f) = inl f
+  allow_first looped other true b (inr h) = absurd cc
+  allow_first looped other false b (inr h) = inr refl
+
+  allow_second : (looped other a b : Bool) → Allows looped other (a || b) → Allows looped other b
+  allow_second looped other a b (inl f) = inl f
+  allow_second looped other true b (inr h) = absurd cc
+  allow_second looped other false b (inr h) = inr h
 
   -- ---- what is made
 
@@ -127,13 +147,13 @@ module _ (p : Typed) (globals : Globals) (s : Setting) (js : List Item) (members
   made h off = record { is = h; off = off }
 
   record StmtHolds (st : NotedStmt) : Type 0 where
-    pub whole : (mode : Mode) (looped other : Bool) (visible : List Name) → Before st mode looped visible → Allows looped other (given_stmt st).assigns → (here : Here) → here.counting ≡ false
+    pub whole : (mode : Mode) (looped other : Bool) (visible : List Name) → Before st mode looped visible → Allows looped other (given_stmt st).jumps → (here : Here) → here.counting ≡ false
         → Gives (MadeBy (StmtForm other)) ((path st).judged s.frame s.head here)
     pub part : (mode : Mode) (looped : Bool) (visible : List Name) → Before st mode looped visible → (bundle : Pos) (here : Here) → here.counting ≡ false
         → Gives (MadeBy AssignForm) ((path st).part s.frame bundle here)
 
   record ActHolds (path : ActPath) (x : Layer) : Type 0 where
-    pub whole : (mode : Mode) (looped other : Bool) (visible : List Name) → BeforeAct x mode looped visible → Allows looped other (given_act (given_inside x)).assigns → (at : Pos) (note : Note) (here : Here)
+    pub whole : (mode : Mode) (looped other : Bool) (visible : List Name) → BeforeAct x mode looped visible → Allows looped other (given_act (given_inside x)).jumps → (at : Pos) (note : Note) (here : Here)
         → here.counting ≡ false → Gives (MadeBy (StmtForm other)) (path.judged s.frame s.head at note here)
     pub part : (mode : Mode) (looped : Bool) (visible : List Name) → BeforeAct x mode looped visible → (bundle at : Pos) (note : Note) (here : Here) → here.counting ≡ false
         → Gives (MadeBy AssignForm) (path.part s.frame bundle at note here)
@@ -227,6 +247,9 @@ module _ (p : Typed) (globals : Globals) (s : Setting) (js : List Item) (members
   abbrev declared_each : List KeptStmt → List NotedDecl
   declared_each ks = inside_each listed (λ (v : Path). v.declared) (map path (firsts ks))
 
+  abbrev jumps_each : List KeptStmt → Bool
+  jumps_each ks = inside_each one_has (λ (g : Given). g.jumps) (map given_stmt (firsts ks))
+
   -- what is asked of statements in a row
   record AllBefore (ks : List KeptStmt) (mode : Mode) (looped : Bool) (visible : List Name) : Type 0 where
     pub typed : AllByRecursion (λ (st : NotedStmt). Fits st mode looped) (firsts ks)
@@ -260,13 +283,13 @@ module _ (p : Typed) (globals : Globals) (s : Setting) (js : List Item) (members
       deep = (let d = b.deep in omega (arith, d));
     }
 
-  all_give : (ks : List KeptStmt) (mode : Mode) (looped other : Bool) (visible : List Name) → AllBefore ks mode looped visible → (looped ≡ true → other ≡ true) → (here : Here) → here.counting ≡ false
+  all_give : (ks : List KeptStmt) (mode : Mode) (looped other : Bool) (visible : List Name) → AllBefore ks mode looped visible → Allows looped other (jumps_each ks) → (here : Here) → here.counting ≡ false
       → Gives (MadeBy (ListForm other)) (all_judged s.frame s.head (map path (firsts ks)) here)
   unfolding all_judged
   all_give [] mode looped other visible b allow here off = made (λ k rest behind. behind) off
   all_give (k ∷ ks) mode looped other visible b allow here off =
-      bound (MadeBy (StmtForm other)) (MadeBy (ListForm other)) _ _ (k.1.whole mode looped other visible (first_before k ks mode looped visible b) (inl allow) here off) (λ q h.
-      bound (MadeBy (ListForm other)) (MadeBy (ListForm other)) _ _ (all_give ks mode looped other (visible ++ (walk_of tests k.0).leaves) (rest_before k ks mode looped visible b) allow q.1 h.off) (λ r i.
+      bound (MadeBy (StmtForm other)) (MadeBy (ListForm other)) _ _ (k.1.whole mode looped other visible (first_before k ks mode looped visible b) (allow_first looped other (given_stmt k.0).jumps (jumps_each ks) allow) here off) (λ q h.
+      bound (MadeBy (ListForm other)) (MadeBy (ListForm other)) _ _ (all_give ks mode looped other (visible ++ (walk_of tests k.0).leaves) (rest_before k ks mode looped visible b) (allow_second looped other (given_stmt k.0).jumps (jumps_each ks) allow) q.1 h.off) (λ r i.
       made (λ j rest behind.
       let here' = stmt_elaborated p s.variables s.result j q.0 in
       let later = all_code (map part_of r.0) p s.variables s.result (j + (part_of q.0).literals) in
@@ -298,7 +321,7 @@ module _ (p : Typed) (globals : Globals) (s : Setting) (js : List Item) (members
   none_form : (other : Bool) → PartForm' other None
   none_form other k rest behind = behind
 
-  some_gives : (k : KeptStmt) (mode : Mode) (looped other : Bool) (visible : List Name) → Before k.0 mode looped visible → Allows looped other (given_stmt k.0).assigns → (here : Here) → here.counting ≡ false
+  some_gives : (k : KeptStmt) (mode : Mode) (looped other : Bool) (visible : List Name) → Before k.0 mode looped visible → Allows looped other (given_stmt k.0).jumps → (here : Here) → here.counting ≡ false
       → Gives (MadeBy (PartForm' other)) (part_judged s.frame s.head (Some (path k.0)) here)
   some_gives k mode looped other visible b allow here off =
       bound (MadeBy (StmtForm other)) (MadeBy (PartForm' other)) _ _ (k.1.whole mode looped other visible b allow here off) (λ q h. made h.is h.off)
@@ -475,9 +498,12 @@ module _ (p : Typed) (globals : Globals) (s : Setting) (js : List Item) (members
   depth_if None = 0
   depth_if (Some k) = depth_of_stmt k.0
 
+  abbrev jumps_if : Option KeptStmt → Bool
+  jumps_if None = false
+  jumps_if (Some k) = (given_stmt k.0).jumps
+
   abbrev AllowsIf : Bool → Bool → Option KeptStmt → Type 0
-  AllowsIf looped other None = Unit {0}
-  AllowsIf looped other (Some k) = Allows looped other (given_stmt k.0).assigns
+  AllowsIf looped other o = Allows looped other (jumps_if o)
 
   record BeforeIf (o : Option KeptStmt) (mode : Mode) (looped : Bool) (visible : List Name) : Type 0 where
     pub typed : FitsIf o mode looped
@@ -494,10 +520,6 @@ module _ (p : Typed) (globals : Globals) (s : Setting) (js : List Item) (members
   part_gives (Some k) mode looped other visible b allow here off =
       some_gives k mode looped other visible (record { typed = b.typed; passes = b.passes; words = b.words; short = b.short; known = b.known; fine = b.fine; deep = b.deep }) allow here off
 
-  allows_both : (looped other : Bool) (o : Option KeptStmt) → (looped ≡ true → other ≡ true) → AllowsIf looped other o
-  allows_both looped other None f = tt
-  allows_both looped other (Some k) f = inl f
-
   begins_fine : (o : Option KeptStmt) → begins (given_if o) ≡ true → fine_if o ≡ true
   begins_fine None h = refl
   begins_fine (Some k) h = (and_cases (given_stmt k.0).fine _ h).0
@@ -506,9 +528,15 @@ module _ (p : Typed) (globals : Globals) (s : Setting) (js : List Item) (members
   steps_fine None h = refl
   steps_fine (Some k) h = (and_cases (given_stmt k.0).fine _ h).0
 
-  steps_assign : (looped other : Bool) (o : Option KeptStmt) → steps (given_if o) ≡ true → AllowsIf looped other o
-  steps_assign looped other None h = tt
-  steps_assign looped other (Some k) h = inr (and_cases (given_stmt k.0).fine _ h).1
+  begins_stay : (looped other : Bool) (o : Option KeptStmt) → begins (given_if o) ≡ true → AllowsIf looped other o
+  begins_stay looped other None h = inr refl
+  begins_stay looped other (Some k) h =
+      inr (subst (λ (g : Given). (g.declares || g.assigns) ≡ true → g.jumps ≡ false) (sym (given_are k.0)) (begun_stays (given_inside (out-Act Name Note k.0.body)))
+      (and_cases (given_stmt k.0).fine _ h).1)
+
+  steps_stay : (looped other : Bool) (o : Option KeptStmt) → steps (given_if o) ≡ true → AllowsIf looped other o
+  steps_stay looped other None h = inr refl
+  steps_stay looped other (Some k) h = inr (is_false (given_stmt k.0).jumps (and_cases (given_stmt k.0).fine _ h).1)
 
   -- ---- branches and loops
 
@@ -522,7 +550,7 @@ module _ (p : Typed) (globals : Globals) (s : Setting) (js : List Item) (members
       pub fine : ((callless_expr e && (given_stmt k.0).fine) && fine_if m) ≡ true
       pub deep : max (max (depth_of_expr e) (depth_of_stmt k.0)) (depth_if m) ≤ 64
 
-    if_gives : BeforeBranch → (looped ≡ true → other ≡ true) → (at : Pos) (note : Note) (here : Here) → here.counting ≡ false
+    if_gives : BeforeBranch → Allows looped other ((given_stmt k.0).jumps || jumps_if m) → (at : Pos) (note : Note) (here : Here) → here.counting ≡ false
         → Gives (MadeBy (StmtForm other)) (if_judged s.frame s.head at note e (path k.0) (path_if m) here)
     if_gives b allow at note here off =
         let a = and_cases (expr_passes tests visible (bare_expr e)) _ b.passes in
@@ -551,9 +579,9 @@ module _ (p : Typed) (globals : Globals) (s : Setting) (js : List Item) (members
         } in
         bound (MadeBy BranchGood) (MadeBy (StmtForm other)) (branched s.frame false e here) _
         (branch_gives mode visible false e b.typed.0.0 (All-head HasWords e (exprs_in k.0) w) a.0 (left_of IsShort (strings_of_expr e) (strings_of_stmt k.0) t) (omega (arith, deep)) here off) (λ q h.
-        bound (MadeBy (StmtForm other)) (MadeBy (StmtForm other)) ((path k.0).judged s.frame s.head q.1) _ (k.1.whole mode looped other visible first (inl allow) q.1 h.off) (λ r i.
+        bound (MadeBy (StmtForm other)) (MadeBy (StmtForm other)) ((path k.0).judged s.frame s.head q.1) _ (k.1.whole mode looped other visible first (allow_first looped other (given_stmt k.0).jumps (jumps_if m) allow) q.1 h.off) (λ r i.
         bound (MadeBy (PartForm' other)) (MadeBy (StmtForm other)) (part_judged s.frame s.head (path_if m) (record r.1 { at = q.0.other })) _
-        (part_gives m mode looped other (visible ++ (walk_of tests k.0).leaves) second (allows_both looped other m allow) (record r.1 { at = q.0.other }) i.off) (λ v j.
+        (part_gives m mode looped other (visible ++ (walk_of tests k.0).leaves) second (allow_second looped other (given_stmt k.0).jumps (jumps_if m) allow) (record r.1 { at = q.0.other }) i.off) (λ v j.
         made (stated_form other at note (Act-F.If q.0.condition r.0 v.0) (act.If q.0.condition r.0 v.0) (act.rolls-If q.0.condition r.0 v.0) (if_form other at note q.0.condition r.0 v.0 h.is i.is j.is)) j.off)))
 
   while_form : (other : Bool) (at : Pos) (note : Note) (e : NotedExpr) (q : NotedStmt) → Fine e → StmtForm true q → ActForm other (Act-F.While e q) at note
@@ -673,18 +701,18 @@ module _ (p : Typed) (globals : Globals) (s : Setting) (js : List Item) (members
         deep = (let d = b.deep in omega (arith, d));
       }
 
-      for_gives : (looped ≡ true → other ≡ true) → (at : Pos) (note : Note) (here : Here) → here.counting ≡ false
+      for_gives : (at : Pos) (note : Note) (here : Here) → here.counting ≡ false
           → Gives (MadeBy (StmtForm other)) (for_judged s.frame s.head at note (path_if l) e (path_if m) (path k.0) here)
-      for_gives allow at note here off =
+      for_gives at note here off =
           let deep = b.deep in
           bound (MadeBy (PartForm' other)) (MadeBy (StmtForm other)) (part_judged s.frame s.head (path_if l) here) _
-          (part_gives l mode looped other visible for_first (allows_both looped other l allow) here off) (λ q h.
+          (part_gives l mode looped other visible for_first (begins_stay looped other l begun) here off) (λ q h.
           bound (MadeBy StartGood) (MadeBy (StmtForm other)) _ _
           (start_gives mode within (path k.0).breaks (path k.0).continues e (condition_typed mode e b.typed.1) (left_of HasWords value_words (exprs_in k.0 ++ words_if m) worded) valued.0
           (right_of IsShort (strings_if l) value_strings front_strings) (omega (arith, deep)) _ h.off) (λ r i.
           bound (MadeBy (StmtForm true)) (MadeBy (StmtForm other)) ((path k.0).judged s.frame s.head r.1) _ (k.1.whole mode true true within for_body (inl (λ x. x)) r.1 i.off) (λ v j.
           bound (MadeBy (PartForm' false)) (MadeBy (StmtForm other)) (part_judged s.frame s.head (path_if m) (to_step r.0.step v.1)) _
-          (part_gives m mode looped false after for_step (steps_assign looped false m going.0) (to_step r.0.step v.1) (step_off r.0.step v.1 j.off)) (λ w o.
+          (part_gives m mode looped false after for_step (steps_stay looped false m going.0) (to_step r.0.step v.1) (step_off r.0.step v.1 j.off)) (λ w o.
           made (stated_form other at note (Act-F.For q.0 r.0.condition w.0 v.0) (act.For q.0 r.0.condition w.0 v.0) (act.rolls-For q.0 r.0.condition w.0 v.0)
           (for_form other at note q.0 r.0.condition w.0 v.0 h.is i.is o.is j.is)) o.off))))
 
@@ -693,17 +721,17 @@ module _ (p : Typed) (globals : Globals) (s : Setting) (js : List Item) (members
   block_form : (other : Bool) (at : Pos) (note : Note) (m : Option Mode) (ss : List NotedStmt) → ListForm other ss → ActForm other (Act-F.Block m ss) at note
   block_form other at note m ss h k rest behind = h k rest behind
 
-  -- a flag that is allowed for what is no assignment
-  allowed : (looped other : Bool) → Allows looped other false → looped ≡ true → other ≡ true
+  -- what leaves a loop stands in one by the second flag if it does by the first
+  allowed : (looped other : Bool) → Allows looped other true → looped ≡ true → other ≡ true
   allowed looped other (inl f) e = f e
   allowed looped other (inr h) e = absurd cc
 
   act_step : (y : Act-F Name Note KeptAct KeptStmt) (mode : Mode) (looped other : Bool) (visible : List Name) → BeforeAct (inner_act y) mode looped visible
-      → Allows looped other (given_act (given_inside (inner_act y))).assigns → (at : Pos) (note : Note) (here : Here) → here.counting ≡ false
+      → Allows looped other (given_act (given_inside (inner_act y))).jumps → (at : Pos) (note : Note) (here : Here) → here.counting ≡ false
       → Gives (MadeBy (StmtForm other)) ((act_path (act_inside (inner_act y))).judged s.frame s.head at note here)
   act_step (Act-F.Block m ks) mode looped other visible b allow at note here off =
       bound (MadeBy (ListForm other)) (MadeBy (StmtForm other)) _ _
-      (all_give ks (unwrap_or m mode) looped other visible (record { typed = b.typed; passes = b.passes; words = b.words; short = b.short; known = b.known; fine = b.fine; deep = b.deep }) (allowed looped other allow) here off) (λ q h.
+      (all_give ks (unwrap_or m mode) looped other visible (record { typed = b.typed; passes = b.passes; words = b.words; short = b.short; known = b.known; fine = b.fine; deep = b.deep }) allow here off) (λ q h.
       made (stated_form other at note (Act-F.Block m q.0) (act.Block m q.0) (act.rolls-Block m q.0) (block_form other at note m q.0 h.is)) h.off)
   act_step Act-F.Empty mode looped other visible b allow at note here off = made (stated_form other at note Act-F.Empty act.Empty act.rolls-Empty (λ k rest behind. behind)) off
   act_step (Act-F.Local d) mode looped other visible b allow at note here off = local_gives d mode looped other visible b at note here off
@@ -712,18 +740,18 @@ module _ (p : Typed) (globals : Globals) (s : Setting) (js : List Item) (members
       bound (λ (i : Here). i.counting ≡ false) (MadeBy (StmtForm other)) _ _ (stores_off (q.0 ∷ []) here.next q.1 h.off) (λ i o. made (assign_form other q.0 h.is) o))
   act_step (Act-F.Call e) mode looped other visible b allow at note here off = call_gives e mode looped other visible b at note here off
   act_step (Act-F.If e k None) mode looped other visible b allow at note here off =
-      if_gives e k None mode looped other visible (record { typed = b.typed; passes = b.passes; words = b.words; short = b.short; known = b.known; fine = b.fine; deep = b.deep }) (allowed looped other allow) at note here off
+      if_gives e k None mode looped other visible (record { typed = b.typed; passes = b.passes; words = b.words; short = b.short; known = b.known; fine = b.fine; deep = b.deep }) allow at note here off
   act_step (Act-F.If e k (Some j)) mode looped other visible b allow at note here off =
-      if_gives e k (Some j) mode looped other visible (record { typed = b.typed; passes = b.passes; words = b.words; short = b.short; known = b.known; fine = b.fine; deep = b.deep }) (allowed looped other allow) at note here off
+      if_gives e k (Some j) mode looped other visible (record { typed = b.typed; passes = b.passes; words = b.words; short = b.short; known = b.known; fine = b.fine; deep = b.deep }) allow at note here off
   act_step (Act-F.While e k) mode looped other visible b allow at note here off = while_gives e k mode looped other visible b.typed b.passes b.words b.short b.known b.fine b.deep at note here off
   act_step (Act-F.For None e None k) mode looped other visible b allow at note here off =
-      for_gives None e None k mode looped other visible (record { typed = b.typed; passes = b.passes; words = b.words; short = b.short; known = b.known; fine = b.fine; deep = b.deep }) (allowed looped other allow) at note here off
+      for_gives None e None k mode looped other visible (record { typed = b.typed; passes = b.passes; words = b.words; short = b.short; known = b.known; fine = b.fine; deep = b.deep }) at note here off
   act_step (Act-F.For None e (Some j) k) mode looped other visible b allow at note here off =
-      for_gives None e (Some j) k mode looped other visible (record { typed = b.typed; passes = b.passes; words = b.words; short = b.short; known = b.known; fine = b.fine; deep = b.deep }) (allowed looped other allow) at note here off
+      for_gives None e (Some j) k mode looped other visible (record { typed = b.typed; passes = b.passes; words = b.words; short = b.short; known = b.known; fine = b.fine; deep = b.deep }) at note here off
   act_step (Act-F.For (Some l) e None k) mode looped other visible b allow at note here off =
-      for_gives (Some l) e None k mode looped other visible (record { typed = b.typed; passes = b.passes; words = b.words; short = b.short; known = b.known; fine = b.fine; deep = b.deep }) (allowed looped other allow) at note here off
+      for_gives (Some l) e None k mode looped other visible (record { typed = b.typed; passes = b.passes; words = b.words; short = b.short; known = b.known; fine = b.fine; deep = b.deep }) at note here off
   act_step (Act-F.For (Some l) e (Some j) k) mode looped other visible b allow at note here off =
-      for_gives (Some l) e (Some j) k mode looped other visible (record { typed = b.typed; passes = b.passes; words = b.words; short = b.short; known = b.known; fine = b.fine; deep = b.deep }) (allowed looped other allow) at note here off
+      for_gives (Some l) e (Some j) k mode looped other visible (record { typed = b.typed; passes = b.passes; words = b.words; short = b.short; known = b.known; fine = b.fine; deep = b.deep }) at note here off
   act_step (Act-F.Return e) mode looped other visible b allow at note here off = return_gives e mode looped other visible b at note here off
   act_step Act-F.Break mode looped other visible b allow at note here off =
       made (stated_form other at note Act-F.Break act.Break act.rolls-Break (λ k rest behind. (allowed looped other allow b.typed, behind))) off
@@ -771,7 +799,7 @@ module _ (p : Typed) (globals : Globals) (s : Setting) (js : List Item) (members
   stmt_is st a = record {
     whole = λ mode looped other visible b allow here off.
         subst (λ (q : Path). Gives (MadeBy (StmtForm other)) (q.judged s.frame s.head here)) (path_is st)
-        (a.holds.whole mode looped other visible (opened st mode looped visible b) (subst (λ (g : Given). Allows looped other g.assigns) (given_are st) allow) st.pos st.note here off);
+        (a.holds.whole mode looped other visible (opened st mode looped visible b) (subst (λ (g : Given). Allows looped other g.jumps) (given_are st) allow) st.pos st.note here off);
     part = λ mode looped visible b bundle here off.
         subst (λ (q : Path). Gives (MadeBy AssignForm) (q.part s.frame bundle here)) (path_is st)
         (a.holds.part mode looped visible (opened st mode looped visible b) bundle st.pos st.note here off);

@@ -22,7 +22,7 @@ use Rattle.ckc_typed.specs.Texts.{globals_of, is_result_type}
 use Rattle.ckc_typed.specs.Trees.{Decl, Item, Tree, NotedDecl, NotedHead, NotedItem, NotedStmt}
 use Rattle.ckc_typed.specs.Types.{type_written, is_void, is_scalar_type, is_object_type}
 use Rattle.ckc_typed_fit.specs.Tests.{items_pass}
-use Rattle.ckc_typed_fit.proofs.Found.{tags_have_bodies}
+use Rattle.ckc_typed_plain.proofs.Found.{tags_have_bodies}
 use Rattle.ckc_typed_welltyped.specs.Noteless.{bare_decl, bare_item, without_notes}
 use Rattle.ckc_typed_welltyped.specs.Productions.{given_item, given_tree}
 use Rattle.ckc_typed_welltyped.specs.Texts.{WellTypedItems}
@@ -107,7 +107,7 @@ module _ (p : Typed) (j : IsJudged p) (given : given_tree j.named.tree ≡ true)
   layout_is = layout_kept j.typed p j.has_bounds ∙ j.has_types.typed.layout ∙ ap (λ (is : List Item). structs_of is) named_is
 
   pub tags_pass : items_pass (tag_tests js) js ≡ true
-  tags_pass = tags_have_bodies j.spelled j.named j.has_names
+  tags_pass = tags_have_bodies j.spelled j.named j.has_form j.has_names
 
   tags : All (HasTags js members_there) js
   tags = items_tagged js members_there js tags_pass

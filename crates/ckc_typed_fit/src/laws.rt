@@ -5,7 +5,7 @@ ghost use Rattle.ckc_syntax.specs.declared.tree.NamedText.{NamedText};
 ghost use Rattle.ckc_syntax_limits.specs.Small.{Small};
 ghost use Rattle.ckc_resolve.specs.Trees.{Tree};
 ghost use Rattle.ckc_resolve.specs.Phase.{naming};
-ghost use Rattle.ckc_typed_welltyped.specs.Productions.{given_tree};
+ghost use Rattle.ckc_typed_welltyped.specs.Productions.{given_tree, spoken_tree};
 ghost use Rattle.ckc_typed_fit.specs.Bodies.{FunctionsHaveBodies, HasMain};
 ghost use Rattle.ckc_typed_fit.specs.Fit.{Fit};
 ghost use Rattle.ckc_typed_fit.specs.Locals.{item_locals};
@@ -17,7 +17,7 @@ ghost use Rattle.ckc_typed_fit.specs.Visible.{NamesAreVisible, TagsHaveBodies};
 /// the same places, and so do the parts of bundles, of `for` and of structures.
 pub fn names_keep_form()
     ensures form { (t : Tree) (n : NamedText) →
-        naming.Makes t n → given_tree n.tree ≡ given_tree t }
+        naming.Makes t n → spoken_tree n.tree ≡ spoken_tree t }
 {}
 
 /// The objects of file scope have the numbers from 0 on, in the order of the text: so each is declared once, and no two

@@ -21,7 +21,7 @@ use Rattle.std.specs.Prelude.{Ok}
 use Rattle.ckc_syntax.specs.Inside.{all_have}
 use Rattle.ckc_syntax.proofs.Insides.{each_same, if_same}
 use Rattle.ckc_typed_welltyped.specs.Noteless.{limits_noteless, node_noteless, act_noteless, bare_limits, bare_node, bare_expr, bare_init, bare_decl, bare_stmt, bare_head, bare_item, without_notes}
-use Rattle.ckc_typed_welltyped.specs.Productions.{limits_callless, node_callless, expr_callless, callless_limits, callless_expr, callless_bounds, callless_value, call_form, is_call, is_right, callless_init, right_init, given_decl, given_local, Given, other, begins, steps, given_act, given_in, given_stmt, given_head, given_item, given_tree}
+use Rattle.ckc_typed_welltyped.specs.Productions.{limits_callless, node_callless, expr_callless, callless_limits, callless_expr, callless_bounds, callless_value, call_form, is_call, is_right, callless_init, right_init, given_decl, given_local, Given, begins, steps, given_act, given_in, given_stmt, placed_body, without_calls, given_head, given_item, given_tree}
 use Rattle.ckc_typed_welltyped.proofs.Bares.{bared_node, bare_node_is, bare_expr_is}
 use Rattle.ckc_typed_welltyped.proofs.Insides.{init_same, act_same, item_same}
 use Rattle.ckc_typed_welltyped.proofs.Folds.{limits_folds, expr_folds, stmt_folds}
@@ -90,12 +90,12 @@ module _ {N A : Type 0} where
   of_local d = both_same _ _ _ _ (of_bounds d.bounds) (of_right_init d.init)
 
   acts_agree : (x : Act-F N A Given Given) → given_act (act_noteless x) ≡ given_act x
-  acts_agree (Act-F.Local d) = ap (λ b. record { fine = b; assigns = false; declares = true }) (of_local d)
-  acts_agree (Act-F.Assign e f) = ap (λ b. record { fine = b; assigns = true; declares = false }) (both_same _ _ _ _ (of_expr e) (of_right f))
-  acts_agree (Act-F.Call e) = ap other (of_call e)
-  acts_agree (Act-F.For s e t u) = ap (λ b. other (begins s && (b && (steps t && u.fine)))) (of_value e)
+  acts_agree (Act-F.Local d) = ap (λ b. record (given_act (Act-F.Local d)) { fine = b }) (of_local d)
+  acts_agree (Act-F.Assign e f) = ap (λ b. record (given_act (Act-F.Assign e f)) { fine = b }) (both_same _ _ _ _ (of_expr e) (of_right f))
+  acts_agree (Act-F.Call e) = ap (λ b. record (given_act (Act-F.Call e)) { fine = b }) (of_call e)
+  acts_agree (Act-F.For s e t u) = ap (λ b. record (given_act (Act-F.For s e t u)) { fine = begins s && (b && (steps t && u.fine)) }) (of_value e)
   acts_agree (Act-F.Bundle ss) = refl
-  acts_agree x = ap other (act_same all_have callless_expr given_local callless_expr given_local (λ (s : Given). s.fine) of_expr of_local x)
+  acts_agree x = ap (λ b. record (given_act x) { fine = b }) (act_same all_have callless_expr given_local callless_expr given_local (λ (s : Given). s.fine) of_expr of_local x)
 
   of_stmt : (s : Stmt N A) → given_stmt (bare_stmt s) ≡ given_stmt s
   of_stmt = stmt_folds N A Given Given given_act given_in given_act given_in acts_agree (λ x. refl)
@@ -106,8 +106,8 @@ module _ {N A : Type 0} where
   of_item : (i : Item N A) → given_item (bare_item i) ≡ given_item i
   of_item (item.Struct n members at) = both_same _ _ _ _ (ap (nat_le 1) (as_many bare_decl members)) (each_same all_have bare_decl given_decl given_decl of_decl members)
   of_item i =
-      item_same all_have given_decl given_head (λ s. (given_stmt s).fine) given_decl given_head (λ s. (given_stmt s).fine) of_decl of_head
-      (λ s. ap (λ (g : Given). g.fine) (of_stmt s)) i
+      item_same all_have given_decl given_head (placed_body without_calls) given_decl given_head (placed_body without_calls) of_decl of_head
+      (λ s. ap (λ (g : Given). g.fine && g.nested) (of_stmt s)) i
 
   pub of_tree : (t : Tree N A) → given_tree (without_notes t) ≡ given_tree t
   of_tree t = each_same all_have bare_item given_item given_item of_item t.items
