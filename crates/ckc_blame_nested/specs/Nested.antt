@@ -1,7 +1,8 @@
 -- Trees in which each statement stands where the grammar lets it (ISO C11, 6.8).
 use Rattle.std.specs.Prelude.{◌≡◌, Bool, true, false, not, ◌&&◌, List, Option, None, Some}
 use Rattle.std.specs.List.{Contains}
-use Rattle.ckc_syntax.specs.Inside.{all_have, inside_each, jumps_out}
+use Rattle.ckc_syntax.specs.Inside.{all_have, inside_each}
+use Rattle.ckc_typed_welltyped.specs.Jumps.{jumps_out}
 use Rattle.ckc_syntax.specs.declared.tree.Act.{Act, Act-F, fold-Act}
 use Rattle.ckc_syntax.specs.declared.tree.Head.{Head}
 use Rattle.ckc_syntax.specs.declared.tree.Item.{Item}

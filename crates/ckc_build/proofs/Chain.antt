@@ -17,7 +17,8 @@ use Rattle.ckc_lexer.specs.Places.{place_after}
 use Rattle.ckc_lexer.proofs.Answer.{lexing_exact}
 use Rattle.ckc_parser.specs.Phase.{SpelledTree, parsing}
 use Rattle.ckc_parser.proofs.Once.{parsing_exact}
-use Rattle.ckc_resolve.specs.Phase.{naming, text_named}
+use Rattle.ckc_plain.specs.Phase.{resolving}
+use Rattle.ckc_plain.proofs.Relimiting.{resolving_exact}
 use Rattle.ckc_typed.specs.declared.typed.Typed.{Typed}
 use Rattle.ckc_typed.specs.Texts.{named_typed}
 use Rattle.ckc_typing.specs.Phase.{typing}
@@ -28,9 +29,6 @@ use Rattle.ckc_bounds.specs.Texts.{text_judged}
 use Rattle.ckc_build.specs.Meanings.{reading, judging_tree, judging}
 
 -- ---- the phases are exact
-
-naming_exact : IsExact naming
-naming_exact = phase_by_exact text_named
 
 typing_exact : IsExact typing
 typing_exact = phase_by_exact named_typed
@@ -52,10 +50,10 @@ from_names_exact : IsExact from_names
 from_names_exact = then_exact typing ranging typing_exact ranging_exact
 
 abbrev later : Phase SpelledTree Typed
-later = naming >=> from_names
+later = resolving >=> from_names
 
 later_exact : IsExact later
-later_exact = then_exact naming from_names naming_exact from_names_exact
+later_exact = then_exact resolving from_names resolving_exact from_names_exact
 
 reading_exact : IsExact reading
 reading_exact = then_exact lexing parsing lexing_exact parsing_exact
@@ -132,18 +130,18 @@ module _ (tree : SpelledTree) where
   pub fits_goes : (small : SpelledTree) → Exact limiting tree (Ok small) → (answer : Result Typed Fault) → Exact later small answer → Exact judging_tree tree answer
   fits_goes small is_small answer x = exact_on limiting later limiting_exact later_exact tree small answer is_small x
 
-  pub naming_ends : (e : Fault) → Exact naming tree (Err e) → Exact later tree (Err e)
-  naming_ends e x = exact_err naming from_names naming_exact from_names_exact tree e x
+  pub resolving_ends : (e : Fault) → Exact resolving tree (Err e) → Exact later tree (Err e)
+  resolving_ends e x = exact_err resolving from_names resolving_exact from_names_exact tree e x
 
-  module _ (named : NamedText) (is_named : Exact naming tree (Ok named)) where
-    naming_goes : (answer : Result Typed Fault) → Exact from_names named answer → Exact later tree answer
-    naming_goes answer x = exact_on naming from_names naming_exact from_names_exact tree named answer is_named x
+  module _ (named : NamedText) (is_named : Exact resolving tree (Ok named)) where
+    resolving_goes : (answer : Result Typed Fault) → Exact from_names named answer → Exact later tree answer
+    resolving_goes answer x = exact_on resolving from_names resolving_exact from_names_exact tree named answer is_named x
 
     pub typing_ends : (e : Fault) → Exact typing named (Err e) → Exact later tree (Err e)
-    typing_ends e x = naming_goes (Err e) (exact_err typing ranging typing_exact ranging_exact named e x)
+    typing_ends e x = resolving_goes (Err e) (exact_err typing ranging typing_exact ranging_exact named e x)
 
     pub typing_goes : (text : Typed) → Exact typing named (Ok text) → (answer : Result Typed Fault) → Exact ranging text answer → Exact later tree answer
-    typing_goes text typed answer x = naming_goes answer (exact_on typing ranging typing_exact ranging_exact named text answer typed x)
+    typing_goes text typed answer x = resolving_goes answer (exact_on typing ranging typing_exact ranging_exact named text answer typed x)
 
 -- ---- the text with its ranges
 

@@ -6,8 +6,8 @@ use Rattle.ckc_syntax.specs.declared.tree.NamedText.{NamedText}
 use Rattle.ckc_syntax_limits.proofs.Limiting.{limiting_codes}
 use Rattle.ckc_lexer.proofs.FaultCodes.{fault_codes}
 use Rattle.ckc_parser.specs.Phase.{SpelledTree}
-use Rattle.ckc_resolve.specs.Phase.{naming}
-use Rattle.ckc_resolve.proofs.CodedItems.{refused_codes}
+use Rattle.ckc_plain.specs.Phase.{resolving}
+use Rattle.ckc_plain.proofs.Relimiting.{resolving_codes}
 use Rattle.ckc_typed.specs.declared.typed.Typed.{Typed}
 use Rattle.ckc_typing.specs.Phase.{typing, IsTypeCode}
 use Rattle.ckc_typing.proofs.CodedItems.{codes}
@@ -22,7 +22,7 @@ abbrev from_names : Phase NamedText Typed
 from_names = typing >=> ranging
 
 abbrev later : Phase SpelledTree Typed
-later = naming >=> from_names
+later = resolving >=> from_names
 
 of_tokens : (code : ℕ) → (101 ≤ code) × (code ≤ 105) → IsTextCode code
 of_tokens code h = inl h
@@ -30,7 +30,7 @@ of_tokens code h = inl h
 of_limits : (code : ℕ) → 201 ≤ code → code ≤ 206 → IsTextCode code
 of_limits code low high = inr (inr (inl (low, high)))
 
-of_types : (code : ℕ) → 401 ≤ code → code ≤ 407 → IsTextCode code
+of_types : (code : ℕ) → 401 ≤ code → code ≤ 408 → IsTextCode code
 of_types code low high = inr (inr (inr (inr (inl (low, high)))))
 
 of_bounds : (code : ℕ) → 601 ≤ code → code ≤ 607 → IsTextCode code
@@ -49,6 +49,11 @@ from_typing code (inr (inr (inr (inr (inl e))))) = of_types code (omega (arith, 
 from_typing code (inr (inr (inr (inr (inr (inl e)))))) = of_types code (omega (arith, e)) (omega (arith, e))
 from_typing code (inr (inr (inr (inr (inr (inr (inl e))))))) = of_types code (omega (arith, e)) (omega (arith, e))
 from_typing code (inr (inr (inr (inr (inr (inr (inr e))))))) = of_types code (omega (arith, e)) (omega (arith, e))
+
+from_resolving : (code : ℕ) → ((301 ≤ code) × (code ≤ 304)) ⊎ (code ≡ 408) ⊎ ((202 ≤ code) × (code ≤ 205)) → IsTextCode code
+from_resolving code (inl h) = inr (inr (inr (inl h)))
+from_resolving code (inr (inl e)) = of_types code (omega (arith, e)) (omega (arith, e))
+from_resolving code (inr (inr h)) = let low = h.0 in let high = h.1 in of_limits code (omega (arith, low)) (omega (arith, high))
 
 from_scopes : (code : ℕ) → (code ≡ 501) ⊎ (code ≡ 502) → IsTextCode code
 from_scopes code (inl e) = inr (inr (inr (inr (inr (inl (omega (arith, e), omega (arith, e)))))))
@@ -77,7 +82,7 @@ module _ (bounded : (p : Typed) (r : Refusal) → bounding.Refuses p r → HasBo
   of_names t r (inr f) = of_ranging f.0 r f.2
 
   of_later : (t : SpelledTree) (r : Refusal) → later.Refuses t r → IsTextCode r.code
-  of_later t r (inl f) = inr (inr (inr (inl (refused_codes t r f))))
+  of_later t r (inl f) = from_resolving r.code (resolving_codes t r f)
   of_later t r (inr f) = of_names f.0 r f.2
 
   of_tree : (t : SpelledTree) (r : Refusal) → judging_tree.Refuses t r → IsTextCode r.code

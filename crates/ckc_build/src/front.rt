@@ -13,7 +13,7 @@ use ckc_base::Fault;
 use ckc_bounds::bounds;
 use ckc_lexer::{end_of, lex};
 use ckc_parser::parse;
-use ckc_resolve::resolve;
+use ckc_plain::resolve_plainly;
 use ckc_scopes::scopes;
 use ckc_syntax::{Spelling, Tree};
 use ckc_syntax_limits::fits;
@@ -46,7 +46,7 @@ fn judged(alloc: Global, text: &[u8]) -> Result<Typed, Fault>
     let tokens = lex(alloc, text)?.into_vec().leak();
     let tree = parse(alloc, tokens, end_of(text))?;
     let small = limited(tree)?;
-    let named = resolve(alloc, small)?;
+    let named = resolve_plainly(alloc, small)?;
     let typed = type_of(alloc, named)?;
     let scoped = scopes(typed)?;
     bounds(alloc, scoped)

@@ -103,15 +103,6 @@ inside_run j of_expr of_decl of_stmt (Act-F.For s e t body) =
     j.both (inside_if j of_stmt s) (j.both (inside_if j of_expr e) (j.both (of_stmt body) (inside_if j of_stmt t)))
 inside_run j of_expr of_decl of_stmt a = inside_act j of_expr of_decl of_stmt a
 
--- Whether a `break` or a `continue` leaves a statement, by its text: those in a loop stay in that loop.
-abbrev pub jumps_out : {N A B S : Type 0} → (S → Bool) → Act-F N A B S → Bool
-jumps_out of_stmt (Act-F.Block mode ss) = inside_each one_has of_stmt ss
-jumps_out of_stmt (Act-F.If e s t) = of_stmt s || inside_if one_has of_stmt t
-jumps_out of_stmt Act-F.Break = true
-jumps_out of_stmt Act-F.Continue = true
-jumps_out of_stmt (Act-F.Bundle ss) = inside_each one_has of_stmt ss
-jumps_out of_stmt _ = false
-
 -- what is found in an item
 abbrev pub inside_item : {N A X : Type 0} → Joining X → (Decl N A → X) → (Head N A → X) → (Stmt N A → X) → Item N A → X
 inside_item j of_decl of_head of_stmt (item.Directive d) = j.none

@@ -5,4 +5,5 @@ pub mod Statements
 pub mod Texts
 pub mod Parts
 pub mod Given
+pub mod Jumps
 pub mod Productions

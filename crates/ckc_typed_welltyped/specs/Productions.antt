@@ -3,7 +3,8 @@
 -- what a call statement is, what a bundle holds, what begins and steps a `for`, and that a structure has a member.
 use Rattle.std.specs.Prelude.{Bool, true, false, not, ◌&&◌, ◌||◌, if◌then◌else◌, nat_le, length, Option, None, Some}
 use Rattle.std.specs.List.{list_all}
-use Rattle.ckc_syntax.specs.Inside.{all_have, inside_if, inside_each, inside_limits, inside_node, inside_init, inside_act, inside_item, jumps_out}
+use Rattle.ckc_syntax.specs.Inside.{all_have, inside_if, inside_each, inside_limits, inside_node, inside_init, inside_act, inside_item}
+use Rattle.ckc_typed_welltyped.specs.Jumps.{jumps_out}
 use Rattle.ckc_syntax.specs.declared.tree.Tree.{Tree}
 use Rattle.ckc_syntax.specs.declared.tree.Item.{Item}
 use Rattle.ckc_syntax.specs.declared.tree.Item.TheVariants as item

@@ -2,7 +2,7 @@ use Rattle.std.proofs.Common.{Err, subst, ◌∙◌}
 use Rattle.ckc_base.specs.Phases.{Exact}
 use Rattle.ckc_lexer.specs.Phase.{tokens_in}
 use Rattle.ckc_parser.specs.Phase.{parsing}
-use Rattle.ckc_build.proofs.Chain.{stops, tokens_same, judge_lex_ends, judge_parse_ends, read_by, fits_ends, fits_goes, naming_ends, typing_ends, typing_goes, scoping_ends, scoping_goes}
+use Rattle.ckc_build.proofs.Chain.{stops, tokens_same, judge_lex_ends, judge_parse_ends, read_by, fits_ends, fits_goes, resolving_ends, typing_ends, typing_goes, scoping_ends, scoping_goes}
 use Rattle.ckc_build.proofs.front.judged.Goals as goal
 
 pub returns-in_err-lex : goal.returns-in_err-lex
@@ -28,7 +28,7 @@ pub returns-in_err-named : goal.returns-in_err-named
 returns-in_err-named c = record {
   exact = stops _ _ _ c.from_residual-in_err-named.ensures.1
       (read_by c.args.text.now _ _ _ (c.leak-tokens.ensures.value ∙ c.into_vec.ensures) c.end_of.ensures c.in_ok-lex.ensures.exact c.in_ok-tree.tree c.in_ok-tree.ensures.exact _
-      (fits_goes c.in_ok-tree.tree c.in_ok-small.small c.in_ok-small.ensures.exact _ (naming_ends c.in_ok-small.small _ c.in_err-named.ensures.exact)));
+      (fits_goes c.in_ok-tree.tree c.in_ok-small.small c.in_ok-small.ensures.exact _ (resolving_ends c.in_ok-small.small _ c.in_err-named.ensures.exact)));
 }
 
 pub returns-in_err-typed : goal.returns-in_err-typed
