@@ -1,6 +1,3 @@
-use Rattle.ckc_parser_grammar.proofs.Prefixes.{relax}
-use Rattle.ckc_parser_grammar.proofs.Samples.{fill_stack}
-use Rattle.ckc_parser_grammar.proofs.Theory.{same_read}
 use Rattle.ckc_parser_grammar.proofs.Same.{same_tree}
 use Rattle.ckc_parser_grammar.proofs.laws.derives_the_same_trees.Goals as goal
 
