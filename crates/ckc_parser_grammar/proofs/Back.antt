@@ -246,6 +246,7 @@ step_words us xs vs ys h m = sym (append_assoc us xs (vs ++ ys)) ∙ ap (λ z. z
 -- an expression as a right side: the table tells apart how it begins
 calloc_rest : (w : Word) {cs us vs rs : List Word} {d : Bool} {c : Option (List Expr)} {fs : List (Expr → Expr)} {i : Option Operation} {f : Expr → Expr} → CallRest cs c → Each PostForm us d fs → Increments vs i → RestForm rs f →
     (x : Value) × All (g.n g.calloc_value ∷ []) (cs ++ (us ++ (vs ++ rs))) (x ∷ []) × (as_expr_of_name x w.token ≡ f (T.with_increment (applied (v.called_or_named w.token c) fs) i))
+unfolding chain_of posts_of
 calloc_rest w (with_call {y = y} f d) ps i r =
     let P = posts_of ps in
     let I = increment_of i in

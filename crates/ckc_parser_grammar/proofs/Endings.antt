@@ -423,7 +423,7 @@ with_choice a c {rs = rs} (binary_form {us = us} {xs = xs} {ss = ss} u s h j) f 
     let X = expr_of y1 in
     let Y = expr_of y2 in
     let r : RestForm (xs ++ (a ∷ rs)) (λ z. expr_at (node.Pick (L.joined z ss) (as_expr X.0) (as_expr Y.0)) a.token.pos) =
-        going s (λ z. t_by g.Choice (λ z. refl) (t_tok f (t_part X.1 (t_tok q (t_part Y.1 t_end h3)) h2))) refl (λ z. refl) in
+    going s (λ z. t_by g.Choice (λ z. refl) (t_tok f (t_part X.1 (t_tok q (t_part Y.1 t_end h3)) h2))) refl (λ z. refl) in
     form u r (joint us xs (a ∷ rs) h h1) (λ m. expr_at (node.Pick (j m) (X.2 m) (Y.2 m)) a.token.pos)
 
 -- a target in an expression

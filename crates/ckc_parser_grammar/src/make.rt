@@ -6,8 +6,7 @@ ghost use Rattle.ckc_parser_grammar.specs.code.Values as v;
 use crate::parts::{Bounds, CType, Declaration, Expression, Statement};
 use ckc_base::{Boxed, Mode, Pos, Seq};
 use ckc_syntax::{
-    Act, Decl, Directive, Expr, Head, Node, Spelling, Stmt, Token, TokenKind, TypeTree,
-    copied_type,
+    Act, Decl, Directive, Expr, Head, Node, Spelling, Stmt, Token, TokenKind, TypeTree, copied_type,
 };
 use std::alloc::{AllocError, Global};
 
