@@ -1,6 +1,6 @@
 -- The last element of a list is the top.
-use Rattle.std.proofs.Common.{◌≡◌, List, [], ◌∷◌, ◌++◌, refl, sym, ap, ◌∙◌, reverse, map, append_assoc, append-nil}
-use Rattle.std.proofs.lemmas.List.{reverse-append, reverse-reverse}
+use Rattle.std.proofs.Common.{◌≡◌, List, [], ◌∷◌, ◌++◌, ap, ◌∙◌, reverse, map}
+use Rattle.std.proofs.lemmas.List.{reverse-append}
 
 pub on_top : {X : Type 0} (s : List X) (x : X) → reverse (s ++ x ∷ []) ≡ x ∷ reverse s
 on_top s x = reverse-append s (x ∷ [])
