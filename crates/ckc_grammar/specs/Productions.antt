@@ -16,8 +16,8 @@ use Rattle.ckc_syntax.specs.declared.tree.Limits.TheVariants as bounds
 use Rattle.ckc_syntax.specs.declared.tree.Node.TheVariants as node
 use Rattle.ckc_syntax.specs.declared.tree.Act.TheVariants as act
 use Rattle.ckc_syntax.specs.declared.tree.TreeOp.{TreeOp}
-use Rattle.ckc_syntax.specs.declared.tree.TreeOp.TheVariants as op
-use Rattle.ckc_grammar.specs.Trees.{Tree, Item, Head, TypeTree, Decl, Init, Limits, Expr, Stmt, Step, expr_at, stmt_at, starred, statics, local_of, locals, joined, literal}
+use Rattle.ckc_syntax.specs.declared.tree.TreeOp.TheVariants as operators
+use Rattle.ckc_grammar.specs.Trees.{Tree, Item, Head, TypeTree, Decl, Init, Limits, Expr, Stmt, Step, expr_at, stmt_at, one_at, assigned_by, set_by, incremented, starred, statics, local_of, locals, joined, literal}
 use Rattle.ckc_grammar.specs.Makers.{flat, given, applied, mode_of, length_of, init_of, initial_of, directive_of, number_of, declared, head_of, function_of}
 
 -- What one token is: a keyword; a keyword with either of two spellings; a mark; a `>` directly after a `>`; a name
@@ -63,7 +63,10 @@ pub data Part : Type 0 where
   local : Part
   local_name : Part
   right : Part
+  calloc : Part
   assign : Part
+  op : Part
+  increment : Part
   change : Part
   stmt : Part
   start : Part
@@ -122,7 +125,10 @@ Meaning line = List Stmt
 Meaning local = List Stmt
 Meaning local_name = TypeTree → Decl
 Meaning right = Expr
+Meaning calloc = Expr
 Meaning assign = Stmt
+Meaning op = TreeOp × Pos
+Meaning increment = TreeOp × Pos
 Meaning change = Stmt
 Meaning stmt = Stmt
 Meaning start = Stmt
@@ -206,13 +212,17 @@ pointer s r f = two s r ∷ sign "<" ∷ n type_name ∷ sign ">" ∷ [] ⇒ f
 abbrev pub infix_op : String → TreeOp → Alternative operator
 infix_op s o = sign_at s ∷ [] ⇒ λ at. (o, at)
 
+-- an operator that goes on with `=`
+abbrev pub compound_op : String → TreeOp → Alternative op
+compound_op s o = sign_at s ∷ [] ⇒ λ at. (o, at)
+
 -- an operator before an operand
 abbrev pub prefix_op : String → TreeOp → Alternative unary
 prefix_op s o = sign_at s ∷ n unary ∷ [] ⇒ λ at e. expr_at (node.Un o e) at
 
 -- The productions. The places: a literal or a name at its first byte; an operator, `[`, `.`, `->` and `?` at that
 -- token; a call at the called name; a cast at its `(`; `sizeof`, a bounds cast and a statement at the first token; a
--- declaration at the declared name; an assignment at its `=`; bounds at their first token.
+-- declaration at the declared name; an assignment or increment at its operator; bounds at their first token.
 abbrev pub productions : (p : Part) → List (Alternative p)
 -- text = { item }
 productions text = (n (many item) ∷ [] ⇒ λ is. record { items = flat is }) ∷ []
@@ -315,11 +325,28 @@ productions local_name =
     (n stars ∷ name ∷ n range ∷ n (opt (after (mark (codes "=")) right)) ∷ []
     ⇒ λ ps x l i b. declared (starred b ps) x lengths.Plain l (init_of i))
     ∷ []
--- right = expr | call
-productions right = (n expr ∷ [] ⇒ λ e. e) ∷ (n call ∷ [] ⇒ λ e. e) ∷ []
--- assign = unary "=" right
+-- right = expr | calloc
+productions right = (n expr ∷ [] ⇒ λ e. e) ∷ (n calloc ∷ [] ⇒ λ e. e) ∷ []
+-- calloc = "calloc" "<" type_name ">" "(" expr "," "sizeof" "(" type_name ")" ")"
+productions calloc =
+    (word_at "calloc" ∷ sign "<" ∷ n type_name ∷ sign ">" ∷ sign "(" ∷ n expr ∷ sign "," ∷ key "sizeof" ∷ sign "("
+    ∷ n type_name ∷ sign ")" ∷ sign ")" ∷ [] ⇒ λ at b e c. expr_at (node.Calloc b e c) at)
+    ∷ []
+-- assign = unary "=" right | unary op expr | increment unary | postfix increment
 productions assign =
-    (n unary ∷ sign_at "=" ∷ n right ∷ [] ⇒ λ x at e. stmt_at (act.Assign x e) at) ∷ []
+    (n unary ∷ sign_at "=" ∷ n right ∷ [] ⇒ λ x at e. stmt_at (act.Assign x e) at)
+    ∷ (n unary ∷ n op ∷ n expr ∷ [] ⇒ λ x o e. assigned_by x o e)
+    ∷ (n increment ∷ n unary ∷ [] ⇒ λ o x. assigned_by x o (one_at o.1))
+    ∷ (n postfix ∷ n increment ∷ [] ⇒ λ x o. assigned_by x o (one_at o.1))
+    ∷ []
+-- op = "+=" | "-=" | "*=" | "/=" | "%=" | "&=" | "|=" | "^="
+productions op =
+    compound_op "+=" operators.Add ∷ compound_op "-=" operators.Sub ∷ compound_op "*=" operators.Mul
+    ∷ compound_op "/=" operators.Div ∷ compound_op "%=" operators.Rem ∷ compound_op "&=" operators.And
+    ∷ compound_op "|=" operators.Or ∷ compound_op "^=" operators.Xor ∷ []
+-- increment = "++" | "--"
+productions increment =
+    (sign_at "++" ∷ [] ⇒ λ at. (operators.Add, at)) ∷ (sign_at "--" ∷ [] ⇒ λ at. (operators.Sub, at)) ∷ []
 -- change = assign ";"
 productions change = (n assign ∷ sign ";" ∷ [] ⇒ λ s. s) ∷ []
 -- stmt = [ mode ] block | ";" | assign ";" | call ";" | "if" "(" expr ")" stmt [ "else" stmt ]
@@ -349,17 +376,17 @@ productions stmt =
     ∷ []
 -- start = base local_name | assign
 productions start = (n base ∷ n local_name ∷ [] ⇒ λ b d. local_of (d b)) ∷ (n assign ∷ [] ⇒ λ s. s) ∷ []
--- call = name "(" [ expr { "," expr } ] ")"
---     | "calloc" "<" type_name ">" "(" expr "," "sizeof" "(" type_name ")" ")"
+-- call = name "(" [ expr { "," expr } ] ")" | calloc
 productions call =
     (name ∷ sign "(" ∷ sign ")" ∷ [] ⇒ λ f. expr_at (node.Call f.text []) f.pos)
     ∷ (name ∷ sign "(" ∷ n (commas expr) ∷ sign ")" ∷ [] ⇒ λ f es. expr_at (node.Call f.text es) f.pos)
-    ∷ (word_at "calloc" ∷ sign "<" ∷ n type_name ∷ sign ">" ∷ sign "(" ∷ n expr ∷ sign "," ∷ key "sizeof" ∷ sign "("
-    ∷ n type_name ∷ sign ")" ∷ sign ")" ∷ [] ⇒ λ at b e c. expr_at (node.Calloc b e c) at)
+    ∷ (n calloc ∷ [] ⇒ λ e. e)
     ∷ []
--- expr = binary [ "?" expr ":" expr ]
+-- expr = unary "=" right | unary op expr | binary [ "?" expr ":" expr ]
 productions expr =
-    (n binary ∷ [] ⇒ λ e. e)
+    (n unary ∷ sign_at "=" ∷ n right ∷ [] ⇒ λ x at e. expr_at (node.Bin operators.Set x e) at)
+    ∷ (n unary ∷ n op ∷ n expr ∷ [] ⇒ λ x o e. set_by x o e)
+    ∷ (n binary ∷ [] ⇒ λ e. e)
     ∷ (n binary ∷ sign_at "?" ∷ n expr ∷ sign ":" ∷ n expr ∷ [] ⇒ λ e at f g. expr_at (node.Pick e f g) at)
     ∷ []
 -- binary = unary { step }
@@ -367,19 +394,20 @@ productions binary = (n unary ∷ n (many step) ∷ [] ⇒ λ e ss. joined e ss)
 -- step = operator unary
 productions step = (n operator ∷ n unary ∷ [] ⇒ λ o e. record { op = o.0; pos = o.1; operand = e }) ∷ []
 productions operator =
-    infix_op "||" op.OrElse ∷ infix_op "&&" op.AndThen ∷ infix_op "|" op.Or ∷ infix_op "^" op.Xor ∷ infix_op "&" op.And
-    ∷ infix_op "==" op.Eq ∷ infix_op "!=" op.Ne
-    ∷ infix_op "<" op.Lt ∷ infix_op "<=" op.Le ∷ infix_op ">" op.Gt ∷ infix_op ">=" op.Ge
-    ∷ infix_op "<<" op.Shl ∷ (sign_at ">" ∷ t (next (codes ">")) unused ∷ [] ⇒ λ at. (op.Shr, at))
-    ∷ infix_op "+" op.Add ∷ infix_op "-" op.Sub ∷ infix_op "*" op.Mul ∷ infix_op "/" op.Div ∷ infix_op "%" op.Rem ∷ []
--- unary = ( "-" | "+" | "!" | "~" | "*" | "&" ) unary | "(" type_name ")" unary
---     | "sizeof" "(" type_name ")" | postfix
+    infix_op "||" operators.OrElse ∷ infix_op "&&" operators.AndThen ∷ infix_op "|" operators.Or ∷ infix_op "^" operators.Xor ∷ infix_op "&" operators.And
+    ∷ infix_op "==" operators.Eq ∷ infix_op "!=" operators.Ne
+    ∷ infix_op "<" operators.Lt ∷ infix_op "<=" operators.Le ∷ infix_op ">" operators.Gt ∷ infix_op ">=" operators.Ge
+    ∷ infix_op "<<" operators.Shl ∷ (sign_at ">" ∷ t (next (codes ">")) unused ∷ [] ⇒ λ at. (operators.Shr, at))
+    ∷ infix_op "+" operators.Add ∷ infix_op "-" operators.Sub ∷ infix_op "*" operators.Mul ∷ infix_op "/" operators.Div ∷ infix_op "%" operators.Rem ∷ []
+-- unary = ( "-" | "+" | "!" | "~" | "*" | "&" ) unary | increment unary | "(" type_name ")" unary
+--     | "sizeof" "(" type_name ")" | postfix [ increment ]
 productions unary =
-    prefix_op "-" op.Minus ∷ prefix_op "+" op.Plus ∷ prefix_op "!" op.Not
-    ∷ prefix_op "~" op.Flip ∷ prefix_op "*" op.Deref ∷ prefix_op "&" op.Address
+    prefix_op "-" operators.Minus ∷ prefix_op "+" operators.Plus ∷ prefix_op "!" operators.Not
+    ∷ prefix_op "~" operators.Flip ∷ prefix_op "*" operators.Deref ∷ prefix_op "&" operators.Address
+    ∷ (n increment ∷ n unary ∷ [] ⇒ λ o x. set_by x o (one_at o.1))
     ∷ (sign_at "(" ∷ n type_name ∷ sign ")" ∷ n unary ∷ [] ⇒ λ at b e. expr_at (node.Cast b e) at)
     ∷ (key_at "sizeof" ∷ sign "(" ∷ n type_name ∷ sign ")" ∷ [] ⇒ λ at b. expr_at (node.Size b) at)
-    ∷ (n postfix ∷ [] ⇒ λ e. e)
+    ∷ (n postfix ∷ n (opt increment) ∷ [] ⇒ λ x o. incremented x o)
     ∷ []
 -- postfix = primary { post }
 productions postfix = (n primary ∷ n (many post) ∷ [] ⇒ λ e fs. applied e fs) ∷ []
@@ -389,10 +417,12 @@ productions post =
     ∷ (sign_at "." ∷ name ∷ [] ⇒ λ at m e. expr_at (node.Dot e m.text m.pos) at)
     ∷ (sign_at "->" ∷ name ∷ [] ⇒ λ at m e. expr_at (node.Arrow e m.text m.pos) at)
     ∷ []
--- primary = name | number | character | string | "NULL" | "EOF" | "(" expr ")"
+-- primary = name | name "(" [ expr { "," expr } ] ")" | number | character | string | "NULL" | "EOF" | "(" expr ")"
 --     | ( "_Dynamic_bounds_cast" | "_Assume_bounds_cast" ) "<" type_name ">" "(" expr [ "," limits ] ")"
 productions primary =
     (name ∷ [] ⇒ λ x. expr_at (node.Name x.text) x.pos)
+    ∷ (name ∷ sign "(" ∷ sign ")" ∷ [] ⇒ λ f. expr_at (node.Call f.text []) f.pos)
+    ∷ (name ∷ sign "(" ∷ n (commas expr) ∷ sign ")" ∷ [] ⇒ λ f es. expr_at (node.Call f.text es) f.pos)
     ∷ (t any_number whole ∷ [] ⇒ λ x. expr_at (literal x.kind) x.pos)
     ∷ (t any_character whole ∷ [] ⇒ λ x. expr_at (literal x.kind) x.pos)
     ∷ (t any_string whole ∷ [] ⇒ λ x. expr_at (node.Text (decoded x.text)) x.pos)

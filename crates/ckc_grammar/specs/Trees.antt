@@ -20,6 +20,32 @@ expr_at x pos = record { node = x; pos = pos; note = tt }
 abbrev pub stmt_at : Act → Pos → Stmt
 stmt_at x pos = record { body = x; pos = pos; note = tt }
 
+-- the number 1
+abbrev pub one_at : Pos → Expr
+one_at pos = expr_at (node.Number 1 false) pos
+
+-- `x op e`, at the operator
+abbrev pub operated : Expr → TreeOp × Pos → Expr → Expr
+operated x o e = expr_at (node.Bin o.0 x e) o.1
+
+-- `x op= e` as a statement: `x = x op e`
+abbrev pub assigned_by : Expr → TreeOp × Pos → Expr → Stmt
+assigned_by x o e = stmt_at (act.Assign x (operated x o e)) o.1
+
+-- and within an expression
+abbrev pub set_by : Expr → TreeOp × Pos → Expr → Expr
+set_by x o e = expr_at (node.Bin op.Set x (operated x o e)) o.1
+
+-- an increment behind its operand
+abbrev pub post_op : TreeOp → TreeOp
+post_op op.Sub = op.PostDec
+post_op _ = op.PostInc
+
+-- an operand with an increment behind it, if one stands there
+abbrev pub incremented : Expr → Option (TreeOp × Pos) → Expr
+incremented x None = x
+incremented x (Some o) = expr_at (node.Un (post_op o.0) x) o.1
+
 -- a type after which stars stand, the first one innermost
 abbrev pub starred : TypeTree → List Pos → TypeTree
 starred base [] = base

@@ -19,7 +19,7 @@ use Rattle.ckc_lexer.specs.Bytes.{is_space, is_word_byte, class_of}
 use Rattle.ckc_syntax.specs.Digits.{digit_value}
 use Rattle.ckc_syntax.specs.Literals.{is_plain, simple_escape, IsEscape, simple, octal, hexadecimal, IsPiece, plain, escape, Characters, ends, next, IsLiteral}
 use Rattle.ckc_lexer.specs.Literals.{CharacterCases, TextCases}
-use Rattle.ckc_lexer.specs.Comments.{IsSlashItem, mark, line, closed, open_at_end}
+use Rattle.ckc_lexer.specs.Comments.{IsSlashItem, mark, division, line, closed, open_at_end}
 use Rattle.ckc_lexer.specs.Directives.{IsInclude, IsPragma, IsDirective, HashCases}
 use Rattle.ckc_lexer.specs.Marks.{marks}
 use Rattle.ckc_lexer.specs.Spelling.{SpelledBy, Spells}
@@ -159,6 +159,7 @@ text_ascii w (kinds.Directive d) s = absurd s
 
 slash_ascii : (w : List ℕ) (kind : TokenKind) → class_of (get_or w 0 0) ≡ Slash → IsSlashItem w (Token kind) → AllBytes is_ascii w
 slash_ascii w kind at (mark one e) = one_byte w Slash one at (λ e. cc)
+slash_ascii w kind at (division two e) = all_test is_ascii w (ap (list_all is_ascii) two)
 slash_ascii w kind at (line l e) = cc
 slash_ascii w kind at (closed c e) = cc
 slash_ascii w kind at (open_at_end o e) = cc

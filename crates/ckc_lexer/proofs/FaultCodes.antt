@@ -8,7 +8,7 @@ use Rattle.ckc_lexer.specs.declared.items.Item.{Item}
 use Rattle.ckc_lexer.specs.declared.items.Item.TheVariants.{Gap, Token, Broken}
 use Rattle.ckc_lexer.specs.declared.items.Context.{Context}
 use Rattle.ckc_lexer.specs.Bytes.{class_of}
-use Rattle.ckc_lexer.specs.Comments.{IsSlashItem, mark, line, closed, open_at_end}
+use Rattle.ckc_lexer.specs.Comments.{IsSlashItem, mark, division, line, closed, open_at_end}
 use Rattle.ckc_lexer.specs.Cut.{FirstFault, FirstBroken, context_after}
 use Rattle.ckc_lexer.specs.Directives.{HashCases}
 use Rattle.ckc_lexer.specs.Literals.{CharacterCases, TextCases}
@@ -43,6 +43,7 @@ text_coded w item s = ⊎_elim (λ x. coded item _ x.1 tt) (λ x. coded item (Br
 
 slash_coded : (w : List ℕ) (item : Item) → IsSlashItem w item → Coded item
 slash_coded w item (mark one e) = coded item _ e tt
+slash_coded w item (division two e) = coded item _ e tt
 slash_coded w item (line l e) = coded item _ e tt
 slash_coded w item (closed c e) = coded item _ e tt
 slash_coded w item (open_at_end o e) = coded item (Broken 102) e (lit≤ tt, lit≤ tt)

@@ -31,7 +31,7 @@ take_one : (text : List ℕ) → 0 < length text → take 1 text ≡ get_or text
 take_one [] h = absurd (omega (arith, h))
 take_one (a ∷ text) h = refl
 
-take_two : (text : List ℕ) → 1 < length text → take 2 text ≡ get_or text 0 0 ∷ get_or text 1 0 ∷ []
+pub take_two : (text : List ℕ) → 1 < length text → take 2 text ≡ get_or text 0 0 ∷ get_or text 1 0 ∷ []
 take_two [] h = absurd (omega (arith, h))
 take_two (a ∷ []) h = absurd (omega (arith, h))
 take_two (a ∷ b ∷ text) h = refl

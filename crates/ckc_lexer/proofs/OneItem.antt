@@ -12,10 +12,12 @@ use Rattle.ckc_lexer.specs.Bytes.{is_space, class_of}
 use Rattle.ckc_lexer.specs.Numbers.{has_suffix, IsNumber, NumberCases}
 use Rattle.ckc_syntax.specs.Literals.{IsLiteral}
 use Rattle.ckc_lexer.specs.Literals.{CharacterCases, TextCases}
-use Rattle.ckc_lexer.specs.Comments.{IsOpen, IsClosed, IsSlashItem, mark, line, closed, open_at_end}
+use Rattle.ckc_lexer.specs.Comments.{IsOpen, IsClosed, IsSlashItem, mark, division, line, closed, open_at_end}
 use Rattle.ckc_lexer.specs.Directives.{IsDirective, IsDirectiveLine, DirectiveCases, HashCases}
 use Rattle.ckc_lexer.specs.Spelling.{SpelledBy, Spells}
+use Rattle.std.specs.Prelude.{codes}
 use Rattle.ckc_lexer.proofs.ByteLists.{all_nil}
+use Rattle.ckc_lexer.proofs.CommentFronts.{closed_star}
 use Rattle.ckc_lexer.proofs.LiteralFronts.{apostrophe, characters_end, literal_once}
 use Rattle.ckc_lexer.proofs.DirectiveLaw.{body_complete}
 
@@ -133,14 +135,24 @@ not_both w c o =
     let e : length w - 2 + 1 ≡ length w - 1 = omega (arith, c.whole) in
     o.no_end (length w - 2) (omega (arith, c.whole)) (omega (arith, c.whole)) c.star (ap (λ k. get_or w k 0) e ∙ c.slash)
 
-closed_star : (w : List ℕ) → IsClosed w → get_or w 1 0 ≡ 42
-closed_star w c = sym (get_or-take (length w - 1) w 1 0 (omega (arith, c.whole))) ∙ c.open_before.star
-
 two_stars : (b : ℕ) → b ≡ 47 → b ≡ 42 → ⊥
 two_stars b e f = omega arith
 
+not_equals : (w : List ℕ) → get_or w 1 0 ≡ 47 ⊎ get_or w 1 0 ≡ 42 → w ≡ codes "/=" → ⊥
+not_equals w (inl h) e = let f = ap (λ z. get_or z 1 0) e in omega arith
+not_equals w (inr h) e = let f = ap (λ z. get_or z 1 0) e in omega arith
+
 slash_item : (w : List ℕ) (i j : Item) → IsSlashItem w i → IsSlashItem w j → i ≡ j
 slash_item w i j (mark one e) (mark one' e') = e ∙ sym e'
+slash_item w i j (mark one e) (division two e') = e ∙ sym e'
+slash_item w i j (division two e) (mark one e') = e ∙ sym e'
+slash_item w i j (division two e) (division two' e') = e ∙ sym e'
+slash_item w i j (division two e) (line l e') = absurd (not_equals w (inl l.1) two)
+slash_item w i j (division two e) (closed c e') = absurd (not_equals w (inr (closed_star w c)) two)
+slash_item w i j (division two e) (open_at_end o e') = absurd (not_equals w (inr o.star) two)
+slash_item w i j (line l e) (division two e') = absurd (not_equals w (inl l.1) two)
+slash_item w i j (closed c e) (division two e') = absurd (not_equals w (inr (closed_star w c)) two)
+slash_item w i j (open_at_end o e) (division two e') = absurd (not_equals w (inr o.star) two)
 slash_item w i j (mark one e) (line l e') = absurd (omega (arith, one, l.0))
 slash_item w i j (mark one e) (closed c e') = absurd (omega (arith, one, c.whole))
 slash_item w i j (mark one e) (open_at_end o e') = absurd (omega (arith, one, o.begun))

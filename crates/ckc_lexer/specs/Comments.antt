@@ -1,5 +1,5 @@
--- Comments (ISO C11, 6.4.9), and the mark `/`, which begins as they do.
-use Rattle.std.specs.Prelude.{◌≡◌, ℕ, ◌+◌, ◌-◌, ◌<◌, ◌≤◌, not, List, length, take, slice_index}
+-- Comments (ISO C11, 6.4.9), and the marks `/` and `/=`, which begin as they do.
+use Rattle.std.specs.Prelude.{◌≡◌, ℕ, ◌+◌, ◌-◌, ◌<◌, ◌≤◌, not, List, length, take, slice_index, codes}
 use Rattle.ckc_syntax.specs.declared.tokens.TokenKind.TheVariants.{Mark}
 use Rattle.ckc_lexer.specs.declared.items.Item.{Item}
 use Rattle.ckc_lexer.specs.declared.items.Item.TheVariants.{Gap, Token, Broken}
@@ -27,6 +27,7 @@ pub record IsClosed (w : List ℕ) : Type 0 where
 -- a comment is a gap; one that is open at the end is a fault
 pub data IsSlashItem (w : List ℕ) (item : Item) : Type 0 where
   mark : length w ≡ 1 → item ≡ Token Mark → IsSlashItem w item
+  division : w ≡ codes "/=" → item ≡ Token Mark → IsSlashItem w item
   line : IsLineComment w → item ≡ Gap → IsSlashItem w item
   closed : IsClosed w → item ≡ Gap → IsSlashItem w item
   open_at_end : IsOpen w → item ≡ Broken open_comment → IsSlashItem w item

@@ -11,7 +11,8 @@ marks =
     codes "(" ∷ codes ")" ∷ codes "{" ∷ codes "}" ∷ codes "[" ∷ codes "]" ∷ codes "<" ∷ codes ">" ∷ codes "," ∷ codes ";"
     ∷ codes ":" ∷ codes "?" ∷ codes "=" ∷ codes "." ∷ codes "->" ∷ codes "+" ∷ codes "-" ∷ codes "*" ∷ codes "/" ∷ codes "%"
     ∷ codes "&" ∷ codes "|" ∷ codes "^" ∷ codes "~" ∷ codes "!" ∷ codes "<<" ∷ codes "<=" ∷ codes ">=" ∷ codes "==" ∷ codes "!="
-    ∷ codes "&&" ∷ codes "||" ∷ []
+    ∷ codes "&&" ∷ codes "||" ∷ codes "++" ∷ codes "--" ∷ codes "+=" ∷ codes "-=" ∷ codes "*=" ∷ codes "/=" ∷ codes "%="
+    ∷ codes "&=" ∷ codes "|=" ∷ codes "^=" ∷ []
 
 -- whether the bytes spell a mark
 abbrev pub is_mark_text : List ℕ → Bool

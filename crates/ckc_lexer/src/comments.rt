@@ -7,7 +7,8 @@ ghost use Rattle.ckc_lexer.specs.Comments.{IsSlashItem};
 use crate::items::{Found, Item, OPEN_COMMENT};
 use ckc_syntax::TokenKind;
 
-/// The comment at the front of a text, or the mark `/`.
+/// The comment at the front of a text, or the mark `/` or `/=`.
+#[tactic(auto, using(crate::proofs::CommentFronts::slash_longest, crate::proofs::CommentFronts::division_longest))]
 pub fn slash_at(text: &[u8]) -> Found
     requires some { 0 < length text.now }
     requires slash { slice_index text.now 0 ≡ 47 }
@@ -21,6 +22,12 @@ pub fn slash_at(text: &[u8]) -> Found
     }
     if text.len() > 1 && text[1] == b'*' {
         return block_at(text);
+    }
+    if text.len() > 1 && text[1] == b'=' {
+        return Found {
+            len: 2,
+            item: Item::Token(TokenKind::Mark),
+        };
     }
     Found {
         len: 1,

@@ -28,11 +28,12 @@ fn is_double(a: u8, b: u8) -> bool
     ensures { result ≡ is_mark_text (a ∷ b ∷ []) }
 {
     match a {
-        b'-' => b == b'>',
+        b'-' => b == b'>' || b == b'-' || b == b'=',
         b'<' => b == b'<' || b == b'=',
-        b'>' | b'=' | b'!' => b == b'=',
-        b'&' => b == b'&',
-        b'|' => b == b'|',
+        b'>' | b'=' | b'!' | b'*' | b'/' | b'%' | b'^' => b == b'=',
+        b'+' => b == b'+' || b == b'=',
+        b'&' => b == b'&' || b == b'=',
+        b'|' => b == b'|' || b == b'=',
         _ => false,
     }
 }

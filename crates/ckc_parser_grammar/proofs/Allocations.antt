@@ -12,7 +12,7 @@ use Rattle.ckc_grammar.specs.Productions as l
 use Rattle.ckc_grammar.specs.Productions.{key, sign, n, productions}
 use Rattle.ckc_grammar.specs.Derivation.{Word, chosen, parts_of, value}
 use Rattle.ckc_parser_grammar.proofs.Tokens.{sign_of, greater_kind}
-use Rattle.ckc_parser_grammar.proofs.Back.{All, t_end, t_tok, t_part, t_by, ExprForm, expr_of, CallForm, of_type, TypeForm, From, Got, end, token, piece, worth}
+use Rattle.ckc_parser_grammar.proofs.Back.{All, t_end, t_tok, t_part, t_by, ExprForm, expr_of, CallocForm, of_type, TypeForm, From, Got, end, token, piece, worth}
 use Rattle.ckc_parser_grammar.proofs.Endings.{kw, mk, wd, type_of}
 
 -- `, sizeof ( type ) )` after the count
@@ -27,12 +27,12 @@ sizeof_of _ e f (token {w = q1} f1 (token {w = q2} f2 (token {w = q3} f3 (piece 
     sizeof_tail (λ z. t_tok (mk "," q1 f1) (t_tok (kw "sizeof" q2 f2) (t_tok (mk "(" q3 f3) (t_part C.1 (t_tok (mk ")" q4 f4) (t_tok (mk ")" q5 f5) t_end)) h)))) (λ j. f (C.2 j))
 
 calloc_form : {us vs zs ys : List Word} {b : TypeTree} {m y : Expr} (w a c d : Word) → (sign_of w).kind ≡ k.Calloc → (sign_of a).kind ≡ k.Less → TypeForm us b → is_greater (sign_of c).kind ≡ true → (sign_of d).kind ≡ k.RoundOpen → ExprForm vs m →
-    SizeofTail zs (λ t. expr_at (node.Calloc b m t) w.token.pos) y → vs ++ zs ≡ ys → (ws : List Word) → us ++ (c ∷ d ∷ ys) ≡ ws → CallForm (w ∷ a ∷ ws) y
+    SizeofTail zs (λ t. expr_at (node.Calloc b m t) w.token.pos) y → vs ++ zs ≡ ys → (ws : List Word) → us ++ (c ∷ d ∷ ys) ≡ ws → CallocForm (w ∷ a ∷ ws) y
 calloc_form w a c d f1 f2 ty f3 f4 x (sizeof_tail {x = z1} r e) h2 ws h1 =
     let B = type_of ty in
     let X = expr_of x in
     of_type f1 f2 (λ z. t_by g.Allocation (λ z. refl) (t_part B.1 (t_tok f3 (t_tok f4 (t_part X.1 (r z) h2))) h1)) refl refl ((λ j. expr_at (node.Calloc (B.2 j) (X.2 j) (as_type z1)) w.token.pos) ∙ e)
 
-pub call_2 : (ws : List Word) (e : Bool) (q : Got (parts_of l.call (inr (inr (inl tt)))) ws e (l.Meaning l.call) (chosen (productions l.call) (inr (inr (inl tt)))).made) → From l.call ws e (worth q)
-call_2 _ e (token {w = w} f1 (token {w = a} f2 (piece us b ty (token {w = c} f3 (token {w = d} f4 (piece vs m x r h2))) h1))) =
+pub calloc_0 : (ws : List Word) (e : Bool) (q : Got (parts_of l.calloc (inl tt)) ws e (l.Meaning l.calloc) (chosen (productions l.calloc) (inl tt)).made) → From l.calloc ws e (worth q)
+calloc_0 _ e (token {w = w} f1 (token {w = a} f2 (piece us b ty (token {w = c} f3 (token {w = d} f4 (piece vs m x r h2))) h1))) =
     calloc_form w a c d (wd "calloc" w f1) (mk "<" a f2) ty (greater_kind c f3) (mk "(" d f4) x (sizeof_of _ e _ r) h2 _ h1

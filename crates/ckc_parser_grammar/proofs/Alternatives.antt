@@ -1,5 +1,4 @@
 -- What the grammar derives, the parser's table derives with the same value: each alternative of each part.
-use Prim.Native.String.{String}
 use Rattle.std.proofs.Common.{List, [], ◌∷◌, ◌++◌, Bool, inl, inr, refl, sym, ap, ◌∙◌, append_assoc, append-nil}
 use Rattle.std.specs.Prelude.{None, Some, codes}
 use Rattle.ckc_syntax.specs.declared.tree.Item.TheVariants as items
@@ -9,24 +8,26 @@ use Rattle.ckc_syntax.specs.declared.tree.Init.TheVariants as inits
 use Rattle.ckc_syntax.specs.declared.tree.Limits.TheVariants as bounds
 use Rattle.ckc_syntax.specs.declared.tree.Node.TheVariants as node
 use Rattle.ckc_syntax.specs.declared.tree.Act.TheVariants as act
+use Rattle.ckc_syntax.specs.declared.tree.TreeOp.TheVariants as op
 use Rattle.ckc_parser_grammar.specs.declared.kind.Kind.TheVariants as k
-use Rattle.ckc_parser_grammar.specs.code.Kinds.{is_sign, is_operator, is_literal, sign_op, binary_op}
+use Rattle.ckc_parser_grammar.specs.code.Kinds.{is_sign, is_literal, sign_op}
 use Rattle.ckc_parser_grammar.specs.code.Grammar as g
 use Rattle.ckc_parser_grammar.specs.code.Derives as D
 use Rattle.ckc_parser_grammar.specs.code.Trees as T
 use Rattle.ckc_parser_grammar.specs.code.Values as v
-use Rattle.ckc_parser_grammar.specs.code.Values.{made, as_items}
+use Rattle.ckc_parser_grammar.specs.code.Values.{as_items}
 use Rattle.ckc_grammar.specs.Trees as L
 use Rattle.ckc_grammar.specs.Trees.{starred, expr_at}
-use Rattle.ckc_grammar.specs.Makers.{declared}
+use Rattle.ckc_grammar.specs.Makers.{applied, declared}
 use Rattle.ckc_grammar.specs.Productions as l
 use Rattle.ckc_grammar.specs.Productions.{Terminal, productions}
-use Rattle.ckc_grammar.specs.Derivation.{Word, Choice, chosen, parts_of, value}
-use Rattle.ckc_parser_grammar.proofs.Tokens.{plain_kind, greater_kind, next_kind, name_kind, number_kind, character_kind, string_kind, directive_kind}
+use Rattle.ckc_grammar.specs.Derivation.{Word, Choice, chosen, parts_of}
+use Rattle.ckc_parser_grammar.proofs.Tokens.{plain_kind, greater_kind, name_kind, number_kind, character_kind, string_kind, directive_kind}
 use Rattle.ckc_parser_grammar.proofs.Pieces.{cut}
-use Rattle.ckc_parser_grammar.proofs.Back.{t_end, t_tok, t_part_at, t_part, t_last, t_by, t_moved, none, more, by_name, by_first, less, other, step, expr_of, unary_of, right_of, call_right, tag, scalar, base_of, absent, present, after_form, comma_form, of_name, binary_form, assign_form, type_form, From, Got, end, token, piece, sole, worth}
-use Rattle.ckc_parser_grammar.proofs.Endings.{kw, mk, wd, ei, cons_eq, joint, type_of, range_of, array_of, first_of_object, first_of_local, size_of, condition_of, start_of, assign_of, step_part_of, assign_stmt, call_stmt, stars_of, text_of, members_of, params_of, arguments_of, list_of, lines_of, changes_of, member_of, local_of_form, declares_moved, declares_named, objects_form, item_declares, void_head, type_head, first_by, constant_by, round_by, cast_of, between_of, no_choice, with_choice, at_moved, unary_moved, from_moved, each_moved, stmt_any, no_else_by, with_end}
-use Rattle.ckc_parser_grammar.proofs.Allocations.{call_2}
+use Rattle.ckc_parser_grammar.proofs.Back.{t_end, t_tok, t_part_at, t_part, t_last, t_by, t_moved, joint, none, more, no_call, with_call, no_increment, one_increment, by_name, ends, steps, step, expr_of, unary_of, right_of, calloc_right, tag, scalar, base_of, absent, present, after_form, comma_form, of_name, of_calloc, binary_form, type_form, From, Got, end, token, piece, sole, worth}
+use Rattle.ckc_parser_grammar.proofs.Endings.{kw, mk, wd, ei, cons_eq, type_of, range_of, array_of, first_of_object, first_of_local, size_of, condition_of, start_of, assign_of, step_part_of, assign_stmt, call_stmt, stars_of, text_of, members_of, params_of, arguments_of, list_of, lines_of, changes_of, member_of, local_of_form, declares_moved, declares_named, objects_form, item_declares, void_head, type_head, first_by, constant_by, round_by, cast_of, between_of, no_choice, with_choice, at_moved, postfix_moved, unary_named, signed_by, cast_by, sized_by, set_assign, step_assign, post_step, set_expr, from_moved, each_moved, stmt_any, no_else_by, with_end}
+use Rattle.ckc_parser_grammar.proofs.Allocations.{calloc_0}
+use Rattle.ckc_parser_grammar.proofs.Infixes.{operator_0, operator_1, operator_2, operator_3, operator_4, operator_5, operator_6, operator_7, operator_8, operator_9, operator_10, operator_11, operator_12, operator_13, operator_14, operator_15, operator_16, operator_17, op_0, op_1, op_2, op_3, op_4, op_5, op_6, op_7, increment_0, increment_1}
 
 text_0 : (ws : List Word) (e : Bool) (q : Got (parts_of l.text (inl tt)) ws e (l.Meaning l.text) (chosen (productions l.text) (inl tt)).made) → From l.text ws e (worth q)
 text_0 _ e (piece us m is end h) = text_of is h
@@ -213,10 +214,21 @@ right_0 : (ws : List Word) (e : Bool) (q : Got (parts_of l.right (inl tt)) ws e 
 right_0 _ e (piece us m x end h) = let X = right_of x in (X.0, t_moved (cut h) X.1, X.2)
 
 right_1 : (ws : List Word) (e : Bool) (q : Got (parts_of l.right (inr (inl tt))) ws e (l.Meaning l.right) (chosen (productions l.right) (inr (inl tt))).made) → From l.right ws e (worth q)
-right_1 _ e (piece us m x end h) = let X = call_right x in (X.0, t_moved (cut h) X.1, X.2)
+right_1 _ e (piece us m x end h) = let X = calloc_right x in (X.0, t_moved (cut h) X.1, X.2)
 
 assign_0 : (ws : List Word) (e : Bool) (q : Got (parts_of l.assign (inl tt)) ws e (l.Meaning l.assign) (chosen (productions l.assign) (inl tt)).made) → From l.assign ws e (worth q)
-assign_0 _ e (piece us m x (token {w = a} f (piece vs m2 y end h2)) h1) = assign_form a x (mk "=" a f) y.1 (ap (λ z. us ++ (a ∷ z)) (cut h2) ∙ h1) (λ j. L.stmt_at (act.Assign m (y.2 j)) a.token.pos)
+assign_0 _ e (piece us m x (token {w = a} f (piece vs m2 y end h2)) h1) = set_assign x (λ z. t_by g.SetTo (λ z. refl) (t_tok (mk "=" a f) (t_last y.1))) refl (ap (λ z. us ++ (a ∷ z)) (cut h2) ∙ h1) (λ j. L.stmt_at (act.Assign m (y.2 j)) a.token.pos)
+
+assign_1 : (ws : List Word) (e : Bool) (q : Got (parts_of l.assign (inr (inl tt))) ws e (l.Meaning l.assign) (chosen (productions l.assign) (inr (inl tt))).made) → From l.assign ws e (worth q)
+assign_1 _ e (piece us m x (piece vs m2 o (piece xs m3 y end h3) h2) h1) =
+    let Y = expr_of y in
+    set_assign x (t_moved (ap (λ z. z ++ xs) o.1 ∙ ap (λ z. vs ++ z) (cut h3) ∙ h2) (λ z. t_by g.SetBy (λ z. refl) (t_tok o.2 (t_last Y.1)))) refl h1 (λ j. L.assigned_by m (o.3 j) (Y.2 j))
+
+assign_2 : (ws : List Word) (e : Bool) (q : Got (parts_of l.assign (inr (inr (inl tt)))) ws e (l.Meaning l.assign) (chosen (productions l.assign) (inr (inr (inl tt)))).made) → From l.assign ws e (worth q)
+assign_2 _ e (piece us m o (piece vs m2 x end h2) h1) = step_assign o.2 x (ap (λ z. z ++ vs) o.1 ∙ ap (λ z. us ++ z) (cut h2) ∙ h1) (λ j. L.assigned_by m2 (o.3 j) (L.one_at (o.3 j).1))
+
+assign_3 : (ws : List Word) (e : Bool) (q : Got (parts_of l.assign (inr (inr (inr (inl tt))))) ws e (l.Meaning l.assign) (chosen (productions l.assign) (inr (inr (inr (inl tt))))).made) → From l.assign ws e (worth q)
+assign_3 _ e (piece us m x (piece vs m2 o end h2) h1) = post_step o.0 o.2 x (ap (λ z. us ++ z) (o.1 ∙ cut h2) ∙ h1) (λ j. L.assigned_by m (o.3 j) (L.one_at (o.3 j).1))
 
 change_0 : (ws : List Word) (e : Bool) (q : Got (parts_of l.change (inl tt)) ws e (l.Meaning l.change) (chosen (productions l.change) (inl tt)).made) → From l.change ws e (worth q)
 change_0 _ e (piece us m s (token {w = c} f end) h) = (us, c, s, mk ";" c f, h)
@@ -304,11 +316,22 @@ call_1 _ e (token {w = w} f (token {w = a} f2 (piece us m (comma_form {us = xs} 
     let R = arguments_of c more1 (mk ")" c f3) in
     of_name (name_kind w f) (mk "(" a f2) (λ z. t_by g.Arguments (λ z. refl) (t_part X.1 (t_last R.1) (joint xs rest (c ∷ []) q h))) refl ((λ j. v.called w.token (X.2 j ∷ R.2 j)) ∙ (λ j. v.called w.token (i j)))
 
+call_2 : (ws : List Word) (e : Bool) (q : Got (parts_of l.call (inr (inr (inl tt)))) ws e (l.Meaning l.call) (chosen (productions l.call) (inr (inr (inl tt)))).made) → From l.call ws e (worth q)
+call_2 _ e (piece us m x end h) = of_calloc x (cut h)
+
 expr_0 : (ws : List Word) (e : Bool) (q : Got (parts_of l.expr (inl tt)) ws e (l.Meaning l.expr) (chosen (productions l.expr) (inl tt)).made) → From l.expr ws e (worth q)
-expr_0 _ e (piece us m x end h) = no_choice x h
+expr_0 _ e (piece us m x (token {w = a} f (piece vs m2 y end h2)) h1) = set_expr x (λ z. t_by g.SetTo (λ z. refl) (t_tok (mk "=" a f) (t_last y.1))) refl (ap (λ z. us ++ (a ∷ z)) (cut h2) ∙ h1) (λ j. expr_at (node.Bin op.Set m (y.2 j)) a.token.pos)
 
 expr_1 : (ws : List Word) (e : Bool) (q : Got (parts_of l.expr (inr (inl tt))) ws e (l.Meaning l.expr) (chosen (productions l.expr) (inr (inl tt))).made) → From l.expr ws e (worth q)
-expr_1 _ e (piece us m x (token {w = a} f (piece ys m2 y (token {w = c} f2 (piece vs m3 z end h3)) h2)) h1) = with_choice a c x (mk "?" a f) y (mk ":" c f2) z h3 h2 h1
+expr_1 _ e (piece us m x (piece vs m2 o (piece xs m3 y end h3) h2) h1) =
+    let Y = expr_of y in
+    set_expr x (t_moved (ap (λ z. z ++ xs) o.1 ∙ ap (λ z. vs ++ z) (cut h3) ∙ h2) (λ z. t_by g.SetBy (λ z. refl) (t_tok o.2 (t_last Y.1)))) refl h1 (λ j. L.set_by m (o.3 j) (Y.2 j))
+
+expr_2 : (ws : List Word) (e : Bool) (q : Got (parts_of l.expr (inr (inr (inl tt)))) ws e (l.Meaning l.expr) (chosen (productions l.expr) (inr (inr (inl tt)))).made) → From l.expr ws e (worth q)
+expr_2 _ e (piece us m x end h) = no_choice x h
+
+expr_3 : (ws : List Word) (e : Bool) (q : Got (parts_of l.expr (inr (inr (inr (inl tt))))) ws e (l.Meaning l.expr) (chosen (productions l.expr) (inr (inr (inr (inl tt))))).made) → From l.expr ws e (worth q)
+expr_3 _ e (piece us m x (token {w = a} f (piece ys m2 y (token {w = c} f2 (piece vs m3 z end h3)) h2)) h1) = with_choice a c x (mk "?" a f) y (mk ":" c f2) z h3 h2 h1
 
 binary_0 : (ws : List Word) (e : Bool) (q : Got (parts_of l.binary (inl tt)) ws e (l.Meaning l.binary) (chosen (productions l.binary) (inl tt)).made) → From l.binary ws e (worth q)
 binary_0 _ e (piece us m x (piece vs m2 ss end h2) h1) = binary_form x ss (ap (λ z. us ++ z) (cut h2) ∙ h1) refl
@@ -316,93 +339,41 @@ binary_0 _ e (piece us m x (piece vs m2 ss end h2) h1) = binary_form x ss (ap (�
 step_0 : (ws : List Word) (e : Bool) (q : Got (parts_of l.step (inl tt)) ws e (l.Meaning l.step) (chosen (productions l.step) (inl tt)).made) → From l.step ws e (worth q)
 step_0 _ e (piece us m o (piece vs m2 x end h2) h1) = step o x (ap (λ z. us ++ z) (cut h2) ∙ h1) refl
 
-operator_0 : (ws : List Word) (e : Bool) (q : Got (parts_of l.operator (inl tt)) ws e (l.Meaning l.operator) (chosen (productions l.operator) (inl tt)).made) → From l.operator ws e (worth q)
-operator_0 _ e (token {w = a} f end) = other (λ z. t_by g.Operator (λ z. refl) (t_tok (ap is_operator (mk "||" a f)) t_end)) (λ j. (binary_op (plain_kind (codes "||") a f j), a.token.pos))
-
-operator_1 : (ws : List Word) (e : Bool) (q : Got (parts_of l.operator (inr (inl tt))) ws e (l.Meaning l.operator) (chosen (productions l.operator) (inr (inl tt))).made) → From l.operator ws e (worth q)
-operator_1 _ e (token {w = a} f end) = other (λ z. t_by g.Operator (λ z. refl) (t_tok (ap is_operator (mk "&&" a f)) t_end)) (λ j. (binary_op (plain_kind (codes "&&") a f j), a.token.pos))
-
-operator_2 : (ws : List Word) (e : Bool) (q : Got (parts_of l.operator (inr (inr (inl tt)))) ws e (l.Meaning l.operator) (chosen (productions l.operator) (inr (inr (inl tt)))).made) → From l.operator ws e (worth q)
-operator_2 _ e (token {w = a} f end) = other (λ z. t_by g.Operator (λ z. refl) (t_tok (ap is_operator (mk "|" a f)) t_end)) (λ j. (binary_op (plain_kind (codes "|") a f j), a.token.pos))
-
-operator_3 : (ws : List Word) (e : Bool) (q : Got (parts_of l.operator (inr (inr (inr (inl tt))))) ws e (l.Meaning l.operator) (chosen (productions l.operator) (inr (inr (inr (inl tt))))).made) → From l.operator ws e (worth q)
-operator_3 _ e (token {w = a} f end) = other (λ z. t_by g.Operator (λ z. refl) (t_tok (ap is_operator (mk "^" a f)) t_end)) (λ j. (binary_op (plain_kind (codes "^") a f j), a.token.pos))
-
-operator_4 : (ws : List Word) (e : Bool) (q : Got (parts_of l.operator (inr (inr (inr (inr (inl tt)))))) ws e (l.Meaning l.operator) (chosen (productions l.operator) (inr (inr (inr (inr (inl tt)))))).made) → From l.operator ws e (worth q)
-operator_4 _ e (token {w = a} f end) = other (λ z. t_by g.Operator (λ z. refl) (t_tok (ap is_operator (mk "&" a f)) t_end)) (λ j. (binary_op (plain_kind (codes "&") a f j), a.token.pos))
-
-operator_5 : (ws : List Word) (e : Bool) (q : Got (parts_of l.operator (inr (inr (inr (inr (inr (inl tt))))))) ws e (l.Meaning l.operator) (chosen (productions l.operator) (inr (inr (inr (inr (inr (inl tt))))))).made) → From l.operator ws e (worth q)
-operator_5 _ e (token {w = a} f end) = other (λ z. t_by g.Operator (λ z. refl) (t_tok (ap is_operator (mk "==" a f)) t_end)) (λ j. (binary_op (plain_kind (codes "==") a f j), a.token.pos))
-
-operator_6 : (ws : List Word) (e : Bool) (q : Got (parts_of l.operator (inr (inr (inr (inr (inr (inr (inl tt)))))))) ws e (l.Meaning l.operator) (chosen (productions l.operator) (inr (inr (inr (inr (inr (inr (inl tt)))))))).made) → From l.operator ws e (worth q)
-operator_6 _ e (token {w = a} f end) = other (λ z. t_by g.Operator (λ z. refl) (t_tok (ap is_operator (mk "!=" a f)) t_end)) (λ j. (binary_op (plain_kind (codes "!=") a f j), a.token.pos))
-
-operator_7 : (ws : List Word) (e : Bool) (q : Got (parts_of l.operator (inr (inr (inr (inr (inr (inr (inr (inl tt))))))))) ws e (l.Meaning l.operator) (chosen (productions l.operator) (inr (inr (inr (inr (inr (inr (inr (inl tt))))))))).made) → From l.operator ws e (worth q)
-operator_7 _ e (token {w = a} f end) = less (mk "<" a f) refl refl
-
-operator_8 : (ws : List Word) (e : Bool) (q : Got (parts_of l.operator (inr (inr (inr (inr (inr (inr (inr (inr (inl tt)))))))))) ws e (l.Meaning l.operator) (chosen (productions l.operator) (inr (inr (inr (inr (inr (inr (inr (inr (inl tt)))))))))).made) → From l.operator ws e (worth q)
-operator_8 _ e (token {w = a} f end) = other (λ z. t_by g.Operator (λ z. refl) (t_tok (ap is_operator (mk "<=" a f)) t_end)) (λ j. (binary_op (plain_kind (codes "<=") a f j), a.token.pos))
-
-operator_9 : (ws : List Word) (e : Bool) (q : Got (parts_of l.operator (inr (inr (inr (inr (inr (inr (inr (inr (inr (inl tt))))))))))) ws e (l.Meaning l.operator) (chosen (productions l.operator) (inr (inr (inr (inr (inr (inr (inr (inr (inr (inl tt))))))))))).made) → From l.operator ws e (worth q)
-operator_9 _ e (token {w = a} f end) = other (λ z. t_by g.Greater (λ z. refl) (t_tok (greater_kind a f) (t_last (λ z. t_by g.NoSecond (λ z. refl) t_end)))) refl
-
-operator_10 : (ws : List Word) (e : Bool) (q : Got (parts_of l.operator (inr (inr (inr (inr (inr (inr (inr (inr (inr (inr (inl tt)))))))))))) ws e (l.Meaning l.operator) (chosen (productions l.operator) (inr (inr (inr (inr (inr (inr (inr (inr (inr (inr (inl tt)))))))))))).made) → From l.operator ws e (worth q)
-operator_10 _ e (token {w = a} f end) = other (λ z. t_by g.Operator (λ z. refl) (t_tok (ap is_operator (mk ">=" a f)) t_end)) (λ j. (binary_op (plain_kind (codes ">=") a f j), a.token.pos))
-
-operator_11 : (ws : List Word) (e : Bool) (q : Got (parts_of l.operator (inr (inr (inr (inr (inr (inr (inr (inr (inr (inr (inr (inl tt))))))))))))) ws e (l.Meaning l.operator) (chosen (productions l.operator) (inr (inr (inr (inr (inr (inr (inr (inr (inr (inr (inr (inl tt))))))))))))).made) → From l.operator ws e (worth q)
-operator_11 _ e (token {w = a} f end) = other (λ z. t_by g.Operator (λ z. refl) (t_tok (ap is_operator (mk "<<" a f)) t_end)) (λ j. (binary_op (plain_kind (codes "<<") a f j), a.token.pos))
-
-operator_12 : (ws : List Word) (e : Bool) (q : Got (parts_of l.operator (inr (inr (inr (inr (inr (inr (inr (inr (inr (inr (inr (inr (inl tt)))))))))))))) ws e (l.Meaning l.operator) (chosen (productions l.operator) (inr (inr (inr (inr (inr (inr (inr (inr (inr (inr (inr (inr (inl tt)))))))))))))).made) → From l.operator ws e (worth q)
-operator_12 _ e (token {w = a} f (token {w = b} f2 end)) = other (λ z. t_by g.Greater (λ z. refl) (t_tok (greater_kind a f) (t_last (λ z. t_by g.Second (λ z. refl) (t_tok (next_kind b f2) t_end))))) refl
-
-operator_13 : (ws : List Word) (e : Bool) (q : Got (parts_of l.operator (inr (inr (inr (inr (inr (inr (inr (inr (inr (inr (inr (inr (inr (inl tt))))))))))))))) ws e (l.Meaning l.operator) (chosen (productions l.operator) (inr (inr (inr (inr (inr (inr (inr (inr (inr (inr (inr (inr (inr (inl tt))))))))))))))).made) → From l.operator ws e (worth q)
-operator_13 _ e (token {w = a} f end) = other (λ z. t_by g.Operator (λ z. refl) (t_tok (ap is_operator (mk "+" a f)) t_end)) (λ j. (binary_op (plain_kind (codes "+") a f j), a.token.pos))
-
-operator_14 : (ws : List Word) (e : Bool) (q : Got (parts_of l.operator (inr (inr (inr (inr (inr (inr (inr (inr (inr (inr (inr (inr (inr (inr (inl tt)))))))))))))))) ws e (l.Meaning l.operator) (chosen (productions l.operator) (inr (inr (inr (inr (inr (inr (inr (inr (inr (inr (inr (inr (inr (inr (inl tt)))))))))))))))).made) → From l.operator ws e (worth q)
-operator_14 _ e (token {w = a} f end) = other (λ z. t_by g.Operator (λ z. refl) (t_tok (ap is_operator (mk "-" a f)) t_end)) (λ j. (binary_op (plain_kind (codes "-") a f j), a.token.pos))
-
-operator_15 : (ws : List Word) (e : Bool) (q : Got (parts_of l.operator (inr (inr (inr (inr (inr (inr (inr (inr (inr (inr (inr (inr (inr (inr (inr (inl tt))))))))))))))))) ws e (l.Meaning l.operator) (chosen (productions l.operator) (inr (inr (inr (inr (inr (inr (inr (inr (inr (inr (inr (inr (inr (inr (inr (inl tt))))))))))))))))).made) → From l.operator ws e (worth q)
-operator_15 _ e (token {w = a} f end) = other (λ z. t_by g.Operator (λ z. refl) (t_tok (ap is_operator (mk "*" a f)) t_end)) (λ j. (binary_op (plain_kind (codes "*") a f j), a.token.pos))
-
-operator_16 : (ws : List Word) (e : Bool) (q : Got (parts_of l.operator (inr (inr (inr (inr (inr (inr (inr (inr (inr (inr (inr (inr (inr (inr (inr (inr (inl tt)))))))))))))))))) ws e (l.Meaning l.operator) (chosen (productions l.operator) (inr (inr (inr (inr (inr (inr (inr (inr (inr (inr (inr (inr (inr (inr (inr (inr (inl tt)))))))))))))))))).made) → From l.operator ws e (worth q)
-operator_16 _ e (token {w = a} f end) = other (λ z. t_by g.Operator (λ z. refl) (t_tok (ap is_operator (mk "/" a f)) t_end)) (λ j. (binary_op (plain_kind (codes "/") a f j), a.token.pos))
-
-operator_17 : (ws : List Word) (e : Bool) (q : Got (parts_of l.operator (inr (inr (inr (inr (inr (inr (inr (inr (inr (inr (inr (inr (inr (inr (inr (inr (inr (inl tt))))))))))))))))))) ws e (l.Meaning l.operator) (chosen (productions l.operator) (inr (inr (inr (inr (inr (inr (inr (inr (inr (inr (inr (inr (inr (inr (inr (inr (inr (inl tt))))))))))))))))))).made) → From l.operator ws e (worth q)
-operator_17 _ e (token {w = a} f end) = other (λ z. t_by g.Operator (λ z. refl) (t_tok (ap is_operator (mk "%" a f)) t_end)) (λ j. (binary_op (plain_kind (codes "%") a f j), a.token.pos))
-
 unary_0 : (ws : List Word) (e : Bool) (q : Got (parts_of l.unary (inl tt)) ws e (l.Meaning l.unary) (chosen (productions l.unary) (inl tt)).made) → From l.unary ws e (worth q)
-unary_0 _ e (token {w = a} f (piece us m x end h)) = let X = unary_of x in by_first (λ z. t_by g.Signed (λ z. refl) (t_tok (ap is_sign (mk "-" a f)) (t_part X.1 t_end h))) (λ j. expr_at (node.Un (sign_op (plain_kind (codes "-") a f j)) (X.2 j)) a.token.pos)
+unary_0 _ e (token {w = a} f (piece us m x end h)) = unary_named (λ j. expr_at (node.Un (sign_op (plain_kind (codes "-") a f j)) m) a.token.pos) (signed_by a (ap is_sign (mk "-" a f)) x h)
 
 unary_1 : (ws : List Word) (e : Bool) (q : Got (parts_of l.unary (inr (inl tt))) ws e (l.Meaning l.unary) (chosen (productions l.unary) (inr (inl tt))).made) → From l.unary ws e (worth q)
-unary_1 _ e (token {w = a} f (piece us m x end h)) = let X = unary_of x in by_first (λ z. t_by g.Signed (λ z. refl) (t_tok (ap is_sign (mk "+" a f)) (t_part X.1 t_end h))) (λ j. expr_at (node.Un (sign_op (plain_kind (codes "+") a f j)) (X.2 j)) a.token.pos)
+unary_1 _ e (token {w = a} f (piece us m x end h)) = unary_named (λ j. expr_at (node.Un (sign_op (plain_kind (codes "+") a f j)) m) a.token.pos) (signed_by a (ap is_sign (mk "+" a f)) x h)
 
 unary_2 : (ws : List Word) (e : Bool) (q : Got (parts_of l.unary (inr (inr (inl tt)))) ws e (l.Meaning l.unary) (chosen (productions l.unary) (inr (inr (inl tt)))).made) → From l.unary ws e (worth q)
-unary_2 _ e (token {w = a} f (piece us m x end h)) = let X = unary_of x in by_first (λ z. t_by g.Signed (λ z. refl) (t_tok (ap is_sign (mk "!" a f)) (t_part X.1 t_end h))) (λ j. expr_at (node.Un (sign_op (plain_kind (codes "!") a f j)) (X.2 j)) a.token.pos)
+unary_2 _ e (token {w = a} f (piece us m x end h)) = unary_named (λ j. expr_at (node.Un (sign_op (plain_kind (codes "!") a f j)) m) a.token.pos) (signed_by a (ap is_sign (mk "!" a f)) x h)
 
 unary_3 : (ws : List Word) (e : Bool) (q : Got (parts_of l.unary (inr (inr (inr (inl tt))))) ws e (l.Meaning l.unary) (chosen (productions l.unary) (inr (inr (inr (inl tt))))).made) → From l.unary ws e (worth q)
-unary_3 _ e (token {w = a} f (piece us m x end h)) = let X = unary_of x in by_first (λ z. t_by g.Signed (λ z. refl) (t_tok (ap is_sign (mk "~" a f)) (t_part X.1 t_end h))) (λ j. expr_at (node.Un (sign_op (plain_kind (codes "~") a f j)) (X.2 j)) a.token.pos)
+unary_3 _ e (token {w = a} f (piece us m x end h)) = unary_named (λ j. expr_at (node.Un (sign_op (plain_kind (codes "~") a f j)) m) a.token.pos) (signed_by a (ap is_sign (mk "~" a f)) x h)
 
 unary_4 : (ws : List Word) (e : Bool) (q : Got (parts_of l.unary (inr (inr (inr (inr (inl tt)))))) ws e (l.Meaning l.unary) (chosen (productions l.unary) (inr (inr (inr (inr (inl tt)))))).made) → From l.unary ws e (worth q)
-unary_4 _ e (token {w = a} f (piece us m x end h)) = let X = unary_of x in by_first (λ z. t_by g.Signed (λ z. refl) (t_tok (ap is_sign (mk "*" a f)) (t_part X.1 t_end h))) (λ j. expr_at (node.Un (sign_op (plain_kind (codes "*") a f j)) (X.2 j)) a.token.pos)
+unary_4 _ e (token {w = a} f (piece us m x end h)) = unary_named (λ j. expr_at (node.Un (sign_op (plain_kind (codes "*") a f j)) m) a.token.pos) (signed_by a (ap is_sign (mk "*" a f)) x h)
 
 unary_5 : (ws : List Word) (e : Bool) (q : Got (parts_of l.unary (inr (inr (inr (inr (inr (inl tt))))))) ws e (l.Meaning l.unary) (chosen (productions l.unary) (inr (inr (inr (inr (inr (inl tt))))))).made) → From l.unary ws e (worth q)
-unary_5 _ e (token {w = a} f (piece us m x end h)) = let X = unary_of x in by_first (λ z. t_by g.Signed (λ z. refl) (t_tok (ap is_sign (mk "&" a f)) (t_part X.1 t_end h))) (λ j. expr_at (node.Un (sign_op (plain_kind (codes "&") a f j)) (X.2 j)) a.token.pos)
+unary_5 _ e (token {w = a} f (piece us m x end h)) = unary_named (λ j. expr_at (node.Un (sign_op (plain_kind (codes "&") a f j)) m) a.token.pos) (signed_by a (ap is_sign (mk "&" a f)) x h)
 
 unary_6 : (ws : List Word) (e : Bool) (q : Got (parts_of l.unary (inr (inr (inr (inr (inr (inr (inl tt)))))))) ws e (l.Meaning l.unary) (chosen (productions l.unary) (inr (inr (inr (inr (inr (inr (inl tt)))))))).made) → From l.unary ws e (worth q)
-unary_6 _ e (token {w = a} f (piece us m ty (token {w = c} f2 (piece vs m2 x end h2)) h1)) =
-    let B = type_of ty in
+unary_6 _ e (piece us m o (piece vs m2 x end h2) h1) =
     let X = unary_of x in
-    by_first (λ z. t_by g.Round (λ z. refl) (t_tok (mk "(" a f) (t_last (λ z. t_by g.Cast (λ z. refl) (t_part B.1 (t_tok (mk ")" c f2) (t_part X.1 t_end h2)) h1))))) (λ j. expr_at (node.Cast (B.2 j) (X.2 j)) a.token.pos)
+    steps o.2 X.1 (ap (λ z. z ++ vs) o.1 ∙ ap (λ z. us ++ z) (cut h2) ∙ h1) (λ j. L.set_by (X.2 j) (o.3 j) (L.one_at (o.3 j).1))
 
 unary_7 : (ws : List Word) (e : Bool) (q : Got (parts_of l.unary (inr (inr (inr (inr (inr (inr (inr (inl tt))))))))) ws e (l.Meaning l.unary) (chosen (productions l.unary) (inr (inr (inr (inr (inr (inr (inr (inl tt))))))))).made) → From l.unary ws e (worth q)
-unary_7 _ e (token {w = a} f (token {w = b} f2 (piece us m ty (token {w = c} f3 end) h))) =
-    let B = type_of ty in by_first (λ z. t_by g.Sizeof (λ z. refl) (t_tok (kw "sizeof" a f) (t_tok (mk "(" b f2) (t_part B.1 (t_tok (mk ")" c f3) t_end) h)))) (λ j. expr_at (node.Size (B.2 j)) a.token.pos)
+unary_7 _ e (token {w = a} f (piece us m ty (token {w = c} f2 (piece vs m2 x end h2)) h1)) = cast_by a c (mk "(" a f) ty (mk ")" c f2) x h2 h1
 
 unary_8 : (ws : List Word) (e : Bool) (q : Got (parts_of l.unary (inr (inr (inr (inr (inr (inr (inr (inr (inl tt)))))))))) ws e (l.Meaning l.unary) (chosen (productions l.unary) (inr (inr (inr (inr (inr (inr (inr (inr (inl tt)))))))))).made) → From l.unary ws e (worth q)
-unary_8 _ e (piece us m x end h) = unary_moved (cut h) x
+unary_8 _ e (token {w = a} f (token {w = b} f2 (piece us m ty (token {w = c} f3 end) h))) = sized_by a b c (kw "sizeof" a f) (mk "(" b f2) ty (mk ")" c f3) h
+
+unary_9 : (ws : List Word) (e : Bool) (q : Got (parts_of l.unary (inr (inr (inr (inr (inr (inr (inr (inr (inr (inl tt))))))))))) ws e (l.Meaning l.unary) (chosen (productions l.unary) (inr (inr (inr (inr (inr (inr (inr (inr (inr (inl tt))))))))))).made) → From l.unary ws e (worth q)
+unary_9 _ e (piece us m x (piece vs m2 (absent q i) end h2) h1) = ends x no_increment (ap (λ z. us ++ z) (q ∙ cut h2) ∙ h1) (ap (λ z. L.incremented m z) i)
+unary_9 _ e (piece us m x (piece vs m2 (present d i) end h2) h1) = ends x (one_increment d.0 d.2) (ap (λ z. us ++ z) (d.1 ∙ cut h2) ∙ h1) ((λ j. L.incremented m (Some (d.3 j))) ∙ ap (λ z. L.incremented m z) i)
 
 postfix_0 : (ws : List Word) (e : Bool) (q : Got (parts_of l.postfix (inl tt)) ws e (l.Meaning l.postfix) (chosen (productions l.postfix) (inl tt)).made) → From l.postfix ws e (worth q)
-postfix_0 _ e (piece us m p (piece vs m2 ps end h2) h1) = unary_moved (ap (λ z. us ++ z) (cut h2) ∙ h1) (p vs _ m2 ps)
+postfix_0 _ e (piece us m p (piece vs m2 ps end h2) h1) = postfix_moved (ap (λ z. us ++ z) (cut h2) ∙ h1) (p vs _ m2 ps)
 
 post_0 : (ws : List Word) (e : Bool) (q : Got (parts_of l.post (inl tt)) ws e (l.Meaning l.post) (chosen (productions l.post) (inl tt)).made) → From l.post ws e (worth q)
 post_0 _ e (token {w = a} f (piece us m x (token {w = c} f2 end) h)) =
@@ -415,33 +386,42 @@ post_2 : (ws : List Word) (e : Bool) (q : Got (parts_of l.post (inr (inr (inl tt
 post_2 _ e (token {w = a} f (token {w = b} f2 end)) = (_, (λ z. t_by g.Arrow (λ z. refl) (t_tok (mk "->" a f) (t_tok (name_kind b f2) t_end))), λ y ps. refl)
 
 primary_0 : (ws : List Word) (e : Bool) (q : Got (parts_of l.primary (inl tt)) ws e (l.Meaning l.primary) (chosen (productions l.primary) (inl tt)).made) → From l.primary ws e (worth q)
-primary_0 _ e (token {w = w} f end) = λ us d fs ps. by_name (name_kind w f) ps refl refl
+primary_0 _ e (token {w = w} f end) = λ us d fs ps. by_name (name_kind w f) no_call ps refl refl
 
 primary_1 : (ws : List Word) (e : Bool) (q : Got (parts_of l.primary (inr (inl tt))) ws e (l.Meaning l.primary) (chosen (productions l.primary) (inr (inl tt))).made) → From l.primary ws e (worth q)
-primary_1 _ e (token {w = w} f end) = λ us d fs ps. first_by (constant_by (λ z. t_by g.Literal (λ z. refl) (t_tok (ap is_literal (number_kind w f)) t_end)) refl) ps
+primary_1 _ e (token {w = w} f (token {w = a} f2 (token {w = c} f3 end))) = λ us d fs ps. by_name (name_kind w f) (with_call (mk "(" a f2) (λ z. t_by g.NoArguments (λ z. refl) (t_tok (mk ")" c f3) t_end))) ps refl refl
 
 primary_2 : (ws : List Word) (e : Bool) (q : Got (parts_of l.primary (inr (inr (inl tt)))) ws e (l.Meaning l.primary) (chosen (productions l.primary) (inr (inr (inl tt)))).made) → From l.primary ws e (worth q)
-primary_2 _ e (token {w = w} f end) = λ us d fs ps. first_by (constant_by (λ z. t_by g.Literal (λ z. refl) (t_tok (ap is_literal (character_kind w f)) t_end)) refl) ps
+primary_2 _ e (token {w = w} f (token {w = a} f2 (piece us m (comma_form {us = xs} {ys = rest} x more1 q i) (token {w = c} f3 end) h))) = λ vs d fs ps.
+    let X = expr_of x in
+    let R = arguments_of c more1 (mk ")" c f3) in
+    by_name (name_kind w f) (with_call (mk "(" a f2) (λ z. t_by g.Arguments (λ z. refl) (t_part X.1 (t_last R.1) (joint xs rest (c ∷ []) q h)))) ps refl (ap (λ z. applied (v.called w.token z) fs) (cons_eq X.2 R.2 ∙ i))
 
 primary_3 : (ws : List Word) (e : Bool) (q : Got (parts_of l.primary (inr (inr (inr (inl tt))))) ws e (l.Meaning l.primary) (chosen (productions l.primary) (inr (inr (inr (inl tt))))).made) → From l.primary ws e (worth q)
-primary_3 _ e (token {w = w} f end) = λ us d fs ps. first_by (constant_by (λ z. t_by g.String (λ z. refl) (t_tok (string_kind w f) t_end)) refl) ps
+primary_3 _ e (token {w = w} f end) = λ us d fs ps. first_by (constant_by (λ z. t_by g.Literal (λ z. refl) (t_tok (ap is_literal (number_kind w f)) t_end)) refl) ps
 
 primary_4 : (ws : List Word) (e : Bool) (q : Got (parts_of l.primary (inr (inr (inr (inr (inl tt)))))) ws e (l.Meaning l.primary) (chosen (productions l.primary) (inr (inr (inr (inr (inl tt)))))).made) → From l.primary ws e (worth q)
-primary_4 _ e (token {w = w} f end) = λ us d fs ps. first_by (constant_by (λ z. t_by g.Null (λ z. refl) (t_tok (kw "NULL" w f) t_end)) refl) ps
+primary_4 _ e (token {w = w} f end) = λ us d fs ps. first_by (constant_by (λ z. t_by g.Literal (λ z. refl) (t_tok (ap is_literal (character_kind w f)) t_end)) refl) ps
 
 primary_5 : (ws : List Word) (e : Bool) (q : Got (parts_of l.primary (inr (inr (inr (inr (inr (inl tt))))))) ws e (l.Meaning l.primary) (chosen (productions l.primary) (inr (inr (inr (inr (inr (inl tt))))))).made) → From l.primary ws e (worth q)
-primary_5 _ e (token {w = w} f end) = λ us d fs ps. first_by (constant_by (λ z. t_by g.Eof (λ z. refl) (t_tok (kw "EOF" w f) t_end)) refl) ps
+primary_5 _ e (token {w = w} f end) = λ us d fs ps. first_by (constant_by (λ z. t_by g.String (λ z. refl) (t_tok (string_kind w f) t_end)) refl) ps
 
 primary_6 : (ws : List Word) (e : Bool) (q : Got (parts_of l.primary (inr (inr (inr (inr (inr (inr (inl tt)))))))) ws e (l.Meaning l.primary) (chosen (productions l.primary) (inr (inr (inr (inr (inr (inr (inl tt)))))))).made) → From l.primary ws e (worth q)
-primary_6 _ e (token {w = a} f (piece us m x (token {w = c} f2 end) h)) = λ vs d fs ps. round_by a c (mk "(" a f) x (mk ")" c f2) h ps
+primary_6 _ e (token {w = w} f end) = λ us d fs ps. first_by (constant_by (λ z. t_by g.Null (λ z. refl) (t_tok (kw "NULL" w f) t_end)) refl) ps
 
 primary_7 : (ws : List Word) (e : Bool) (q : Got (parts_of l.primary (inr (inr (inr (inr (inr (inr (inr (inl tt))))))))) ws e (l.Meaning l.primary) (chosen (productions l.primary) (inr (inr (inr (inr (inr (inr (inr (inl tt))))))))).made) → From l.primary ws e (worth q)
-primary_7 _ e (token {w = q} f0 (token {w = a} f (piece us m ty (token {w = b} f2 (token {w = c} f3 (piece vs m2 x (piece xs m3 r (token {w = d} f4 end) h3) h2))) h1))) = λ ws1 d1 fs ps.
+primary_7 _ e (token {w = w} f end) = λ us d fs ps. first_by (constant_by (λ z. t_by g.Eof (λ z. refl) (t_tok (kw "EOF" w f) t_end)) refl) ps
+
+primary_8 : (ws : List Word) (e : Bool) (q : Got (parts_of l.primary (inr (inr (inr (inr (inr (inr (inr (inr (inl tt)))))))))) ws e (l.Meaning l.primary) (chosen (productions l.primary) (inr (inr (inr (inr (inr (inr (inr (inr (inl tt)))))))))).made) → From l.primary ws e (worth q)
+primary_8 _ e (token {w = a} f (piece us m x (token {w = c} f2 end) h)) = λ vs d fs ps. round_by a c (mk "(" a f) x (mk ")" c f2) h ps
+
+primary_9 : (ws : List Word) (e : Bool) (q : Got (parts_of l.primary (inr (inr (inr (inr (inr (inr (inr (inr (inr (inl tt))))))))))) ws e (l.Meaning l.primary) (chosen (productions l.primary) (inr (inr (inr (inr (inr (inr (inr (inr (inr (inl tt))))))))))).made) → From l.primary ws e (worth q)
+primary_9 _ e (token {w = q} f0 (token {w = a} f (piece us m ty (token {w = b} f2 (token {w = c} f3 (piece vs m2 x (piece xs m3 r (token {w = d} f4 end) h3) h2))) h1))) = λ ws1 d1 fs ps.
     let C = cast_of a b c d (mk "<" a f) ty (greater_kind b f2) (mk "(" c f3) x r (mk ")" d f4) h3 h2 h1 in
     first_by (_, (λ z. t_by g.Tested (λ z. refl) (t_tok (ei "_Dynamic_bounds_cast" "dynamic_bounds_cast" k.Tested q f0 refl refl) (t_last C.1))), λ j. expr_at (node.Tested (C.2 j) (C.3 j) (C.4 j)) q.token.pos) ps
 
-primary_8 : (ws : List Word) (e : Bool) (q : Got (parts_of l.primary (inr (inr (inr (inr (inr (inr (inr (inr (inl tt)))))))))) ws e (l.Meaning l.primary) (chosen (productions l.primary) (inr (inr (inr (inr (inr (inr (inr (inr (inl tt)))))))))).made) → From l.primary ws e (worth q)
-primary_8 _ e (token {w = q} f0 (token {w = a} f (piece us m ty (token {w = b} f2 (token {w = c} f3 (piece vs m2 x (piece xs m3 r (token {w = d} f4 end) h3) h2))) h1))) = λ ws1 d1 fs ps.
+primary_10 : (ws : List Word) (e : Bool) (q : Got (parts_of l.primary (inr (inr (inr (inr (inr (inr (inr (inr (inr (inr (inl tt)))))))))))) ws e (l.Meaning l.primary) (chosen (productions l.primary) (inr (inr (inr (inr (inr (inr (inr (inr (inr (inr (inl tt)))))))))))).made) → From l.primary ws e (worth q)
+primary_10 _ e (token {w = q} f0 (token {w = a} f (piece us m ty (token {w = b} f2 (token {w = c} f3 (piece vs m2 x (piece xs m3 r (token {w = d} f4 end) h3) h2))) h1))) = λ ws1 d1 fs ps.
     let C = cast_of a b c d (mk "<" a f) ty (greater_kind b f2) (mk "(" c f3) x r (mk ")" d f4) h3 h2 h1 in
     first_by (_, (λ z. t_by g.Trusted (λ z. refl) (t_tok (ei "_Assume_bounds_cast" "assume_bounds_cast" k.Trusted q f0 refl refl) (t_last C.1))), λ j. expr_at (node.Trusted (C.2 j) (C.3 j) (C.4 j)) q.token.pos) ps
 
@@ -599,7 +579,30 @@ of_right (inr (inr c)) ws e q = absurd c
 
 of_assign : (c : Choice (productions l.assign)) (ws : List Word) (e : Bool) (q : Got (parts_of l.assign c) ws e (l.Meaning l.assign) (chosen (productions l.assign) c).made) → From l.assign ws e (worth q)
 of_assign (inl x) ws e q = assign_0 ws e q
-of_assign (inr c) ws e q = absurd c
+of_assign (inr (inl x)) ws e q = assign_1 ws e q
+of_assign (inr (inr (inl x))) ws e q = assign_2 ws e q
+of_assign (inr (inr (inr (inl x)))) ws e q = assign_3 ws e q
+of_assign (inr (inr (inr (inr c)))) ws e q = absurd c
+
+of_op : (c : Choice (productions l.op)) (ws : List Word) (e : Bool) (q : Got (parts_of l.op c) ws e (l.Meaning l.op) (chosen (productions l.op) c).made) → From l.op ws e (worth q)
+of_op (inl x) ws e q = op_0 ws e q
+of_op (inr (inl x)) ws e q = op_1 ws e q
+of_op (inr (inr (inl x))) ws e q = op_2 ws e q
+of_op (inr (inr (inr (inl x)))) ws e q = op_3 ws e q
+of_op (inr (inr (inr (inr (inl x))))) ws e q = op_4 ws e q
+of_op (inr (inr (inr (inr (inr (inl x)))))) ws e q = op_5 ws e q
+of_op (inr (inr (inr (inr (inr (inr (inl x))))))) ws e q = op_6 ws e q
+of_op (inr (inr (inr (inr (inr (inr (inr (inl x)))))))) ws e q = op_7 ws e q
+of_op (inr (inr (inr (inr (inr (inr (inr (inr c)))))))) ws e q = absurd c
+
+of_increment : (c : Choice (productions l.increment)) (ws : List Word) (e : Bool) (q : Got (parts_of l.increment c) ws e (l.Meaning l.increment) (chosen (productions l.increment) c).made) → From l.increment ws e (worth q)
+of_increment (inl x) ws e q = increment_0 ws e q
+of_increment (inr (inl x)) ws e q = increment_1 ws e q
+of_increment (inr (inr c)) ws e q = absurd c
+
+of_calloc_part : (c : Choice (productions l.calloc)) (ws : List Word) (e : Bool) (q : Got (parts_of l.calloc c) ws e (l.Meaning l.calloc) (chosen (productions l.calloc) c).made) → From l.calloc ws e (worth q)
+of_calloc_part (inl x) ws e q = calloc_0 ws e q
+of_calloc_part (inr c) ws e q = absurd c
 
 of_change : (c : Choice (productions l.change)) (ws : List Word) (e : Bool) (q : Got (parts_of l.change c) ws e (l.Meaning l.change) (chosen (productions l.change) c).made) → From l.change ws e (worth q)
 of_change (inl x) ws e q = change_0 ws e q
@@ -636,7 +639,9 @@ of_call (inr (inr (inr c))) ws e q = absurd c
 of_expr : (c : Choice (productions l.expr)) (ws : List Word) (e : Bool) (q : Got (parts_of l.expr c) ws e (l.Meaning l.expr) (chosen (productions l.expr) c).made) → From l.expr ws e (worth q)
 of_expr (inl x) ws e q = expr_0 ws e q
 of_expr (inr (inl x)) ws e q = expr_1 ws e q
-of_expr (inr (inr c)) ws e q = absurd c
+of_expr (inr (inr (inl x))) ws e q = expr_2 ws e q
+of_expr (inr (inr (inr (inl x)))) ws e q = expr_3 ws e q
+of_expr (inr (inr (inr (inr c)))) ws e q = absurd c
 
 of_binary : (c : Choice (productions l.binary)) (ws : List Word) (e : Bool) (q : Got (parts_of l.binary c) ws e (l.Meaning l.binary) (chosen (productions l.binary) c).made) → From l.binary ws e (worth q)
 of_binary (inl x) ws e q = binary_0 ws e q
@@ -677,7 +682,8 @@ of_unary (inr (inr (inr (inr (inr (inl x)))))) ws e q = unary_5 ws e q
 of_unary (inr (inr (inr (inr (inr (inr (inl x))))))) ws e q = unary_6 ws e q
 of_unary (inr (inr (inr (inr (inr (inr (inr (inl x)))))))) ws e q = unary_7 ws e q
 of_unary (inr (inr (inr (inr (inr (inr (inr (inr (inl x))))))))) ws e q = unary_8 ws e q
-of_unary (inr (inr (inr (inr (inr (inr (inr (inr (inr c))))))))) ws e q = absurd c
+of_unary (inr (inr (inr (inr (inr (inr (inr (inr (inr (inl x)))))))))) ws e q = unary_9 ws e q
+of_unary (inr (inr (inr (inr (inr (inr (inr (inr (inr (inr c)))))))))) ws e q = absurd c
 
 of_postfix : (c : Choice (productions l.postfix)) (ws : List Word) (e : Bool) (q : Got (parts_of l.postfix c) ws e (l.Meaning l.postfix) (chosen (productions l.postfix) c).made) → From l.postfix ws e (worth q)
 of_postfix (inl x) ws e q = postfix_0 ws e q
@@ -699,7 +705,9 @@ of_primary (inr (inr (inr (inr (inr (inl x)))))) ws e q = primary_5 ws e q
 of_primary (inr (inr (inr (inr (inr (inr (inl x))))))) ws e q = primary_6 ws e q
 of_primary (inr (inr (inr (inr (inr (inr (inr (inl x)))))))) ws e q = primary_7 ws e q
 of_primary (inr (inr (inr (inr (inr (inr (inr (inr (inl x))))))))) ws e q = primary_8 ws e q
-of_primary (inr (inr (inr (inr (inr (inr (inr (inr (inr c))))))))) ws e q = absurd c
+of_primary (inr (inr (inr (inr (inr (inr (inr (inr (inr (inl x)))))))))) ws e q = primary_9 ws e q
+of_primary (inr (inr (inr (inr (inr (inr (inr (inr (inr (inr (inl x))))))))))) ws e q = primary_10 ws e q
+of_primary (inr (inr (inr (inr (inr (inr (inr (inr (inr (inr (inr c))))))))))) ws e q = absurd c
 
 of_opt : (p : l.Part) (c : Choice (productions (l.opt p))) (ws : List Word) (e : Bool) (q : Got (parts_of (l.opt p) c) ws e (l.Meaning (l.opt p)) (chosen (productions (l.opt p)) c).made) → From (l.opt p) ws e (worth q)
 of_opt p (inl x) ws e q = opt_0 p ws e q
@@ -747,7 +755,10 @@ alternative l.line c ws e q = of_line c ws e q
 alternative l.local c ws e q = of_local c ws e q
 alternative l.local_name c ws e q = of_local_name c ws e q
 alternative l.right c ws e q = of_right c ws e q
+alternative l.calloc c ws e q = of_calloc_part c ws e q
 alternative l.assign c ws e q = of_assign c ws e q
+alternative l.op c ws e q = of_op c ws e q
+alternative l.increment c ws e q = of_increment c ws e q
 alternative l.change c ws e q = of_change c ws e q
 alternative l.stmt c ws e q = of_stmt c ws e q
 alternative l.start c ws e q = of_start c ws e q

@@ -11,16 +11,17 @@ use Rattle.ckc_syntax.specs.declared.tree.Init.TheVariants as inits
 use Rattle.ckc_syntax.specs.declared.tree.Limits.TheVariants as bounds
 use Rattle.ckc_syntax.specs.declared.tree.Node.TheVariants as node
 use Rattle.ckc_syntax.specs.declared.tree.Act.TheVariants as act
+use Rattle.ckc_parser_grammar.specs.declared.parts.Setting.{Setting}
 use Rattle.ckc_parser_grammar.specs.declared.kind.Kind.{Kind}
 use Rattle.ckc_parser_grammar.specs.declared.kind.Kind.TheVariants as k
-use Rattle.ckc_parser_grammar.specs.code.Kinds.{kind_of_name, kind_of_keyword, kind_of_mark}
+use Rattle.ckc_parser_grammar.specs.code.Kinds.{kind_of_name, kind_of_keyword, kind_of_mark, kind_of_token, is_sign, is_increment, sign_op}
 use Rattle.ckc_parser_grammar.specs.code.Grammar.{is_name, is_greater, not_else}
 use Rattle.ckc_parser_grammar.specs.code.Grammar as g
 use Rattle.ckc_parser_grammar.specs.code.Signs.{glued}
 use Rattle.ckc_parser_grammar.specs.code.Derives as D
 use Rattle.ckc_parser_grammar.specs.code.Trees as T
 use Rattle.ckc_parser_grammar.specs.code.Values as v
-use Rattle.ckc_parser_grammar.specs.code.Values.{Value, made, whole, as_items, as_items_of_base, as_item_of_head, as_decls, as_decls_of_base, as_length, as_size, as_init, as_type, as_stars, as_limits, as_declared_limits, as_value, as_expr, as_exprs, as_steps, as_arms, as_posts, as_stmt, as_stmts, as_part, as_expr_of_name}
+use Rattle.ckc_parser_grammar.specs.code.Values.{Value, made, whole, as_items, as_items_of_base, as_item_of_head, as_decls, as_decls_of_base, as_length, as_size, as_init, as_type, as_stars, as_limits, as_declared_limits, as_value, as_expr, as_exprs, as_steps, as_arms, as_posts, as_call, as_increment, as_setting, as_stmt, as_stmts, as_part, as_expr_of_name, as_stmt_of_name}
 use Rattle.ckc_grammar.specs.Trees as L
 use Rattle.ckc_grammar.specs.Trees.{Item, Decl, Init, Limits, TypeTree, Expr, Stmt, starred, expr_at}
 use Rattle.ckc_grammar.specs.Makers.{flat, given, applied, mode_of, length_of, init_of, initial_of, head_of, declared}
@@ -29,7 +30,7 @@ use Rattle.ckc_grammar.specs.Productions.{keyword, either, mark, word}
 use Rattle.ckc_grammar.specs.Derivation.{Word, fits, before_else, Choice, value}
 use Rattle.ckc_parser_grammar.proofs.Tokens.{sign_of, keyword_kind, either_kind, mark_kind, word_kind}
 use Rattle.ckc_parser_grammar.proofs.Pieces.{comma, is_else, cut}
-use Rattle.ckc_parser_grammar.proofs.Back.{At, All, Gives, t_end, t_tok, t_part_at, t_part, t_last, t_by, t_moved, Each, none, more, PostForm, Unary, by_name, by_first, ExprForm, form, rest_of, expr_of, unary_of, posts_of, calloc_or, unknown_or, BaseForm, tag, scalar, base_of, absent, present, AfterForm, after_form, comma_form, CallForm, of_name, of_type, BinaryForm, binary_form, AssignForm, assign_form, TypeForm, type_form, ItemForm, Declares, From, end, token, worth}
+use Rattle.ckc_parser_grammar.proofs.Back.{At, All, Gives, t_end, t_tok, t_part_at, t_part, t_last, t_by, t_moved, joint, Each, none, more, PostForm, CallRest, no_call, with_call, no_increment, one_increment, Postfix, by_name, by_primary, by_round, Unary, ends, steps, owes, Begun, begun_name, begun_first, begun, call_of, name_rest_of, RestForm, going, setting_form, ExprForm, form, rest_of, expr_of, unary_of, posts_of, calloc_or, unknown_or, BaseForm, tag, scalar, base_of, absent, present, AfterForm, after_form, comma_form, CallForm, of_name, of_type, of_calloc, BinaryForm, binary_form, AssignForm, named_assign, unnamed_assign, TypeForm, type_form, ItemForm, Declares, From, end, token, worth}
 
 pub kw : (s : String) (w : Word) → fits (keyword (codes s)) w ≡ true → (sign_of w).kind ≡ glued w.glued (kind_of_keyword (codes s))
 kw s w h = keyword_kind (codes s) w h
@@ -45,10 +46,6 @@ ei s r c w h i j = either_kind (codes s) (codes r) c w h i j
 
 pub cons_eq : {A : Type 0} {a b : A} {xs ys : List A} → a ≡ b → xs ≡ ys → a ∷ xs ≡ b ∷ ys
 cons_eq h k = λ i. h i ∷ k i
-
--- a list with one more part, and what stands after it
-pub joint : (xs rest tail : List Word) {us zs : List Word} → xs ++ rest ≡ us → us ++ tail ≡ zs → xs ++ (rest ++ tail) ≡ zs
-joint xs rest tail q h = sym (append_assoc xs rest tail) ∙ ap (λ z. z ++ tail) q ∙ h
 
 pub type_of : {ws : List Word} {b : TypeTree} → TypeForm ws b → Gives g.type_name ws as_type b
 type_of (type_form {ps = ps} b d h i) =
@@ -88,54 +85,80 @@ start_of c (absent h i) f = (_, t_moved (ap (λ z. z ++ (c ∷ [])) h) (λ z. t_
 start_of c (present d i) f = let X = d c f in (X.0, X.1, X.2 ∙ i)
 
 pub assign_of : {ws : List Word} {s : Stmt} → AssignForm ws s → Gives g.assign ws as_stmt s
-assign_of (assign_form {y = y} a x f d h i) =
-    let X = unary_of x in
-    (_, (λ z. t_by g.Assign (λ z. refl) (t_part X.1 (t_tok f (t_last d)) h)), (λ j. L.stmt_at (act.Assign (X.2 j) (as_expr y)) a.token.pos) ∙ i)
+assign_of (named_assign {w} {y = y} f c ps d h i) =
+    let C = call_of c in
+    let P = posts_of ps in (
+      _,
+      t_moved h (λ z. t_by g.NamedAssign (λ z. refl) (t_tok f (t_part C.1 (t_part P.1 (t_last d) refl) refl))),
+      (λ j. T.changed (T.posted (v.called_or_named w.token (C.2 j)) (as_posts P.0)) (as_increment y) (as_setting y)) ∙ ap (λ z. T.changed z (as_increment y) (as_setting y)) (P.2 _) ∙ i,
+    )
+assign_of (unnamed_assign d h) = (_, (λ z. t_by g.UnnamedAssign (λ z. refl) (t_last d)), h)
 
 pub step_part_of : {ws : List Word} {e : Bool} {o : Option Stmt} (c : Word) → From (l.opt l.assign) ws e o → (sign_of c).kind ≡ k.RoundClose → Gives g.for_step (ws ++ (c ∷ [])) as_part o
 step_part_of c (absent h i) f = (_, t_moved (ap (λ z. z ++ (c ∷ [])) h) (λ z. t_by g.NoStep (λ z. refl) (t_tok f t_end)), i)
 step_part_of c (present d i) f = let X = assign_of d in (_, (λ z. t_by g.AssignStep (λ z. refl) (t_part X.1 (t_tok f t_end) refl)), (λ j. Some (X.2 j)) ∙ i)
 
--- an assignment as a statement: the table tells apart how it begins
-pub assign_stmt : {ws us : List Word} {s : Stmt} (c : Word) → AssignForm us s → (sign_of c).kind ≡ k.Semicolon → us ++ (c ∷ []) ≡ ws → Gives g.stmt ws as_stmt s
-assign_stmt c (assign_form {us = us} {vs = vs} {y = y} a (by_first {y = x} d i) f e h j) q h2 =
-    (_, t_moved h2 (λ z. t_by g.AssignStmt (λ z. refl) (t_part d (t_tok f (t_part e (t_tok q t_end) refl)) (joint us (a ∷ vs) (c ∷ []) h refl))), (λ m. L.stmt_at (act.Assign (i m) (as_expr y)) a.token.pos) ∙ j)
-assign_stmt {ws} {s = s} c (assign_form {us = us} {vs = vs} {y = y} a (by_name {w} {us = xs} {fs = fs} n ps i v2) f e h j) q h2 = with_name (calloc_or (sign_of w).kind n)
+-- a target with what stands after it
+pub post_assign : {us vs ws : List Word} {x : Expr} {s : Stmt} {y : Value} → Postfix us x → All (g.n g.change ∷ []) vs (y ∷ []) → us ++ vs ≡ ws → T.changed x (as_increment y) (as_setting y) ≡ s → AssignForm ws s
+post_assign {vs = vs} {y = y} (by_name {w} {cs} {us} f c ps h j) d l q = named_assign f c ps d (joint (w ∷ cs) us vs h l) (ap (λ z. T.changed z (as_increment y) (as_setting y)) j ∙ q)
+post_assign {vs = vs} {y = y} (by_primary {us = xs} {vs = ys} {x = u} e ps h j) d l q =
+    let P = posts_of ps in
+    unnamed_assign (λ z. t_by g.PostfixAssign (λ z. refl) (t_part e (t_part P.1 (t_last d) refl) (joint xs ys vs h l))) (ap (λ z. T.changed z (as_increment y) (as_setting y)) (P.2 _ ∙ j) ∙ q)
+post_assign {vs = vs} {y = y} (by_round {a} c {us = xs} {vs = ys} {x = u} f e f2 ps h j) d l q =
+    let P = posts_of ps in
+    unnamed_assign (t_moved (joint (a ∷ xs) (c ∷ ys) vs h l) (λ z. t_by g.RoundAssign (λ z. refl) (t_tok f (t_last (λ z. t_by g.ParenAssign (λ z. refl) (t_part e (t_tok f2 (t_part P.1 (t_last d) refl)) refl)))))) (ap (λ z. T.changed z (as_increment y) (as_setting y)) (P.2 _ ∙ j) ∙ q)
+
+pub set_assign : {us vs ws : List Word} {x : Expr} {y : Value} {s : Setting} {r : Stmt} → Unary us x → All (g.n g.setting ∷ []) vs (y ∷ []) → as_setting y ≡ Some s → us ++ vs ≡ ws → T.assigned x s ≡ r → AssignForm ws r
+set_assign {vs = vs} {s = s} (ends {us = xs} {x = p} post no_increment l q) d e h r =
+    post_assign post (λ z. t_by g.SettingChange (λ z. refl) (t_last d)) (ap (λ z. z ++ vs) (cut l) ∙ h) (ap (λ z. T.changed p None z) e ∙ ap (λ z. T.assigned z s) q ∙ r)
+set_assign {vs = vs} {s = s} (ends {us = xs} {x = p} post (one_increment a f) l q) d e h r =
+    post_assign post (λ z. t_by g.IncrementChange (λ z. refl) (t_tok f (t_last (λ z. t_by g.LaterSetting (λ z. refl) (t_last d))))) (joint xs (a ∷ []) vs l h)
+    (ap (λ z. T.changed p (Some (v.increment_at (v.token a.token))) z) e ∙ ap (λ z. T.assigned z s) q ∙ r)
+set_assign {vs = vs} {s = s} (steps {a} {us = xs} {y = u} f d0 l q) d e h r =
+    unnamed_assign (t_moved (ap (λ z. z ++ vs) l ∙ h) (λ z. t_by g.IncrementAssign (λ z. refl) (t_tok f (t_part d0 (t_last (λ z. t_by g.LaterSetting (λ z. refl) (t_last d))) refl))))
+    (ap (λ z. T.stepped (as_expr u) (v.increment_at (v.token a.token)) z) e ∙ ap (λ z. T.assigned z s) q ∙ r)
+set_assign {vs = vs} {y = y} {s = s} (owes {y = u} d0 i t) d e h r =
+    let G = t vs y d in
+    unnamed_assign (t_moved h G.1) (G.2 ∙ ap (λ z. T.changed (as_expr u) None z) e ∙ ap (λ z. T.assigned z s) i ∙ r)
+
+pub step_assign : {a : Word} {us ws : List Word} {x : Expr} {r : Stmt} → is_increment (sign_of a).kind ≡ true → Unary us x → a ∷ us ≡ ws → T.assigned x (T.by_one (v.increment_at (v.token a.token))) ≡ r → AssignForm ws r
+step_assign {a} {us} f u h r =
+    let U = unary_of u in
+    unnamed_assign (t_moved h (λ z. t_by g.IncrementAssign (λ z. refl) (t_tok f (t_part U.1 (t_last (λ z. t_by g.NoSetting (λ z. refl) t_end)) (append-nil us))))) (ap (λ z. T.assigned z (T.by_one (v.increment_at (v.token a.token)))) U.2 ∙ r)
+
+pub post_step : (a : Word) {us ws : List Word} {x : Expr} {r : Stmt} → is_increment (sign_of a).kind ≡ true → Postfix us x → us ++ (a ∷ []) ≡ ws → T.assigned x (T.by_one (v.increment_at (v.token a.token))) ≡ r → AssignForm ws r
+post_step a f p h r = post_assign p (λ z. t_by g.IncrementChange (λ z. refl) (t_tok f (t_last (λ z. t_by g.NoSetting (λ z. refl) t_end)))) h r
+
+-- a statement that begins with a name: the table tells apart whether that is `calloc`
+named_line : {w : Word} {xs us ws : List Word} {y : Value} (c : Word) → is_name (sign_of w).kind ≡ true → All (g.n g.named_stmt ∷ []) xs (y ∷ []) → (sign_of c).kind ≡ k.Semicolon → w ∷ xs ≡ us → us ++ (c ∷ []) ≡ ws → Gives g.stmt ws as_stmt (as_stmt_of_name y w.token)
+named_line {w} {xs} {ws = ws} {y = y} c n d q h h2 = with_name (calloc_or (sign_of w).kind n)
   where
-    P : (p : Value) × All (g.n g.posts ∷ []) xs (p ∷ []) × ((x : Expr) → T.posted x (as_posts p) ≡ applied x fs)
-    P = posts_of ps
-
-    words : w ∷ (xs ++ (a ∷ (vs ++ (c ∷ [])))) ≡ ws
-    words = joint (w ∷ xs) (a ∷ vs) (c ∷ []) (ap (λ z. z ++ (a ∷ vs)) i ∙ h) h2
-
-    worth : L.stmt_at (act.Assign (T.posted (v.named w.token) (as_posts P.0)) (as_expr y)) a.token.pos ≡ s
-    worth = (λ m. L.stmt_at (act.Assign ((P.2 (v.named w.token) ∙ v2) m) (as_expr y)) a.token.pos) ∙ j
-
-    rest : All (g.n g.named_stmt ∷ []) (xs ++ (a ∷ (vs ++ (c ∷ [])))) (made g.NamedAssign (P.0 ∷ v.token a.token ∷ y ∷ v.token c.token ∷ []) ∷ [])
-    rest z = t_by g.NamedAssign (λ z. refl) (t_part P.1 (t_tok f (t_part e (t_tok q t_end) refl)) refl)
-
-    with_name : ((sign_of w).kind ≡ k.Calloc) ⊎ (g.is_name_but_calloc (sign_of w).kind ≡ true) → Gives g.stmt ws as_stmt s
-    with_name (inl m) = (_, t_moved words (λ z. t_by g.CallocStmt (λ z. refl) (t_tok m (t_last (λ z. t_by g.CallocNameStmt (λ z. refl) (t_last rest))))), worth)
-    with_name (inr m) = (_, t_moved words (λ z. t_by g.NamedStmt (λ z. refl) (t_tok m (t_last rest))), worth)
-
-pub call_stmt : {ws us : List Word} {m : Expr} (c : Word) → CallForm us m → (sign_of c).kind ≡ k.Semicolon → us ++ (c ∷ []) ≡ ws → Gives g.stmt ws as_stmt (L.stmt_at (act.Call m) m.pos)
-call_stmt {ws} {m = m} c (of_name {w} {a} {us} {y} f i d h j) q h2 = with_name (calloc_or (sign_of w).kind f)
-  where
-    words : w ∷ a ∷ (us ++ (c ∷ [])) ≡ ws
+    words : w ∷ (xs ++ (c ∷ [])) ≡ ws
     words = ap (λ z. z ++ (c ∷ [])) h ∙ h2
 
-    worth : L.stmt_at (act.Call (v.called w.token (as_exprs y))) w.token.pos ≡ L.stmt_at (act.Call m) m.pos
-    worth = λ n. L.stmt_at (act.Call (j n)) (j n).pos
+    with_name : ((sign_of w).kind ≡ k.Calloc) ⊎ (g.is_name_but_calloc (sign_of w).kind ≡ true) → Gives g.stmt ws as_stmt (as_stmt_of_name y w.token)
+    with_name (inl m) = (_, t_moved words (λ z. t_by g.CallocStmt (λ z. refl) (t_tok m (t_part (λ z. t_by g.CallocNameStmt (λ z. refl) (t_last d)) (t_tok q t_end) refl))), refl)
+    with_name (inr m) = (_, t_moved words (λ z. t_by g.NamedStmt (λ z. refl) (t_tok m (t_part d (t_tok q t_end) refl))), refl)
 
-    rest : All (g.n g.named_stmt ∷ []) (a ∷ (us ++ (c ∷ []))) (made g.CallStmt (v.token a.token ∷ y ∷ v.token c.token ∷ []) ∷ [])
-    rest z = t_by g.CallStmt (λ z. refl) (t_tok i (t_part d (t_tok q t_end) refl))
+gives_as : {X : Type 0} {p : g.Part} {ws : List Word} {f : Value → X} {m r : X} → Gives p ws f m → m ≡ r → Gives p ws f r
+gives_as d h = (d.0, d.1, d.2 ∙ h)
 
-    with_name : ((sign_of w).kind ≡ k.Calloc) ⊎ (g.is_name_but_calloc (sign_of w).kind ≡ true) → Gives g.stmt ws as_stmt (L.stmt_at (act.Call m) m.pos)
-    with_name (inl n) = (_, t_moved words (λ z. t_by g.CallocStmt (λ z. refl) (t_tok n (t_last (λ z. t_by g.CallocNameStmt (λ z. refl) (t_last rest))))), worth)
-    with_name (inr n) = (_, t_moved words (λ z. t_by g.NamedStmt (λ z. refl) (t_tok n (t_last rest))), worth)
-call_stmt {ws} {m = m} c (of_type {w} {a} {us} {y} f i d p h j) q h2 = (
+-- an assignment as a statement
+pub assign_stmt : {ws us : List Word} {s : Stmt} (c : Word) → AssignForm us s → (sign_of c).kind ≡ k.Semicolon → us ++ (c ∷ []) ≡ ws → Gives g.stmt ws as_stmt s
+assign_stmt c (unnamed_assign {y} d h) q h2 = (y, (λ z. t_by g.AssignStmt (λ z. refl) (t_part d (t_tok q t_end) h2)), h)
+assign_stmt c (named_assign {w} {y = y} f no_call ps d h i) q h2 =
+    let P = posts_of ps in
+    gives_as (named_line c f (λ z. t_by g.ChangeStmt (λ z. refl) (t_part P.1 (t_last d) refl)) q h h2) (ap (λ z. T.changed z (as_increment y) (as_setting y)) (P.2 _) ∙ i)
+assign_stmt c (named_assign {w} {y = y} f (with_call fa da) ps d h i) q h2 =
+    let P = posts_of ps in
+    gives_as (named_line c f (λ z. t_by g.CallStmt (λ z. refl) (t_tok fa (t_part da (t_last (λ z. t_by g.CalledChange (λ z. refl) (t_part P.1 (t_last d) refl))) refl))) q h h2) (ap (λ z. T.changed z (as_increment y) (as_setting y)) (P.2 _) ∙ i)
+
+pub call_stmt : {ws us : List Word} {m : Expr} (c : Word) → CallForm us m → (sign_of c).kind ≡ k.Semicolon → us ++ (c ∷ []) ≡ ws → Gives g.stmt ws as_stmt (L.stmt_at (act.Call m) m.pos)
+call_stmt c (of_name {us = us} f i d h j) q h2 =
+    gives_as (named_line c f (λ z. t_by g.CallStmt (λ z. refl) (t_tok i (t_part d (t_last (λ z. t_by g.CalledStmt (λ z. refl) t_end)) (append-nil us)))) q h h2) (λ n. L.stmt_at (act.Call (j n)) (j n).pos)
+call_stmt {ws} {m = m} c (of_calloc (of_type {w} {a} {us} {y} f i d p h j) l) q h2 = (
   _,
-  t_moved (ap (λ z. z ++ (c ∷ [])) h ∙ h2) (λ z. t_by g.CallocStmt (λ z. refl) (t_tok f (t_last (λ z. t_by g.CallocTypeStmt (λ z. refl) (t_tok i (t_part d (t_tok q t_end) refl)))))),
+  t_moved (ap (λ z. z ++ (c ∷ [])) (h ∙ l) ∙ h2) (λ z. t_by g.CallocStmt (λ z. refl) (t_tok f (t_part {us = a ∷ us} (λ z. t_by g.CallocTypeStmt (λ z. refl) (t_tok i (t_last d))) (t_tok q t_end) refl))),
   ap (λ z. L.stmt_at (act.Call (as_expr_of_name y w.token)) z) (sym p) ∙ (λ n. L.stmt_at (act.Call (j n)) (j n).pos),
 )
 
@@ -305,18 +328,37 @@ type_head w b c vs {us = us} {bs = bs} {ts = ts} {rs = rs} {t1 = t1} {ps = ps} {
       ap (λ z. z ∷ []) (H.2 _ _ w.token) ∙ (λ j. T.function_of (head_of (Some (d.2 j).0) (B.2 j) w.token ps r) (as_part y) ∷ []) ∙ (λ j. T.function_of (head_of (mode_of (i j)) t1 w.token ps r) (as_part y) ∷ []),
     )
 
--- an operand that begins with no name
-pub first_by : {ws us : List Word} {d : Bool} {x : Expr} {fs : List (Expr → Expr)} → Gives g.primary ws as_expr x → Each PostForm us d fs → Unary (ws ++ us) (applied x fs)
-first_by {fs = fs} p ps = let P = posts_of ps in by_first (λ z. t_by g.Postfix (λ z. refl) (t_part p.1 (t_last P.1) refl)) ((λ j. T.posted (p.2 j) (as_posts P.0)) ∙ P.2 _)
+-- a postfix that begins with no name
+pub first_by : {ws us : List Word} {d : Bool} {x : Expr} {fs : List (Expr → Expr)} → Gives g.primary ws as_expr x → Each PostForm us d fs → Postfix (ws ++ us) (applied x fs)
+first_by {fs = fs} p ps = by_primary p.1 ps refl (ap (λ z. applied z fs) p.2)
 
 pub constant_by : {ws : List Word} {x : Expr} {y : Value} → All (g.n g.constant ∷ []) ws (y ∷ []) → as_expr y ≡ x → Gives g.primary ws as_expr x
 constant_by d h = (_, (λ z. t_by g.Constant (λ z. refl) (t_last d)), h)
 
-pub round_by : (a c : Word) {us ws vs : List Word} {d : Bool} {x : Expr} {fs : List (Expr → Expr)} → (sign_of a).kind ≡ k.RoundOpen → ExprForm us x → (sign_of c).kind ≡ k.RoundClose → us ++ (c ∷ []) ≡ ws → Each PostForm vs d fs → Unary ((a ∷ ws) ++ vs) (applied x fs)
-round_by a c {us = us} {vs = vs} f e q h ps =
+pub round_by : (a c : Word) {us ws vs : List Word} {d : Bool} {x : Expr} {fs : List (Expr → Expr)} → (sign_of a).kind ≡ k.RoundOpen → ExprForm us x → (sign_of c).kind ≡ k.RoundClose → us ++ (c ∷ []) ≡ ws → Each PostForm vs d fs → Postfix ((a ∷ ws) ++ vs) (applied x fs)
+round_by a c {us = us} {vs = vs} {fs = fs} f e q h ps =
     let X = expr_of e in
-    let P = posts_of ps in
-    by_first (λ z. t_by g.Round (λ z. refl) (t_tok f (t_last (λ z. t_by g.Paren (λ z. refl) (t_part X.1 (t_tok q (t_last P.1)) (sym (append_assoc us (c ∷ []) vs) ∙ ap (λ z. z ++ vs) h)))))) ((λ j. T.posted (X.2 j) (as_posts P.0)) ∙ P.2 _)
+    by_round c f X.1 q ps (ap (λ z. a ∷ z) (sym (append_assoc us (c ∷ []) vs) ∙ ap (λ z. z ++ vs) h)) (ap (λ z. applied z fs) X.2)
+
+-- operands that owe a setting if they are targets
+pub signed_by : (a : Word) {us ws : List Word} {x : Expr} → is_sign (sign_of a).kind ≡ true → Unary us x → us ++ [] ≡ ws → Unary (a ∷ ws) (expr_at (node.Un (sign_op (kind_of_token a.token)) x) a.token.pos)
+signed_by a f u h =
+    let X = unary_of u in
+    owes (λ z. t_by g.Signed (λ z. refl) (t_tok f (t_part X.1 t_end h))) (λ j. expr_at (node.Un (sign_op (kind_of_token a.token)) (X.2 j)) a.token.pos)
+    (λ vs s d. (_, (λ z. t_by g.SignedAssign (λ z. refl) (t_tok f (t_part X.1 (t_last d) (ap (λ z. z ++ vs) (cut h))))), refl))
+
+pub cast_by : (a c : Word) {us vs xs ws : List Word} {t : TypeTree} {x : Expr} → (sign_of a).kind ≡ k.RoundOpen → TypeForm us t → (sign_of c).kind ≡ k.RoundClose → Unary vs x → vs ++ [] ≡ xs → us ++ (c ∷ xs) ≡ ws → Unary (a ∷ ws) (expr_at (node.Cast t x) a.token.pos)
+cast_by a c {us = us} {vs = vs} f ty f2 u h2 h1 =
+    let B = type_of ty in
+    let X = unary_of u in
+    owes (λ z. t_by g.Round (λ z. refl) (t_tok f (t_last (λ z. t_by g.Cast (λ z. refl) (t_part B.1 (t_tok f2 (t_part X.1 t_end h2)) h1))))) (λ j. expr_at (node.Cast (B.2 j) (X.2 j)) a.token.pos)
+    (λ ys s d. (_, (λ z. t_by g.RoundAssign (λ z. refl) (t_tok f (t_last (λ z. t_by g.CastAssign (λ z. refl) (t_part B.1 (t_tok f2 (t_part X.1 (t_last d) refl)) (joint us (c ∷ vs) ys (ap (λ z. us ++ (c ∷ z)) (cut h2) ∙ h1) refl)))))), refl))
+
+pub sized_by : (a b c : Word) {us ws : List Word} {t : TypeTree} → (sign_of a).kind ≡ k.Sizeof → (sign_of b).kind ≡ k.RoundOpen → TypeForm us t → (sign_of c).kind ≡ k.RoundClose → us ++ (c ∷ []) ≡ ws → Unary (a ∷ b ∷ ws) (expr_at (node.Size t) a.token.pos)
+sized_by a b c {us = us} f f2 ty f3 h =
+    let B = type_of ty in
+    owes (λ z. t_by g.Sizeof (λ z. refl) (t_tok f (t_tok f2 (t_part B.1 (t_tok f3 t_end) h)))) (λ j. expr_at (node.Size (B.2 j)) a.token.pos)
+    (λ ys s d. (_, (λ z. t_by g.SizeofAssign (λ z. refl) (t_tok f (t_tok f2 (t_part B.1 (t_tok f3 (t_last d)) (joint us (c ∷ []) ys h refl))))), refl))
 
 pub cast_of : (a b c e2 : Word) {ts xs ls zs ys ws : List Word} {e : Bool} {p : TypeTree} {x : Expr} {o : Option Limits} → (sign_of a).kind ≡ k.Less → TypeForm ts p → is_greater (sign_of b).kind ≡ true → (sign_of c).kind ≡ k.RoundOpen → ExprForm xs x → From (l.opt (l.after comma l.limits)) ls e o → (sign_of e2).kind ≡ k.RoundClose →
     ls ++ (e2 ∷ []) ≡ zs → xs ++ zs ≡ ys → ts ++ (b ∷ c ∷ ys) ≡ ws → (y : Value) × All (g.n g.bounds_cast ∷ []) (a ∷ ws) (y ∷ []) × (v.type_of y ≡ p) × (v.operand_of y ≡ x) × (v.limits_of y ≡ o)
@@ -327,61 +369,76 @@ cast_of a b c e2 f ty f2 f3 x o f4 h3 h2 h1 =
     (_, (λ z. t_by g.BoundsCast (λ z. refl) (t_tok f (t_part B.1 (t_tok f2 (t_tok f3 (t_part X.1 (t_part O.1 t_end (append-nil _ ∙ h3)) h2))) h1))), B.2, X.2, O.2)
 
 -- `bounds(e, f)`: the table tells apart how e begins
-pub between_of : (a b c d : Word) {us ys zs ws : List Word} {x y : Expr} → (sign_of a).kind ≡ k.Bounds → (sign_of b).kind ≡ k.RoundOpen → ExprForm us x → (sign_of c).kind ≡ k.Comma → ExprForm ys y → (sign_of d).kind ≡ k.RoundClose → ys ++ (d ∷ []) ≡ zs → us ++ (c ∷ zs) ≡ ws →
-    Gives g.limits (a ∷ b ∷ ws) as_limits (bounds.Between x y a.token.pos)
-between_of a b c d {zs = zs} fa fb (form {us = us} {xs = xs} {ys = vs} {c = ch} (by_first {y = u} du iu) s dc h j) fc y fd h2 h1 =
+between_by : (a b c d : Word) {xs rs us ys zs ws : List Word} {x0 x y : Expr} {f : Expr → Expr} → (sign_of a).kind ≡ k.Bounds → (sign_of b).kind ≡ k.RoundOpen → Begun xs x0 → RestForm rs f → xs ++ rs ≡ us → f x0 ≡ x → (sign_of c).kind ≡ k.Comma → ExprForm ys y → (sign_of d).kind ≡ k.RoundClose →
+    ys ++ (d ∷ []) ≡ zs → us ++ (c ∷ zs) ≡ ws → Gives g.limits (a ∷ b ∷ ws) as_limits (bounds.Between x y a.token.pos)
+between_by a b c d {xs} {rs} {zs = zs} fa fb (begun_first du iu) r h j fc y fd h2 h1 =
     let Y = expr_of y in
-    let R = rest_of s dc in (
+    let R = rest_of r in (
       _,
-      (λ z. t_by g.BoundsOf (λ z. refl) (t_tok fa (t_tok fb (t_last (λ z. t_by g.Between (λ z. refl) (t_part du (t_part R.1 (t_tok fc (t_part Y.1 (t_tok fd t_end) h2)) refl) (joint us (xs ++ vs) (c ∷ zs) h h1))))))),
-      λ q. bounds.Between (((λ z. whole (iu z) (as_steps R.0) (as_arms R.0)) ∙ R.2 _ ∙ j) q) (Y.2 q) a.token.pos,
+      (λ z. t_by g.BoundsOf (λ z. refl) (t_tok fa (t_tok fb (t_last (λ z. t_by g.Between (λ z. refl) (t_part du (t_part R.1 (t_tok fc (t_part Y.1 (t_tok fd t_end) h2)) refl) (joint xs rs (c ∷ zs) h h1))))))),
+      λ q. bounds.Between ((ap (λ z. v.ended z R.0) iu ∙ R.2 _ ∙ j) q) (Y.2 q) a.token.pos,
     )
-between_of a b c d {ys = yw} {zs = zs} {ws = ws} {x = x} {y = y1} fa fb (form {us = us} {xs = xs} {ys = vs} {ss = ss} {c = ch} (by_name {w} {us = ps1} {fs = fs} nw ps iw vw) s dc h j) fc y fd h2 h1 = with_name (unknown_or (sign_of w).kind nw)
+between_by a b c d {xs} {rs} {ys = yw} {zs = zs} {ws = ws} {x = x} {y = y1} {f = f} fa fb (begun_name {w} {cs} {us} {vs} {c = call} {fs = fs} {i = last} n co ps i h0 q0) r h j fc y fd h2 h1 = with_name (unknown_or (sign_of w).kind n)
   where
     Y : Gives g.expr yw as_expr y1
     Y = expr_of y
 
-    P : (p : Value) × All (g.n g.posts ∷ []) ps1 (p ∷ []) × ((z : Expr) → T.posted z (as_posts p) ≡ applied z fs)
-    P = posts_of ps
+    R : (p : Value) × All (g.n g.expr_rest ∷ []) rs (p ∷ []) × ((z : Expr) → v.ended z p ≡ f z)
+    R = rest_of r
 
-    R : (r : Value) × All (g.n g.expr_rest ∷ []) (xs ++ vs) (r ∷ []) × ((z : Expr) → whole z (as_steps r) (as_arms r) ≡ T.picked (L.joined z ss) (as_arms ch))
-    R = rest_of s dc
+    N : (p : Value) × All (g.n g.name_rest ∷ []) (cs ++ (us ++ vs)) (p ∷ []) × ((t : Spelled) → as_expr_of_name p t ≡ T.with_increment (applied (v.called_or_named t call) fs) last)
+    N = name_rest_of co ps i
 
-    words : w ∷ (ps1 ++ ((xs ++ vs) ++ (c ∷ zs))) ≡ ws
-    words = joint (w ∷ ps1) (xs ++ vs) (c ∷ zs) (ap (λ z. z ++ (xs ++ vs)) iw ∙ h) h1
+    words : w ∷ ((cs ++ (us ++ vs)) ++ (rs ++ (c ∷ zs))) ≡ ws
+    words = ap (λ z. z ++ (rs ++ (c ∷ zs))) h0 ∙ joint xs rs (c ∷ zs) h h1
 
-    worth : whole (T.posted (v.named w.token) (as_posts P.0)) (as_steps R.0) (as_arms R.0) ≡ x
-    worth = (λ z. whole ((P.2 (v.named w.token) ∙ vw) z) (as_steps R.0) (as_arms R.0)) ∙ R.2 _ ∙ j
+    worth : v.ended (as_expr_of_name N.0 w.token) R.0 ≡ x
+    worth = ap (λ z. v.ended z R.0) (N.2 w.token ∙ q0) ∙ R.2 _ ∙ j
 
     with_name : ((sign_of w).kind ≡ k.Unknown) ⊎ (g.is_name_but_unknown (sign_of w).kind ≡ true) → Gives g.limits (a ∷ b ∷ ws) as_limits (bounds.Between x y1 a.token.pos)
     with_name (inl m) = (
       _,
-      t_moved (ap (λ z. a ∷ b ∷ z) words) (λ z. t_by g.BoundsOf (λ z. refl) (t_tok fa (t_tok fb (t_last (λ z. t_by g.Unknown (λ z. refl) (t_tok m (t_last (λ z. t_by g.UnknownName (λ z. refl) (t_part P.1 (t_part R.1 (t_tok fc (t_part Y.1 (t_tok fd t_end) h2)) refl) refl))))))))),
+      t_moved (ap (λ z. a ∷ b ∷ z) words) (λ z. t_by g.BoundsOf (λ z. refl) (t_tok fa (t_tok fb (t_last (λ z. t_by g.Unknown (λ z. refl) (t_tok m (t_last (λ z. t_by g.UnknownName (λ z. refl) (t_part N.1 (t_part R.1 (t_tok fc (t_part Y.1 (t_tok fd t_end) h2)) refl) refl))))))))),
       λ q. bounds.Between (worth q) (Y.2 q) a.token.pos,
     )
     with_name (inr m) = (
       _,
-      t_moved (ap (λ z. a ∷ b ∷ z) words) (λ z. t_by g.BoundsOf (λ z. refl) (t_tok fa (t_tok fb (t_last (λ z. t_by g.BetweenNamed (λ z. refl) (t_tok m (t_part P.1 (t_part R.1 (t_tok fc (t_part Y.1 (t_tok fd t_end) h2)) refl) refl))))))),
+      t_moved (ap (λ z. a ∷ b ∷ z) words) (λ z. t_by g.BoundsOf (λ z. refl) (t_tok fa (t_tok fb (t_last (λ z. t_by g.BetweenNamed (λ z. refl) (t_tok m (t_part N.1 (t_part R.1 (t_tok fc (t_part Y.1 (t_tok fd t_end) h2)) refl) refl))))))),
       λ q. bounds.Between (worth q) (Y.2 q) a.token.pos,
     )
 
+pub between_of : (a b c d : Word) {us ys zs ws : List Word} {x y : Expr} → (sign_of a).kind ≡ k.Bounds → (sign_of b).kind ≡ k.RoundOpen → ExprForm us x → (sign_of c).kind ≡ k.Comma → ExprForm ys y → (sign_of d).kind ≡ k.RoundClose → ys ++ (d ∷ []) ≡ zs → us ++ (c ∷ zs) ≡ ws →
+    Gives g.limits (a ∷ b ∷ ws) as_limits (bounds.Between x y a.token.pos)
+between_of a b c d fa fb (form u r h j) fc y fd h2 h1 = between_by a b c d fa fb (begun u) r h j fc y fd h2 h1
+
 -- an expression, if no choice stands after it
 pub no_choice : {us ws : List Word} {x : Expr} → BinaryForm us x → us ++ [] ≡ ws → ExprForm ws x
-no_choice (binary_form {us = us} {xs = xs} u s h j) q = form u s (λ z. t_by g.NoChoice (λ z. refl) t_end) (ap (λ z. us ++ z) (append-nil xs) ∙ h ∙ cut q) j
+no_choice (binary_form {us = us} {xs = xs} {ss = ss} u s h j) q =
+    let r : RestForm xs (λ z. L.joined z ss) = going s (λ z. t_by g.NoChoice (λ z. refl) t_end) (append-nil xs) (λ z. refl) in
+    form u r (h ∙ cut q) j
 
 pub with_choice : (a c : Word) {us ys vs ws zs rs : List Word} {x y1 y2 : Expr} → BinaryForm us x → (sign_of a).kind ≡ k.Question → ExprForm ys y1 → (sign_of c).kind ≡ k.Colon → ExprForm vs y2 → vs ++ [] ≡ zs → ys ++ (c ∷ zs) ≡ rs → us ++ (a ∷ rs) ≡ ws →
     ExprForm ws (expr_at (node.Pick x y1 y2) a.token.pos)
-with_choice a c {rs = rs} (binary_form {us = us} {xs = xs} u s h j) f y1 q y2 h3 h2 h1 =
+with_choice a c {rs = rs} (binary_form {us = us} {xs = xs} {ss = ss} u s h j) f y1 q y2 h3 h2 h1 =
     let X = expr_of y1 in
     let Y = expr_of y2 in
-    form u s (λ z. t_by g.Choice (λ z. refl) (t_tok f (t_part X.1 (t_tok q (t_part Y.1 t_end h3)) h2))) (joint us xs (a ∷ rs) h h1) (λ m. expr_at (node.Pick (j m) (X.2 m) (Y.2 m)) a.token.pos)
+    let r : RestForm (xs ++ (a ∷ rs)) (λ z. expr_at (node.Pick (L.joined z ss) (as_expr X.0) (as_expr Y.0)) a.token.pos) =
+    going s (λ z. t_by g.Choice (λ z. refl) (t_tok f (t_part X.1 (t_tok q (t_part Y.1 t_end h3)) h2))) refl (λ z. refl) in
+    form u r (joint us xs (a ∷ rs) h h1) (λ m. expr_at (node.Pick (j m) (X.2 m) (Y.2 m)) a.token.pos)
+
+-- a target in an expression
+pub set_expr : {us vs ws : List Word} {x m : Expr} {y : Value} {s : Setting} → Unary us x → All (g.n g.setting ∷ []) vs (y ∷ []) → as_setting y ≡ Some s → us ++ vs ≡ ws → T.set x s ≡ m → ExprForm ws m
+set_expr {vs = vs} {s = s} u d e h j = let r : RestForm vs (λ z. T.set z s) = setting_form d e (λ z. refl) in form u r h j
 
 -- moving forms along equal lists
 pub at_moved : {ss : List g.Symbol} {us ws : List Word} {e : Bool} {vs : List Value} → us ≡ ws → At ss us e vs → At ss ws e vs
 at_moved {ss} {e = e} {vs = vs} h d = subst (λ z. At ss z e vs) h d
 
-pub unary_moved : {us ws : List Word} {m : Expr} → us ≡ ws → Unary us m → Unary ws m
-unary_moved {m = m} h d = subst (λ z. Unary z m) h d
+pub postfix_moved : {us ws : List Word} {m : Expr} → us ≡ ws → Postfix us m → Postfix ws m
+postfix_moved {m = m} h d = subst (λ z. Postfix z m) h d
+
+pub unary_named : {ws : List Word} {m r : Expr} → m ≡ r → Unary ws m → Unary ws r
+unary_named {ws} h d = subst (λ z. Unary ws z) h d
 
 pub from_moved : (p : l.Part) (e : Bool) (m : l.Meaning p) {us ws : List Word} → us ≡ ws → From p us e m → From p ws e m
 from_moved p e m h d = subst (λ z. From p z e m) h d

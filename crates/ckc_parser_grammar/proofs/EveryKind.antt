@@ -5,7 +5,7 @@ use Rattle.ckc_parser_grammar.specs.declared.kind.Kind.TheVariants as kind
 use Rattle.ckc_parser_grammar.specs.code.Fits.{number}
 
 abbrev pub all_kinds : List Kind
-all_kinds = kind.End ∷ kind.Name ∷ kind.Calloc ∷ kind.Count ∷ kind.ByteCount ∷ kind.Bounds ∷ kind.Unknown ∷ kind.Number ∷ kind.Character ∷ kind.Text ∷ kind.Directive ∷ kind.Other ∷ kind.Int ∷ kind.Unsigned ∷ kind.Char ∷ kind.Void ∷ kind.Struct ∷ kind.Static ∷ kind.If ∷ kind.Else ∷ kind.While ∷ kind.For ∷ kind.Return ∷ kind.Break ∷ kind.Continue ∷ kind.Sizeof ∷ kind.Null ∷ kind.Eof ∷ kind.Ptr ∷ kind.ArrayPtr ∷ kind.NtArrayPtr ∷ kind.Checked ∷ kind.Unchecked ∷ kind.NtChecked ∷ kind.Bundled ∷ kind.Check ∷ kind.Tested ∷ kind.Trusted ∷ kind.RoundOpen ∷ kind.RoundClose ∷ kind.CurlyOpen ∷ kind.CurlyClose ∷ kind.SquareOpen ∷ kind.SquareClose ∷ kind.Less ∷ kind.Greater ∷ kind.GreaterNext ∷ kind.Comma ∷ kind.Semicolon ∷ kind.Colon ∷ kind.Question ∷ kind.Equals ∷ kind.Dot ∷ kind.Arrow ∷ kind.Plus ∷ kind.Minus ∷ kind.Star ∷ kind.Slash ∷ kind.Percent ∷ kind.Ampersand ∷ kind.Bar ∷ kind.Caret ∷ kind.Tilde ∷ kind.Exclamation ∷ kind.ShiftLeft ∷ kind.LessEquals ∷ kind.GreaterEquals ∷ kind.EqualsEquals ∷ kind.NotEquals ∷ kind.AndAnd ∷ kind.BarBar ∷ []
+all_kinds = kind.End ∷ kind.Name ∷ kind.Calloc ∷ kind.Count ∷ kind.ByteCount ∷ kind.Bounds ∷ kind.Unknown ∷ kind.Number ∷ kind.Character ∷ kind.Text ∷ kind.Directive ∷ kind.Other ∷ kind.Int ∷ kind.Unsigned ∷ kind.Char ∷ kind.Void ∷ kind.Struct ∷ kind.Static ∷ kind.If ∷ kind.Else ∷ kind.While ∷ kind.For ∷ kind.Return ∷ kind.Break ∷ kind.Continue ∷ kind.Sizeof ∷ kind.Null ∷ kind.Eof ∷ kind.Ptr ∷ kind.ArrayPtr ∷ kind.NtArrayPtr ∷ kind.Checked ∷ kind.Unchecked ∷ kind.NtChecked ∷ kind.Bundled ∷ kind.Check ∷ kind.Tested ∷ kind.Trusted ∷ kind.RoundOpen ∷ kind.RoundClose ∷ kind.CurlyOpen ∷ kind.CurlyClose ∷ kind.SquareOpen ∷ kind.SquareClose ∷ kind.Less ∷ kind.Greater ∷ kind.GreaterNext ∷ kind.Comma ∷ kind.Semicolon ∷ kind.Colon ∷ kind.Question ∷ kind.Equals ∷ kind.Dot ∷ kind.Arrow ∷ kind.Plus ∷ kind.Minus ∷ kind.Star ∷ kind.Slash ∷ kind.Percent ∷ kind.Ampersand ∷ kind.Bar ∷ kind.Caret ∷ kind.Tilde ∷ kind.Exclamation ∷ kind.ShiftLeft ∷ kind.LessEquals ∷ kind.GreaterEquals ∷ kind.EqualsEquals ∷ kind.NotEquals ∷ kind.AndAnd ∷ kind.BarBar ∷ kind.PlusPlus ∷ kind.MinusMinus ∷ kind.PlusEquals ∷ kind.MinusEquals ∷ kind.StarEquals ∷ kind.SlashEquals ∷ kind.PercentEquals ∷ kind.AmpersandEquals ∷ kind.BarEquals ∷ kind.CaretEquals ∷ []
 
 pub kind_at : (c : Kind) → get_or all_kinds (number c) kind.End ≡ c
 kind_at kind.End = refl
@@ -79,3 +79,13 @@ kind_at kind.EqualsEquals = refl
 kind_at kind.NotEquals = refl
 kind_at kind.AndAnd = refl
 kind_at kind.BarBar = refl
+kind_at kind.PlusPlus = refl
+kind_at kind.MinusMinus = refl
+kind_at kind.PlusEquals = refl
+kind_at kind.MinusEquals = refl
+kind_at kind.StarEquals = refl
+kind_at kind.SlashEquals = refl
+kind_at kind.PercentEquals = refl
+kind_at kind.AmpersandEquals = refl
+kind_at kind.BarEquals = refl
+kind_at kind.CaretEquals = refl

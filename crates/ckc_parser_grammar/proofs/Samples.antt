@@ -4,7 +4,7 @@ use Rattle.ckc_syntax.specs.Spelled.{Spelled}
 use Rattle.ckc_parser_grammar.specs.declared.kind.Kind.{Kind}
 use Rattle.ckc_parser_grammar.specs.declared.kind.Kind.TheVariants as kind
 use Rattle.ckc_parser_grammar.specs.code.Fits.{number, fits}
-use Rattle.ckc_parser_grammar.specs.code.Grammar.{Terminal, one, name, greater, sign, operator, literal, name_but_calloc, name_but_unknown, Part, Symbol, t, n, Rule, left, right, allowed, not_else}
+use Rattle.ckc_parser_grammar.specs.code.Grammar.{Terminal, one, name, greater, sign, increment_sign, compound, operator, literal, name_but_calloc, name_but_unknown, Part, Symbol, t, n, Rule, left, right, allowed, not_else}
 use Rattle.ckc_parser_grammar.specs.code.Grammar as g
 use Rattle.ckc_parser_grammar.specs.code.Values.{Value, token, made}
 use Rattle.ckc_parser_grammar.specs.code.Derives.{Sign, before, Derives}
@@ -24,6 +24,8 @@ sample_fits (one k) = is_number k
 sample_fits name = refl
 sample_fits greater = refl
 sample_fits sign = refl
+sample_fits increment_sign = refl
+sample_fits compound = refl
 sample_fits operator = refl
 sample_fits literal = refl
 sample_fits name_but_calloc = refl
@@ -38,6 +40,8 @@ sample_open (one k) h = open_by k (not_else k) refl (else_only k) (and_true (not
 sample_open name h = refl
 sample_open greater h = refl
 sample_open sign h = refl
+sample_open increment_sign h = refl
+sample_open compound h = refl
 sample_open operator h = refl
 sample_open literal h = refl
 sample_open name_but_calloc h = refl
@@ -152,16 +156,21 @@ soonest g.more_locals = g.NoLocals
 soonest g.local = g.LocalName
 soonest g.local_initial = g.NoLocalInitial
 soonest g.value = g.CallocValue
-soonest g.named_value = g.CallValue
 soonest g.calloc_value = g.CallocName
 soonest g.less = g.LessOperand
 soonest g.arguments = g.NoArguments
 soonest g.more_arguments = g.EndArguments
 soonest g.allocation = g.Allocation
-soonest g.assign = g.Assign
+soonest g.setting = g.SetBy
+soonest g.later_setting = g.NoSetting
+soonest g.change = g.IncrementChange
+soonest g.assign = g.NamedAssign
+soonest g.unnamed = g.IncrementAssign
+soonest g.round_assign = g.CastAssign
 soonest g.stmt = g.Empty
 soonest g.calloc_stmt = g.CallocNameStmt
 soonest g.named_stmt = g.CallStmt
+soonest g.called_stmt = g.CalledStmt
 soonest g.otherwise = g.NoElse
 soonest g.condition = g.NoCondition
 soonest g.for_start = g.NoStart
@@ -169,12 +178,16 @@ soonest g.for_step = g.NoStep
 soonest g.assigns = g.EndAssigns
 soonest g.expr = g.Expr
 soonest g.expr_rest = g.ExprRest
+soonest g.chain = g.Chain
 soonest g.choice = g.NoChoice
 soonest g.tail = g.NoTail
 soonest g.operation = g.LessOperation
 soonest g.operation_but_less = g.Operator
 soonest g.second = g.NoSecond
 soonest g.unary = g.Named
+soonest g.name_rest = g.NameRest
+soonest g.call_rest = g.NoCall
+soonest g.increment = g.NoIncrement
 soonest g.first = g.Signed
 soonest g.round = g.Cast
 soonest g.posts = g.NoPosts

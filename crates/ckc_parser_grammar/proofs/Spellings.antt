@@ -7,7 +7,7 @@ use Rattle.ckc_syntax.specs.declared.tokens.TokenKind.TheVariants as kinds
 use Rattle.ckc_syntax.specs.declared.tokens.Directive.TheVariants as directives
 use Rattle.ckc_parser_grammar.specs.declared.kind.Kind.{Kind}
 use Rattle.ckc_parser_grammar.specs.declared.kind.Kind.TheVariants as kind
-use Rattle.ckc_parser_grammar.specs.code.Grammar.{Terminal, one, name, greater, sign, operator, literal, name_but_calloc, name_but_unknown}
+use Rattle.ckc_parser_grammar.specs.code.Grammar.{Terminal, one, name, greater, sign, increment_sign, compound, operator, literal, name_but_calloc, name_but_unknown}
 
 abbrev token_of : TokenKind → List ℕ → Spelled
 token_of k text = record { kind = k; text = text; pos = record { line = 0; col = 0 } }
@@ -84,6 +84,16 @@ spelled_as kind.EqualsEquals = (kinds.Mark, codes "==")
 spelled_as kind.NotEquals = (kinds.Mark, codes "!=")
 spelled_as kind.AndAnd = (kinds.Mark, codes "&&")
 spelled_as kind.BarBar = (kinds.Mark, codes "||")
+spelled_as kind.PlusPlus = (kinds.Mark, codes "++")
+spelled_as kind.MinusMinus = (kinds.Mark, codes "--")
+spelled_as kind.PlusEquals = (kinds.Mark, codes "+=")
+spelled_as kind.MinusEquals = (kinds.Mark, codes "-=")
+spelled_as kind.StarEquals = (kinds.Mark, codes "*=")
+spelled_as kind.SlashEquals = (kinds.Mark, codes "/=")
+spelled_as kind.PercentEquals = (kinds.Mark, codes "%=")
+spelled_as kind.AmpersandEquals = (kinds.Mark, codes "&=")
+spelled_as kind.BarEquals = (kinds.Mark, codes "|=")
+spelled_as kind.CaretEquals = (kinds.Mark, codes "^=")
 
 abbrev pub spelled : Kind → Spelled
 spelled k = token_of (spelled_as k).0 (spelled_as k).1
@@ -94,6 +104,8 @@ sample_kind (one k) = k
 sample_kind name = kind.Name
 sample_kind greater = kind.Greater
 sample_kind sign = kind.Minus
+sample_kind increment_sign = kind.PlusPlus
+sample_kind compound = kind.PlusEquals
 sample_kind operator = kind.Plus
 sample_kind literal = kind.Number
 sample_kind name_but_calloc = kind.Name

@@ -2,7 +2,7 @@
 use Rattle.std.proofs.Common.{arith, suc, zero, ◌≡◌, ℕ, List, [], ◌∷◌, Bool, true, false, ◌&&◌, ◌||◌, refl, get_or, sym, ap, subst, ◌∙◌, Option, None, Some, not, ◌==◌}
 use Rattle.ckc_parser_grammar.specs.declared.kind.Kind.{Kind}
 use Rattle.ckc_parser_grammar.specs.declared.kind.Kind.TheVariants as kind
-use Rattle.ckc_parser_grammar.specs.code.Grammar.{Terminal, one, name, greater, sign, operator, literal, name_but_calloc, name_but_unknown, Part, Symbol, t, n, Rule, left, right, Fits, allowed, not_else, is_name, is_greater}
+use Rattle.ckc_parser_grammar.specs.code.Grammar.{Terminal, one, name, greater, sign, increment_sign, compound, operator, literal, name_but_calloc, name_but_unknown, Part, Symbol, t, n, Rule, left, right, Fits, allowed, not_else, is_name, is_greater}
 use Rattle.ckc_parser_grammar.specs.code.Grammar as g
 use Rattle.ckc_parser_grammar.specs.code.Fits.{number, fits}
 use Rattle.ckc_parser_grammar.specs.code.Kinds.{kind_of_token}
@@ -198,6 +198,8 @@ fits_of (one k) c h = subst (λ d. (number k == number d) ≡ true) (sym h) (is_
 fits_of name c h = h
 fits_of greater c h = h
 fits_of sign c h = h
+fits_of increment_sign c h = h
+fits_of compound c h = h
 fits_of operator c h = h
 fits_of literal c h = h
 fits_of name_but_calloc c h = h
@@ -208,6 +210,8 @@ of_fits (one k) c h = sym (same_kind k c h)
 of_fits name c h = h
 of_fits greater c h = h
 of_fits sign c h = h
+of_fits increment_sign c h = h
+of_fits compound c h = h
 of_fits operator c h = h
 of_fits literal c h = h
 of_fits name_but_calloc c h = h

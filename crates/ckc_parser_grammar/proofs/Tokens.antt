@@ -91,6 +91,16 @@ terminal_of kind.EqualsEquals = mark (codes "==")
 terminal_of kind.NotEquals = mark (codes "!=")
 terminal_of kind.AndAnd = mark (codes "&&")
 terminal_of kind.BarBar = mark (codes "||")
+terminal_of kind.PlusPlus = mark (codes "++")
+terminal_of kind.MinusMinus = mark (codes "--")
+terminal_of kind.PlusEquals = mark (codes "+=")
+terminal_of kind.MinusEquals = mark (codes "-=")
+terminal_of kind.StarEquals = mark (codes "*=")
+terminal_of kind.SlashEquals = mark (codes "/=")
+terminal_of kind.PercentEquals = mark (codes "%=")
+terminal_of kind.AmpersandEquals = mark (codes "&=")
+terminal_of kind.BarEquals = mark (codes "|=")
+terminal_of kind.CaretEquals = mark (codes "^=")
 terminal_of _ = mark []
 
 -- whether the token is what stands for its kind; no production has the kinds End and Other
@@ -129,7 +139,10 @@ marks =
     ∷ (codes "&", kind.Ampersand) ∷ (codes "|", kind.Bar) ∷ (codes "^", kind.Caret) ∷ (codes "~", kind.Tilde)
     ∷ (codes "!", kind.Exclamation) ∷ (codes "<<", kind.ShiftLeft) ∷ (codes "<=", kind.LessEquals)
     ∷ (codes ">=", kind.GreaterEquals) ∷ (codes "==", kind.EqualsEquals) ∷ (codes "!=", kind.NotEquals)
-    ∷ (codes "&&", kind.AndAnd) ∷ (codes "||", kind.BarBar) ∷ []
+    ∷ (codes "&&", kind.AndAnd) ∷ (codes "||", kind.BarBar) ∷ (codes "++", kind.PlusPlus)
+    ∷ (codes "--", kind.MinusMinus) ∷ (codes "+=", kind.PlusEquals) ∷ (codes "-=", kind.MinusEquals)
+    ∷ (codes "*=", kind.StarEquals) ∷ (codes "/=", kind.SlashEquals) ∷ (codes "%=", kind.PercentEquals)
+    ∷ (codes "&=", kind.AmpersandEquals) ∷ (codes "|=", kind.BarEquals) ∷ (codes "^=", kind.CaretEquals) ∷ []
 
 -- the kind in the row of a spelling
 abbrev find : Rows → List ℕ → Kind → Kind

@@ -1,7 +1,5 @@
-pub mod Classes
 pub mod Derives
 pub mod Fits
-pub mod Forms
 pub mod Grammar
 pub mod Kinds
 pub mod Marked

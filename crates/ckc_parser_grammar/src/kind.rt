@@ -1,6 +1,6 @@
 ghost use Rattle.std.specs.Prelude.{◌≡◌, ◌≢◌, ◌∷◌, [], length};
 ghost use Rattle.std.specs.Bool.{OnFalse};
-ghost use Rattle.ckc_parser_grammar.specs.code.Kinds.{kind_of_name, kind_of_keyword, kind_of_checked_keyword, kind_of_checked_word, kind_of_mark, kind_of_long_operator};
+ghost use Rattle.ckc_parser_grammar.specs.code.Kinds.{kind_of_name, kind_of_keyword, kind_of_checked_keyword, kind_of_checked_word, kind_of_mark, kind_of_long_operator, kind_of_changing};
 
 /// What the grammar tells apart: keywords and marks by their spelling, a few names that have a meaning in some
 /// places, and the end of the text. `GreaterNext` is a `>` that follows another directly.
@@ -77,6 +77,16 @@ pub enum Kind {
     NotEquals,
     AndAnd,
     BarBar,
+    PlusPlus,
+    MinusMinus,
+    PlusEquals,
+    MinusEquals,
+    StarEquals,
+    SlashEquals,
+    PercentEquals,
+    AmpersandEquals,
+    BarEquals,
+    CaretEquals,
 }
 
 /// The kind of a name. Most names have another length than those with a meaning.
@@ -244,6 +254,25 @@ fn long_operator_kind(text: &str) -> Kind
         "!=" => Kind::NotEquals,
         "&&" => Kind::AndAnd,
         "||" => Kind::BarBar,
+        _ => changing_kind(text),
+    }
+}
+
+/// The kind of a mark that changes a variable.
+fn changing_kind(text: &str) -> Kind
+    ensures { result ≡ kind_of_changing text.now }
+{
+    match text {
+        "++" => Kind::PlusPlus,
+        "--" => Kind::MinusMinus,
+        "+=" => Kind::PlusEquals,
+        "-=" => Kind::MinusEquals,
+        "*=" => Kind::StarEquals,
+        "/=" => Kind::SlashEquals,
+        "%=" => Kind::PercentEquals,
+        "&=" => Kind::AmpersandEquals,
+        "|=" => Kind::BarEquals,
+        "^=" => Kind::CaretEquals,
         _ => Kind::Other,
     }
 }

@@ -4,6 +4,7 @@
 
 mod join;
 mod kind;
+mod laws;
 mod make;
 mod operators;
 mod parts;
@@ -13,15 +14,13 @@ mod trace;
 pub use ckc_grammar::Step;
 pub use join::whole;
 pub use kind::Kind;
+pub use laws::derives_the_same_trees;
 pub use make::{
-    add, called, copied, declaration, directive_of, expression, head_of, local_of, number_of, one,
-    one_of, statement, struct_type,
+    called, copied, directive_of, expression, head_of, local_of, number_of, statement, struct_type,
 };
-pub use operators::{
-    begins_post, begins_step, begins_type, binary_op, is_greater, is_sign, sign_op,
-};
+pub use operators::{binary_op, compound_op, increment_op, sign_op};
 pub use parts::{
-    Arms, Bounds, CType, Declaration, Expression, Operation, Post, Rest, Statement, Stop,
+    Arms, Bounds, CType, Declaration, Expression, Operation, Post, Rest, Setting, Statement, Stop,
 };
-pub use reader::{Class, Reader, SYNTAX_ERROR, is_name, token_kind};
+pub use reader::{Reader, SYNTAX_ERROR, token_kind};
 pub use trace::TOKEN;

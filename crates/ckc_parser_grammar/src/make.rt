@@ -1,4 +1,4 @@
-ghost use Rattle.std.specs.Prelude.{◌≡◌, ◌++◌, ◌∷◌, [], IfOk, OnOk, Option};
+ghost use Rattle.std.specs.Prelude.{◌≡◌, IfOk};
 ghost use Rattle.ckc_syntax.specs.Spelled.{spelled};
 ghost use Rattle.ckc_parser_grammar.specs.code.Trees as trees;
 ghost use Rattle.ckc_parser_grammar.specs.code.Values as v;
@@ -6,19 +6,9 @@ ghost use Rattle.ckc_parser_grammar.specs.code.Values as v;
 use crate::parts::{Bounds, CType, Declaration, Expression, Statement};
 use ckc_base::{Boxed, Mode, Pos, Seq};
 use ckc_syntax::{
-    Act, Decl, Directive, Expr, Head, Init, Length, Node, Spelling, Stmt, Token, TokenKind,
-    TypeTree, copied_type,
+    Act, Decl, Directive, Expr, Head, Node, Spelling, Stmt, Token, TokenKind, TypeTree, copied_type,
 };
 use std::alloc::{AllocError, Global};
-
-/// A list of one.
-pub fn one<T: Drop>(alloc: Global, item: T) -> Result<Seq<T>, AllocError>
-    ensures { IfOk result (λ all. all ≡ item ∷ []) }
-{
-    let mut all = Seq::new(alloc);
-    all.push(item)?;
-    Ok(all)
-}
 
 /// A type once more.
 pub fn copied<'a>(alloc: Global, ctype: &TypeTree<Spelling<'a>>) -> Result<CType<'a>, AllocError>
@@ -86,32 +76,6 @@ pub fn statement<'a>(
     )
 }
 
-/// What a name is declared as.
-pub fn declaration<'a>(
-    alloc: Global,
-    ctype: CType<'a>,
-    name: Token<'a>,
-    length: Length,
-    bounds: Option<Bounds<'a>>,
-    init: Init<Spelling<'a>, ()>,
-) -> Result<Declaration<'a>, AllocError>
-    ensures { IfOk result
-        (λ whole. whole ≡ v.declared ctype.entry (spelled name.entry) length bounds.entry
-        init.entry) }
-{
-    Boxed::new(
-        alloc,
-        Decl {
-            ctype: ctype.into_inner(),
-            name: Spelling::new(name.text),
-            length,
-            bounds,
-            init,
-            pos: name.pos,
-        },
-    )
-}
-
 /// The declaration of a local as a statement.
 pub fn local_of<'a>(declaration: Declaration<'a>) -> Stmt<Spelling<'a>, ()>
     ensures { result ≡ trees.local_of declaration.entry }
@@ -175,18 +139,4 @@ pub fn directive_of(kind: TokenKind) -> Directive
         TokenKind::Directive(directive) => directive,
         _ => Directive::Stdio,
     }
-}
-
-/// A list of what is in a box.
-pub fn one_of<T: Drop>(alloc: Global, item: Boxed<T>) -> Result<Seq<T>, AllocError>
-    ensures { IfOk result (λ all. all ≡ item ∷ []) }
-{
-    one(alloc, item.into_inner())
-}
-
-/// Puts what is in a box after the items of a list.
-pub fn add<T: Drop>(all: &mut Seq<T>, item: Boxed<T>) -> Result<(), AllocError>
-    ensures { OnOk result (all.new ≡ all.old ++ item ∷ []) }
-{
-    all.push(item.into_inner())
 }

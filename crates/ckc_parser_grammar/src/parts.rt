@@ -69,6 +69,14 @@ pub struct Rest<'a> {
     pub arms: Option<Arms<'a>>,
 }
 
+/// What stands after a target: `=`, or an operator with `=`, with its place and the expression after it.
+#[derive(Drop)]
+pub struct Setting<'a> {
+    pub op: Option<TreeOp>,
+    pub pos: Pos,
+    pub value: Expression<'a>,
+}
+
 /// What stands after a primary expression: `[e]`, `.m` or `->m`, with the place of the member's name and, last, of
 /// its mark.
 #[derive(Drop)]

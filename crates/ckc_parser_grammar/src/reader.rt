@@ -1,19 +1,14 @@
 ghost use Rattle.std.specs.Prelude.{◌≡◌, ◌≢◌, ◌≤◌, ◌<◌, [], ◌∷◌, map, MatchOption, MatchResult, IsNone, IsTrue, ◌↔◌};
-ghost use Rattle.std.specs.Bool.{OnTrue, OnFalse};
 ghost use Rattle.ckc_syntax.specs.Spelled.{spelled};
 ghost use Rattle.ckc_parser_grammar.specs.code.Kinds.{kind_of_token};
-ghost use Rattle.ckc_parser_grammar.specs.code.Fits.{fits};
-ghost use Rattle.ckc_parser_grammar.specs.code.Grammar.{t, one, is_name, is_name_but_calloc};
-ghost use Rattle.ckc_parser_grammar.specs.code.Forms.{is_unknown_alone, has_more};
+ghost use Rattle.ckc_parser_grammar.specs.code.Grammar.{t, one};
 ghost use Rattle.ckc_grammar.specs.Text.{syntax_error};
-ghost use Rattle.ckc_parser_grammar.specs.code.Values.{Value, token};
-ghost use Rattle.ckc_parser_grammar.specs.code.Classes.{terminal};
-ghost use Rattle.ckc_parser_grammar.specs.code.Reading.{kind_of, Takes};
+ghost use Rattle.ckc_parser_grammar.specs.code.Values.{token};
+ghost use Rattle.ckc_parser_grammar.specs.code.Reading.{kind_of};
 ghost use Rattle.ckc_parser_grammar.specs.code.Signs.{kind_after, adjacent, signs};
-ghost use Rattle.ckc_parser_grammar.specs.code.Marked.{ahead, remaining, place_of, Answered, Parses};
+ghost use Rattle.ckc_parser_grammar.specs.code.Marked.{ahead, remaining, place_of, Parses};
 
 use crate::kind::{Kind, keyword_kind, mark_kind, name_kind};
-use crate::operators::{is_greater, is_literal, is_operator, is_sign};
 use crate::parts::Stop;
 use ckc_base::{Pos, Refusal};
 use ckc_syntax::{Token, TokenKind};
@@ -40,57 +35,6 @@ pub fn token_kind(token: &Token) -> Kind
         TokenKind::Text => Kind::Text,
         TokenKind::Mark => mark_kind(token.text),
         TokenKind::Directive(_) => Kind::Directive,
-    }
-}
-
-/// Whether a token is a name.
-pub fn is_name(kind: Kind) -> bool
-    ensures { result ≡ is_name kind }
-{
-    match kind {
-        Kind::Name => true,
-        Kind::Calloc => true,
-        Kind::Count => true,
-        Kind::ByteCount => true,
-        Kind::Bounds => true,
-        Kind::Unknown => true,
-        _ => false,
-    }
-}
-
-/// Whether a token is a name but `calloc`.
-fn is_name_but_calloc(kind: Kind) -> bool
-    ensures { result ≡ is_name_but_calloc kind }
-{
-    match kind {
-        Kind::Calloc => false,
-        _ => is_name(kind),
-    }
-}
-
-/// The tokens of several kinds that may stand in one place: a name, a name but `calloc`, a `>`, a sign before an
-/// operand, a binary operator but `<` and `>`, a number or character.
-#[derive(Clone, Copy)]
-pub enum Class {
-    Name,
-    NameButCalloc,
-    Greater,
-    Sign,
-    Operator,
-    Literal,
-}
-
-/// Whether a token is of a class.
-fn is_of(class: Class, kind: Kind) -> bool
-    ensures { result ≡ fits (terminal class) kind }
-{
-    match class {
-        Class::Name => is_name(kind),
-        Class::NameButCalloc => is_name_but_calloc(kind),
-        Class::Greater => is_greater(kind),
-        Class::Sign => is_sign(kind),
-        Class::Operator => is_operator(kind),
-        Class::Literal => is_literal(kind),
     }
 }
 
@@ -184,83 +128,6 @@ impl<'a> Reader<'a> {
         match self.next() {
             Some(token) => Ok(token),
             None => Err(Stop::Syntax),
-        }
-    }
-
-    /// Takes a token of a kind, of which nothing else is of use.
-    pub fn skip(&mut self, kind: Kind) -> Result<(), Stop>
-        requires { kind ≢ Kind.End }
-        ensures tells { Answered
-            (λ x. (v : Value)
-            × Takes (t (one kind) ∷ []) (ahead self.old) (v ∷ []) (ahead self.new))
-            (t (one kind) ∷ []) (ahead self.old) result (ahead self.new) }
-        ensures fewer { remaining self.new ≤ remaining self.old }
-    {
-        match self.take(kind) {
-            Ok(_) => Ok(()),
-            Err(stop) => Err(stop),
-        }
-    }
-
-    /// Takes the next token if it is of a kind, and tells whether it is.
-    pub fn eats(&mut self, kind: Kind) -> bool
-        requires { kind ≢ Kind.End }
-        ensures next { OnTrue result (kind_of (ahead self.old) ≡ kind) }
-        ensures taken { OnTrue result
-            ((v : Value) × Takes (t (one kind) ∷ []) (ahead self.old) (v ∷ []) (ahead self.new)) }
-        ensures other { OnFalse result (kind_of (ahead self.old) ≢ kind) }
-        ensures kept { OnFalse result (ahead self.new ≡ ahead self.old) }
-        ensures fewer { remaining self.new ≤ remaining self.old }
-    {
-        if self.kind() != kind {
-            return false;
-        }
-        match self.next() {
-            Some(_) => true,
-            None => false,
-        }
-    }
-
-    /// Takes a token of a class.
-    pub fn take_any(&mut self, class: Class) -> Result<Token<'a>, Stop>
-        ensures parses { Parses (λ x. token (spelled x)) (t (terminal class)) (ahead self.old)
-            result (ahead self.new) }
-        ensures fewer { MatchResult result (λ x. remaining self.new < remaining self.old)
-            (λ e. remaining self.new ≤ remaining self.old) }
-    {
-        if !is_of(class, self.kind()) {
-            return Err(Stop::Syntax);
-        }
-        match self.next() {
-            Some(token) => Ok(token),
-            None => Err(Stop::Syntax),
-        }
-    }
-
-    /// Whether `unknown` is next, with a `)` after it.
-    pub fn is_unknown_alone(&self) -> bool
-        ensures { result ≡ is_unknown_alone (ahead self.now) }
-    {
-        match self.kind() {
-            Kind::Unknown => {
-                let mut probe = *self;
-                let word = probe.next();
-                match probe.kind() {
-                    Kind::RoundClose => true,
-                    _ => false,
-                }
-            }
-            _ => false,
-        }
-    }
-
-    /// Whether a token is next.
-    pub fn goes_on(&self) -> bool
-        ensures { result ≡ has_more (kind_of (ahead self.now)) }
-    {
-        match self.kind() {
-            Kind::End => false,
-            _ => true,
         }
     }
 

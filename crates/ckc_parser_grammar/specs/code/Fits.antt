@@ -1,9 +1,9 @@
 -- Whether a token may stand for a terminal, as the parser asks it.
 use Rattle.std.specs.Prelude.{ℕ, Bool, ◌==◌}
 use Rattle.ckc_parser_grammar.specs.declared.kind.Kind.{Kind}
-use Rattle.ckc_parser_grammar.specs.declared.kind.Kind.TheVariants.{End, Name, Calloc, Count, ByteCount, Bounds, Unknown, Number, Character, Text, Directive, Other, Int, Unsigned, Char, Void, Struct, Static, If, Else, While, For, Return, Break, Continue, Sizeof, Null, Eof, Ptr, ArrayPtr, NtArrayPtr, Checked, Unchecked, NtChecked, Bundled, Check, Tested, Trusted, RoundOpen, RoundClose, CurlyOpen, CurlyClose, SquareOpen, SquareClose, Less, Greater, GreaterNext, Comma, Semicolon, Colon, Question, Equals, Dot, Arrow, Plus, Minus, Star, Slash, Percent, Ampersand, Bar, Caret, Tilde, Exclamation, ShiftLeft, LessEquals, GreaterEquals, EqualsEquals, NotEquals, AndAnd, BarBar}
-use Rattle.ckc_parser_grammar.specs.code.Kinds.{is_sign, is_operator, is_literal}
-use Rattle.ckc_parser_grammar.specs.code.Grammar.{Terminal, one, name, greater, sign, operator, literal, name_but_calloc, name_but_unknown, is_name, is_name_but_calloc, is_name_but_unknown, is_greater}
+use Rattle.ckc_parser_grammar.specs.declared.kind.Kind.TheVariants.{End, Name, Calloc, Count, ByteCount, Bounds, Unknown, Number, Character, Text, Directive, Other, Int, Unsigned, Char, Void, Struct, Static, If, Else, While, For, Return, Break, Continue, Sizeof, Null, Eof, Ptr, ArrayPtr, NtArrayPtr, Checked, Unchecked, NtChecked, Bundled, Check, Tested, Trusted, RoundOpen, RoundClose, CurlyOpen, CurlyClose, SquareOpen, SquareClose, Less, Greater, GreaterNext, Comma, Semicolon, Colon, Question, Equals, Dot, Arrow, Plus, Minus, Star, Slash, Percent, Ampersand, Bar, Caret, Tilde, Exclamation, ShiftLeft, LessEquals, GreaterEquals, EqualsEquals, NotEquals, AndAnd, BarBar, PlusPlus, MinusMinus, PlusEquals, MinusEquals, StarEquals, SlashEquals, PercentEquals, AmpersandEquals, BarEquals, CaretEquals}
+use Rattle.ckc_parser_grammar.specs.code.Kinds.{is_sign, is_increment, is_compound, is_operator, is_literal}
+use Rattle.ckc_parser_grammar.specs.code.Grammar.{Terminal, one, name, greater, sign, increment_sign, compound, operator, literal, name_but_calloc, name_but_unknown, is_name, is_name_but_calloc, is_name_but_unknown, is_greater}
 
 -- the number of a kind
 abbrev pub number : Kind → ℕ
@@ -78,6 +78,16 @@ number EqualsEquals = 67
 number NotEquals = 68
 number AndAnd = 69
 number BarBar = 70
+number PlusPlus = 71
+number MinusMinus = 72
+number PlusEquals = 73
+number MinusEquals = 74
+number StarEquals = 75
+number SlashEquals = 76
+number PercentEquals = 77
+number AmpersandEquals = 78
+number BarEquals = 79
+number CaretEquals = 80
 
 -- a token of the kind may stand for the terminal
 abbrev pub fits : Terminal → Kind → Bool
@@ -85,6 +95,8 @@ fits (one k) c = number k == number c
 fits name c = is_name c
 fits greater c = is_greater c
 fits sign c = is_sign c
+fits increment_sign c = is_increment c
+fits compound c = is_compound c
 fits operator c = is_operator c
 fits literal c = is_literal c
 fits name_but_calloc c = is_name_but_calloc c

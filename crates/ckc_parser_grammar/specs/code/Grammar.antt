@@ -2,15 +2,18 @@
 use Rattle.std.specs.Prelude.{◌≡◌, List, [], ◌∷◌, Bool, true, false}
 use Rattle.ckc_parser_grammar.specs.declared.kind.Kind.{Kind}
 use Rattle.ckc_parser_grammar.specs.declared.kind.Kind.TheVariants as kind
-use Rattle.ckc_parser_grammar.specs.code.Kinds.{is_sign, is_operator, is_literal}
+use Rattle.ckc_parser_grammar.specs.code.Kinds.{is_sign, is_increment, is_compound, is_operator, is_literal}
 
 -- What one token is: of one kind; a name, also one that has a meaning in some places; a `>`; a sign before an
--- operand; a binary operator but `<` and `>`; a number or character; a name but `calloc`, or but `unknown`.
+-- operand; `++` or `--`; an operator with `=`; a binary operator but `<` and `>`; a number or character; a name but
+-- `calloc`, or but `unknown`.
 pub data Terminal : Type 0 where
   one : Kind → Terminal
   name : Terminal
   greater : Terminal
   sign : Terminal
+  increment_sign : Terminal
+  compound : Terminal
   operator : Terminal
   literal : Terminal
   name_but_calloc : Terminal
@@ -48,6 +51,8 @@ Fits (one k) c = c ≡ k
 Fits name c = is_name c ≡ true
 Fits greater c = is_greater c ≡ true
 Fits sign c = is_sign c ≡ true
+Fits increment_sign c = is_increment c ≡ true
+Fits compound c = is_compound c ≡ true
 Fits operator c = is_operator c ≡ true
 Fits literal c = is_literal c ≡ true
 Fits name_but_calloc c = is_name_but_calloc c ≡ true
@@ -97,16 +102,21 @@ pub data Part : Type 0 where
   local : Part
   local_initial : Part
   value : Part
-  named_value : Part
   calloc_value : Part
   less : Part
   arguments : Part
   more_arguments : Part
   allocation : Part
+  setting : Part
+  later_setting : Part
+  change : Part
   assign : Part
+  unnamed : Part
+  round_assign : Part
   stmt : Part
   calloc_stmt : Part
   named_stmt : Part
+  called_stmt : Part
   otherwise : Part
   condition : Part
   for_start : Part
@@ -114,12 +124,16 @@ pub data Part : Type 0 where
   assigns : Part
   expr : Part
   expr_rest : Part
+  chain : Part
   choice : Part
   tail : Part
   operation : Part
   operation_but_less : Part
   second : Part
   unary : Part
+  name_rest : Part
+  call_rest : Part
+  increment : Part
   first : Part
   round : Part
   posts : Part
@@ -229,11 +243,11 @@ pub data Rule : Type 0 where
   CallocValue : Rule
   NamedValue : Rule
   Value : Rule
-  CallValue : Rule
-  ExprValue : Rule
   CallocCall : Rule
   CallocLess : Rule
   CallocPost : Rule
+  CallocIncrement : Rule
+  CallocSetting : Rule
   CallocStep : Rule
   CallocName : Rule
   LessOperand : Rule
@@ -243,7 +257,21 @@ pub data Rule : Type 0 where
   MoreArguments : Rule
   EndArguments : Rule
   Allocation : Rule
-  Assign : Rule
+  SetTo : Rule
+  SetBy : Rule
+  LaterSetting : Rule
+  NoSetting : Rule
+  SettingChange : Rule
+  IncrementChange : Rule
+  NamedAssign : Rule
+  UnnamedAssign : Rule
+  SignedAssign : Rule
+  IncrementAssign : Rule
+  RoundAssign : Rule
+  SizeofAssign : Rule
+  PostfixAssign : Rule
+  ParenAssign : Rule
+  CastAssign : Rule
   ModedBlock : Rule
   Block : Rule
   Empty : Rule
@@ -261,7 +289,9 @@ pub data Rule : Type 0 where
   CallocTypeStmt : Rule
   CallocNameStmt : Rule
   CallStmt : Rule
-  NamedAssign : Rule
+  ChangeStmt : Rule
+  CalledStmt : Rule
+  CalledChange : Rule
   Else : Rule
   NoElse : Rule
   NoCondition : Rule
@@ -275,6 +305,8 @@ pub data Rule : Type 0 where
   Assigns : Rule
   Expr : Rule
   ExprRest : Rule
+  ExprSetting : Rule
+  Chain : Rule
   Choice : Rule
   NoChoice : Rule
   Step : Rule
@@ -286,8 +318,14 @@ pub data Rule : Type 0 where
   Second : Rule
   NoSecond : Rule
   Named : Rule
+  NameRest : Rule
+  CallRest : Rule
+  NoCall : Rule
+  Increment : Rule
+  NoIncrement : Rule
   Unnamed : Rule
   Signed : Rule
+  Incremented : Rule
   Round : Rule
   Sizeof : Rule
   Postfix : Rule
@@ -408,10 +446,10 @@ production BoundsOf = (limits, k kind.Bounds ∷ k kind.RoundOpen ∷ n bounds_r
 -- After `bounds (`: `unknown` alone, or an expression that begins with the name `unknown`, with another name, or
 -- with no name.
 production Unknown = (bounds_rest, k kind.Unknown ∷ n unknown_rest ∷ [])
-production BetweenNamed = (bounds_rest, t name_but_unknown ∷ n posts ∷ n expr_rest ∷ k kind.Comma ∷ n expr ∷ k kind.RoundClose ∷ [])
+production BetweenNamed = (bounds_rest, t name_but_unknown ∷ n name_rest ∷ n expr_rest ∷ k kind.Comma ∷ n expr ∷ k kind.RoundClose ∷ [])
 production Between = (bounds_rest, n first ∷ n expr_rest ∷ k kind.Comma ∷ n expr ∷ k kind.RoundClose ∷ [])
 production UnknownEnd = (unknown_rest, k kind.RoundClose ∷ [])
-production UnknownName = (unknown_rest, n posts ∷ n expr_rest ∷ k kind.Comma ∷ n expr ∷ k kind.RoundClose ∷ [])
+production UnknownName = (unknown_rest, n name_rest ∷ n expr_rest ∷ k kind.Comma ∷ n expr ∷ k kind.RoundClose ∷ [])
 -- block = "{" { local ";" | stmt } "}", after its `{`
 production EndBlock = (block_items, k kind.CurlyClose ∷ [])
 production Locals = (block_items, n locals ∷ n block_items ∷ [])
@@ -424,30 +462,46 @@ production NoLocals = (more_locals, k kind.Semicolon ∷ [])
 production LocalName = (local, n stars ∷ t name ∷ n declared_limits ∷ n local_initial ∷ [])
 production LocalInitial = (local_initial, k kind.Equals ∷ n value ∷ [])
 production NoLocalInitial = (local_initial, [])
--- right = expr | call, as the part `value`: a name may begin both, and so may `calloc`.
+-- right = expr | calloc, as the part `value`: `calloc` may begin both.
 production CallocValue = (value, k kind.Calloc ∷ n calloc_value ∷ [])
-production NamedValue = (value, t name_but_calloc ∷ n named_value ∷ [])
+production NamedValue = (value, t name_but_calloc ∷ n name_rest ∷ n expr_rest ∷ [])
 production Value = (value, n first ∷ n expr_rest ∷ [])
-production CallValue = (named_value, k kind.RoundOpen ∷ n arguments ∷ [])
-production ExprValue = (named_value, n posts ∷ n expr_rest ∷ [])
--- After `calloc` in a value: the arguments of a call; a `<`, which begins a type or is an operator; or what goes on
--- with the name `calloc` as an expression, by a post, by another operator, or without both.
-production CallocCall = (calloc_value, k kind.RoundOpen ∷ n arguments ∷ [])
+-- After `calloc` in a value: a `<`, which begins a type or is an operator; or what goes on with the name `calloc`.
+production CallocCall = (calloc_value, k kind.RoundOpen ∷ n arguments ∷ n posts ∷ n increment ∷ n expr_rest ∷ [])
 production CallocLess = (calloc_value, k kind.Less ∷ n less ∷ [])
-production CallocPost = (calloc_value, n post ∷ n posts ∷ n expr_rest ∷ [])
-production CallocStep = (calloc_value, n operation_but_less ∷ n unary ∷ n expr_rest ∷ [])
+production CallocPost = (calloc_value, n post ∷ n posts ∷ n increment ∷ n expr_rest ∷ [])
+production CallocIncrement = (calloc_value, t increment_sign ∷ n expr_rest ∷ [])
+production CallocSetting = (calloc_value, n setting ∷ [])
+production CallocStep = (calloc_value, n operation_but_less ∷ n unary ∷ n chain ∷ [])
 production CallocName = (calloc_value, n choice ∷ [])
-production LessOperand = (less, n unary ∷ n expr_rest ∷ [])
+production LessOperand = (less, n unary ∷ n chain ∷ [])
 production LessType = (less, n allocation ∷ [])
--- call = name "(" [ expr { "," expr } ] ")" | "calloc" "<" type ">" "(" expr "," "sizeof" "(" type ")" ")",
--- after `(` and after `<`
+-- call = name "(" [ expr { "," expr } ] ")" | calloc and
+-- calloc = "calloc" "<" type ">" "(" expr "," "sizeof" "(" type ")" ")", after `(` and after `<`
 production NoArguments = (arguments, k kind.RoundClose ∷ [])
 production Arguments = (arguments, n expr ∷ n more_arguments ∷ [])
 production MoreArguments = (more_arguments, k kind.Comma ∷ n expr ∷ n more_arguments ∷ [])
 production EndArguments = (more_arguments, k kind.RoundClose ∷ [])
 production Allocation = (allocation, n type_name ∷ t greater ∷ k kind.RoundOpen ∷ n expr ∷ k kind.Comma ∷ k kind.Sizeof ∷ k kind.RoundOpen ∷ n type_name ∷ k kind.RoundClose ∷ k kind.RoundClose ∷ [])
--- assign = unary "=" right
-production Assign = (assign, n unary ∷ k kind.Equals ∷ n value ∷ [])
+-- "=" right | op expr
+production SetTo = (setting, k kind.Equals ∷ n value ∷ [])
+production SetBy = (setting, t compound ∷ n expr ∷ [])
+production LaterSetting = (later_setting, n setting ∷ [])
+production NoSetting = (later_setting, [])
+-- assign = unary "=" right | unary op expr | ( "++" | "--" ) unary | postfix ( "++" | "--" ): the unary is read
+-- whole. If it begins or ends with `++` or `--`, nothing more is owed; after a sign, a cast or `sizeof` a setting is;
+-- after any other postfix a setting or an increment.
+production SettingChange = (change, n setting ∷ [])
+production IncrementChange = (change, t increment_sign ∷ n later_setting ∷ [])
+production NamedAssign = (assign, t name ∷ n call_rest ∷ n posts ∷ n change ∷ [])
+production UnnamedAssign = (assign, n unnamed ∷ [])
+production SignedAssign = (unnamed, t sign ∷ n unary ∷ n setting ∷ [])
+production IncrementAssign = (unnamed, t increment_sign ∷ n unary ∷ n later_setting ∷ [])
+production RoundAssign = (unnamed, k kind.RoundOpen ∷ n round_assign ∷ [])
+production SizeofAssign = (unnamed, k kind.Sizeof ∷ k kind.RoundOpen ∷ n type_name ∷ k kind.RoundClose ∷ n setting ∷ [])
+production PostfixAssign = (unnamed, n primary ∷ n posts ∷ n change ∷ [])
+production ParenAssign = (round_assign, n expr ∷ k kind.RoundClose ∷ n posts ∷ n change ∷ [])
+production CastAssign = (round_assign, n type_name ∷ k kind.RoundClose ∷ n unary ∷ n setting ∷ [])
 -- stmt = [ mode ] block | ";" | assign ";" | call ";" | "if" "(" expr ")" stmt [ "else" stmt ]
 --      | "while" "(" expr ")" stmt | "for" "(" [ base lname | assign ] ";" [ expr ] ";" [ assign ] ")" stmt
 --      | "return" [ expr ] ";" | "break" ";" | "continue" ";" | "_Dynamic_check" "(" expr ")" ";"
@@ -463,15 +517,17 @@ production Break = (stmt, k kind.Break ∷ k kind.Semicolon ∷ [])
 production Continue = (stmt, k kind.Continue ∷ k kind.Semicolon ∷ [])
 production Check = (stmt, k kind.Check ∷ k kind.RoundOpen ∷ n expr ∷ k kind.RoundClose ∷ k kind.Semicolon ∷ [])
 production Bundle = (stmt, k kind.Bundled ∷ k kind.CurlyOpen ∷ n assign ∷ k kind.Semicolon ∷ n assign ∷ k kind.Semicolon ∷ n assigns ∷ [])
-production CallocStmt = (stmt, k kind.Calloc ∷ n calloc_stmt ∷ [])
-production NamedStmt = (stmt, t name_but_calloc ∷ n named_stmt ∷ [])
-production AssignStmt = (stmt, n first ∷ k kind.Equals ∷ n value ∷ k kind.Semicolon ∷ [])
--- After a name that begins a statement: a call goes on at `(`, an assignment with posts and `=`. After `calloc` a
--- call goes on also at `<`, since no assignment does.
-production CallocTypeStmt = (calloc_stmt, k kind.Less ∷ n allocation ∷ k kind.Semicolon ∷ [])
+production CallocStmt = (stmt, k kind.Calloc ∷ n calloc_stmt ∷ k kind.Semicolon ∷ [])
+production NamedStmt = (stmt, t name_but_calloc ∷ n named_stmt ∷ k kind.Semicolon ∷ [])
+production AssignStmt = (stmt, n unnamed ∷ k kind.Semicolon ∷ [])
+-- After a name that begins a statement: the arguments of a call, which is all or the begin of a change; or a change.
+-- After `calloc` a call goes on also at `<`, since no assignment does.
+production CallocTypeStmt = (calloc_stmt, k kind.Less ∷ n allocation ∷ [])
 production CallocNameStmt = (calloc_stmt, n named_stmt ∷ [])
-production CallStmt = (named_stmt, k kind.RoundOpen ∷ n arguments ∷ k kind.Semicolon ∷ [])
-production NamedAssign = (named_stmt, n posts ∷ k kind.Equals ∷ n value ∷ k kind.Semicolon ∷ [])
+production CallStmt = (named_stmt, k kind.RoundOpen ∷ n arguments ∷ n called_stmt ∷ [])
+production ChangeStmt = (named_stmt, n posts ∷ n change ∷ [])
+production CalledStmt = (called_stmt, [])
+production CalledChange = (called_stmt, n posts ∷ n change ∷ [])
 -- An `if` without `else` does not stand before `else`.
 production Else = (otherwise, k kind.Else ∷ n stmt ∷ [])
 production NoElse = (otherwise, [])
@@ -488,9 +544,11 @@ production AssignStep = (for_step, n assign ∷ k kind.RoundClose ∷ [])
 -- { assign ";" } "}"
 production EndAssigns = (assigns, k kind.CurlyClose ∷ [])
 production Assigns = (assigns, n assign ∷ k kind.Semicolon ∷ n assigns ∷ [])
--- expr = binary [ "?" expr ":" expr ]
+-- expr = unary "=" right | unary op expr | binary [ "?" expr ":" expr ]: all begin with a unary
 production Expr = (expr, n unary ∷ n expr_rest ∷ [])
-production ExprRest = (expr_rest, n tail ∷ n choice ∷ [])
+production ExprRest = (expr_rest, n chain ∷ [])
+production ExprSetting = (expr_rest, n setting ∷ [])
+production Chain = (chain, n tail ∷ n choice ∷ [])
 production Choice = (choice, k kind.Question ∷ n expr ∷ k kind.Colon ∷ n expr ∷ [])
 production NoChoice = (choice, [])
 -- binary = operands joined by operators: the operators are read in a row, and the value joins the operands by how
@@ -504,16 +562,23 @@ production Operator = (operation_but_less, t operator ∷ [])
 production Greater = (operation_but_less, t greater ∷ n second ∷ [])
 production Second = (second, k kind.GreaterNext ∷ [])
 production NoSecond = (second, [])
--- unary = ( "-" | "+" | "!" | "~" | "*" | "&" ) unary | "(" type ")" unary | "sizeof" "(" type ")" | postfix,
--- where a name begins a postfix and `first` is everything that begins with no name
-production Named = (unary, t name ∷ n posts ∷ [])
+-- unary = ( "-" | "+" | "!" | "~" | "*" | "&" | "++" | "--" ) unary | "(" type ")" unary | "sizeof" "(" type ")"
+--       | postfix [ "++" | "--" ], where a name begins a postfix and `first` is everything that begins with no name
+production Named = (unary, t name ∷ n name_rest ∷ [])
+production NameRest = (name_rest, n call_rest ∷ n posts ∷ n increment ∷ [])
+-- [ "(" [ expr { "," expr } ] ")" ] and [ "++" | "--" ]
+production CallRest = (call_rest, k kind.RoundOpen ∷ n arguments ∷ [])
+production NoCall = (call_rest, [])
+production Increment = (increment, t increment_sign ∷ [])
+production NoIncrement = (increment, [])
 production Unnamed = (unary, n first ∷ [])
 production Signed = (first, t sign ∷ n unary ∷ [])
+production Incremented = (first, t increment_sign ∷ n unary ∷ [])
 production Round = (first, k kind.RoundOpen ∷ n round ∷ [])
 production Sizeof = (first, k kind.Sizeof ∷ k kind.RoundOpen ∷ n type_name ∷ k kind.RoundClose ∷ [])
-production Postfix = (first, n primary ∷ n posts ∷ [])
+production Postfix = (first, n primary ∷ n posts ∷ n increment ∷ [])
 -- After `(`: a base begins the type of a cast, everything else an expression.
-production Paren = (round, n expr ∷ k kind.RoundClose ∷ n posts ∷ [])
+production Paren = (round, n expr ∷ k kind.RoundClose ∷ n posts ∷ n increment ∷ [])
 production Cast = (round, n type_name ∷ k kind.RoundClose ∷ n unary ∷ [])
 -- postfix = primary { "[" expr "]" | "." name | "->" name }
 production Posts = (posts, n post ∷ n posts ∷ [])
@@ -521,7 +586,7 @@ production NoPosts = (posts, [])
 production Index = (post, k kind.SquareOpen ∷ n expr ∷ k kind.SquareClose ∷ [])
 production Dot = (post, k kind.Dot ∷ t name ∷ [])
 production Arrow = (post, k kind.Arrow ∷ t name ∷ [])
--- primary = name | number | character | string | "NULL" | "EOF" | "(" expr ")"
+-- primary = name | name "(" .. ")" | number | character | string | "NULL" | "EOF" | "(" expr ")"
 --         | ( "_Dynamic_bounds_cast" | "_Assume_bounds_cast" ) "<" type ">" "(" expr [ "," limits ] ")"
 production Constant = (primary, n constant ∷ [])
 production Tested = (primary, k kind.Tested ∷ n bounds_cast ∷ [])

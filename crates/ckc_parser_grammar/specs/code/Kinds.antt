@@ -8,7 +8,7 @@ use Rattle.ckc_syntax.specs.Spelled.{Spelled}
 use Rattle.ckc_syntax.specs.declared.tokens.TokenKind.{TokenKind}
 use Rattle.ckc_syntax.specs.declared.tokens.TokenKind.TheVariants as kinds
 use Rattle.ckc_parser_grammar.specs.declared.kind.Kind.{Kind}
-use Rattle.ckc_parser_grammar.specs.declared.kind.Kind.TheVariants.{Name, Calloc, Count, ByteCount, Bounds, Unknown, Number, Character, Text, Directive, Other, Int, Unsigned, Char, Void, Struct, Static, If, Else, While, For, Return, Break, Continue, Sizeof, Null, Eof, Ptr, ArrayPtr, NtArrayPtr, Checked, Unchecked, NtChecked, Bundled, Check, Tested, Trusted, RoundOpen, RoundClose, CurlyOpen, CurlyClose, SquareOpen, SquareClose, Less, Greater, Comma, Semicolon, Colon, Question, Equals, Dot, Arrow, Plus, Minus, Star, Slash, Percent, Ampersand, Bar, Caret, Tilde, Exclamation, ShiftLeft, LessEquals, GreaterEquals, EqualsEquals, NotEquals, AndAnd, BarBar}
+use Rattle.ckc_parser_grammar.specs.declared.kind.Kind.TheVariants.{Name, Calloc, Count, ByteCount, Bounds, Unknown, Number, Character, Text, Directive, Other, Int, Unsigned, Char, Void, Struct, Static, If, Else, While, For, Return, Break, Continue, Sizeof, Null, Eof, Ptr, ArrayPtr, NtArrayPtr, Checked, Unchecked, NtChecked, Bundled, Check, Tested, Trusted, RoundOpen, RoundClose, CurlyOpen, CurlyClose, SquareOpen, SquareClose, Less, Greater, Comma, Semicolon, Colon, Question, Equals, Dot, Arrow, Plus, Minus, Star, Slash, Percent, Ampersand, Bar, Caret, Tilde, Exclamation, ShiftLeft, LessEquals, GreaterEquals, EqualsEquals, NotEquals, AndAnd, BarBar, PlusPlus, MinusMinus, PlusEquals, MinusEquals, StarEquals, SlashEquals, PercentEquals, AmpersandEquals, BarEquals, CaretEquals}
 
 -- Names that the grammar reads in some places.
 abbrev pub kind_of_name : List ℕ → Kind
@@ -71,6 +71,21 @@ kind_of_keyword text =
     if is text (codes "EOF") then Eof else
     kind_of_checked_keyword text
 
+-- Marks that change a variable.
+abbrev pub kind_of_changing : List ℕ → Kind
+kind_of_changing text =
+    if is text (codes "++") then PlusPlus else
+    if is text (codes "--") then MinusMinus else
+    if is text (codes "+=") then PlusEquals else
+    if is text (codes "-=") then MinusEquals else
+    if is text (codes "*=") then StarEquals else
+    if is text (codes "/=") then SlashEquals else
+    if is text (codes "%=") then PercentEquals else
+    if is text (codes "&=") then AmpersandEquals else
+    if is text (codes "|=") then BarEquals else
+    if is text (codes "^=") then CaretEquals else
+    Other
+
 -- Operators of two bytes.
 abbrev pub kind_of_long_operator : List ℕ → Kind
 kind_of_long_operator text =
@@ -81,7 +96,7 @@ kind_of_long_operator text =
     if is text (codes "!=") then NotEquals else
     if is text (codes "&&") then AndAnd else
     if is text (codes "||") then BarBar else
-    Other
+    kind_of_changing text
 
 -- Operators of one byte.
 abbrev pub kind_of_operator : List ℕ → Kind
@@ -149,6 +164,38 @@ is_sign k = is_some (sign_of k)
 -- the operator of a sign
 abbrev pub sign_op : Kind → TreeOp
 sign_op k = unwrap_or (sign_of k) op.Minus
+
+-- the operator of `++` or `--`
+abbrev pub increment_of : Kind → Option TreeOp
+increment_of PlusPlus = Some op.Add
+increment_of MinusMinus = Some op.Sub
+increment_of _ = None
+
+-- a token of this kind is `++` or `--`
+abbrev pub is_increment : Kind → Bool
+is_increment k = is_some (increment_of k)
+
+abbrev pub increment_op : Kind → TreeOp
+increment_op k = unwrap_or (increment_of k) op.Add
+
+-- the operator of an operator with `=`
+abbrev pub compound_of : Kind → Option TreeOp
+compound_of PlusEquals = Some op.Add
+compound_of MinusEquals = Some op.Sub
+compound_of StarEquals = Some op.Mul
+compound_of SlashEquals = Some op.Div
+compound_of PercentEquals = Some op.Rem
+compound_of AmpersandEquals = Some op.And
+compound_of BarEquals = Some op.Or
+compound_of CaretEquals = Some op.Xor
+compound_of _ = None
+
+-- a token of this kind is an operator with `=`
+abbrev pub is_compound : Kind → Bool
+is_compound k = is_some (compound_of k)
+
+abbrev pub compound_op : Kind → TreeOp
+compound_op k = unwrap_or (compound_of k) op.Add
 
 -- the binary operator of a token, `<` and `>` apart
 abbrev pub operator_of : Kind → Option TreeOp

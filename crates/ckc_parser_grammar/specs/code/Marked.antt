@@ -8,8 +8,8 @@ use Rattle.ckc_parser_grammar.specs.declared.parts.Stop.{Stop}
 use Rattle.ckc_parser_grammar.specs.declared.parts.Stop.TheVariants as stop
 use Rattle.ckc_parser_grammar.specs.declared.reader.Reader.{Reader}
 use Rattle.ckc_parser_grammar.specs.code.Kinds.{kind_of_token}
-use Rattle.ckc_parser_grammar.specs.code.Grammar.{Symbol, Rule}
-use Rattle.ckc_parser_grammar.specs.code.Values.{Value, made}
+use Rattle.ckc_parser_grammar.specs.code.Grammar.{Symbol}
+use Rattle.ckc_parser_grammar.specs.code.Values.{Value}
 use Rattle.ckc_parser_grammar.specs.code.Derives.{Sign}
 use Rattle.ckc_parser_grammar.specs.code.Signs.{signs_after}
 use Rattle.ckc_parser_grammar.specs.code.Reading.{Takes, Stops}
@@ -40,20 +40,7 @@ Answered G ss old (Err e) new = Halts ss old e new
 abbrev pub Parses : {X : Type 0} → (X → Value) → Symbol → List Sign → Result X Stop → List Sign → Type 0
 Parses f s old r new = Answered (λ x. Takes (s ∷ []) old (f x ∷ []) new) (s ∷ []) old r new
 
--- It is taken with a value of which the result is made.
-abbrev pub Gives : {X : Type 0} → (Value → X) → Symbol → List Sign → Result X Stop → List Sign → Type 0
-Gives worth s old r new = Answered (λ x. (v : Value) × Takes (s ∷ []) old (v ∷ []) new × (worth v ≡ x)) (s ∷ []) old r new
-
 -- the place of the next token, or the end
 abbrev pub place_of : List Sign → Pos → Pos
 place_of [] end = end
 place_of (x ∷ xs) end = x.token.pos
-
--- What it is to read several symbols: they are taken with values that fit the result, or the next token does not
--- go on.
-abbrev pub Reads : {X : Type 0} → List Symbol → (X → List Value → Type 0) → List Sign → Result X Stop → List Sign → Type 0
-Reads ss P old r new = Answered (λ x. (vs : List Value) × Takes ss old vs new × P x vs) ss old r new
-
--- what a production makes
-abbrev pub Makes : {X : Type 0} → Rule → (X → Value) → X → List Value → Type 0
-Makes r f x vs = made r vs ≡ f x

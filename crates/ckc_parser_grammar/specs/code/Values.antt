@@ -20,14 +20,16 @@ use Rattle.ckc_syntax.specs.declared.tree.TreeOp.{TreeOp}
 use Rattle.ckc_syntax.specs.declared.tree.TreeOp.TheVariants as op
 use Rattle.ckc_parser_grammar.specs.declared.kind.Kind.{Kind}
 use Rattle.ckc_parser_grammar.specs.declared.parts.Arms.{Arms}
+use Rattle.ckc_parser_grammar.specs.declared.parts.Operation.{Operation}
+use Rattle.ckc_parser_grammar.specs.declared.parts.Setting.{Setting}
 use Rattle.ckc_parser_grammar.specs.declared.parts.Post.{Post}
 use Rattle.ckc_parser_grammar.specs.declared.parts.Post.TheVariants as behind
-use Rattle.ckc_parser_grammar.specs.code.Kinds.{kind_of_token, sign_op, binary_op}
+use Rattle.ckc_parser_grammar.specs.code.Kinds.{kind_of_token, sign_op, increment_op, compound_op, binary_op}
 use Rattle.ckc_parser_grammar.specs.code.Grammar as g
 use Rattle.ckc_parser_grammar.specs.code.Grammar.{Rule}
 use Rattle.ckc_syntax.specs.code.Decoded.{decoded}
 pub use Rattle.ckc_grammar.specs.Makers.{declared, directive_of, number_of}
-use Rattle.ckc_parser_grammar.specs.code.Trees.{Name, Tree, Item, TypeTree, Decl, Init, Limits, Expr, Stmt, Step, expr_at, stmt_at, starred, statics, local_of, locals, function_of, posted, joined, picked, literal}
+use Rattle.ckc_parser_grammar.specs.code.Trees.{Name, Tree, Item, TypeTree, Decl, Init, Limits, Expr, Stmt, Step, expr_at, stmt_at, starred, statics, local_of, locals, function_of, posted, joined, picked, with_increment, by_one, set, changed, stepped, literal}
 
 -- A value of some part. A part that stands after something has what it makes of that: a name, a type, a place.
 pub data Value : Type 0 where
@@ -65,13 +67,19 @@ pub data Value : Type 0 where
   operator : TreeOp → Pos → Value
   second : Bool → Value
   steps : List Step → Value
-  rest : List Step → Option Arms → Value
+  rest : List Step → Option Arms → Option Setting → Value
+  call : Option (List Expr) → Value
+  increment : Option Operation → Value
+  setting : Option Setting → Value
+  change : Option Operation → Option Setting → Value
+  called_change : List Post → Option Operation → Option Setting → Value
   post : Post → Value
   posts : List Post → Value
   stmt : Stmt → Value
   part : Option Stmt → Value
   stmts : List Stmt → Value
   stmt_of_name : (Spelled → Stmt) → Value
+  stmt_behind : (Pos → Stmt) → Value
 
 -- the value of a part, which one of another part does not have
 abbrev pub nowhere : Pos
@@ -235,7 +243,7 @@ as_expr_of_less _ = λ t pos. no_expr
 -- the two expressions after the `?` of a value, if it has them
 abbrev pub as_arms : Value → Option Arms
 as_arms (arms x) = x
-as_arms (rest ss x) = x
+as_arms (rest ss x s) = x
 as_arms _ = None
 
 -- whether a second `>` follows a `>`
@@ -246,7 +254,7 @@ as_next _ = false
 -- the binary operators of a value, each with its right operand
 abbrev pub as_steps : Value → List Step
 as_steps (steps x) = x
-as_steps (rest x a) = x
+as_steps (rest x a s) = x
 as_steps _ = []
 
 -- the `[e]`, `.m` or `->m` that a value is
@@ -257,7 +265,28 @@ as_post _ = behind.Index no_expr nowhere
 -- the same of each that stands after an expression
 abbrev pub as_posts : Value → List Post
 as_posts (posts x) = x
+as_posts (called_change x i s) = x
 as_posts _ = []
+
+-- the arguments in the parentheses after a name, if it is called
+abbrev pub as_call : Value → Option (List Expr)
+as_call (call x) = x
+as_call _ = None
+
+-- the `++` or `--` behind an operand, if one stands there
+abbrev pub as_increment : Value → Option Operation
+as_increment (increment x) = x
+as_increment (change x s) = x
+as_increment (called_change ps x s) = x
+as_increment _ = None
+
+-- what stands after a target: `=` or an operator with `=`, and an expression
+abbrev pub as_setting : Value → Option Setting
+as_setting (setting x) = x
+as_setting (rest ss a x) = x
+as_setting (change i x) = x
+as_setting (called_change ps i x) = x
+as_setting _ = None
 
 -- the statement that a value is
 abbrev pub as_stmt : Value → Stmt
@@ -278,6 +307,11 @@ as_stmts _ = []
 abbrev pub as_stmt_of_name : Value → (Spelled → Stmt)
 as_stmt_of_name (stmt_of_name x) = x
 as_stmt_of_name _ = λ t. no_stmt
+
+-- the statement that a value makes of the place of the `(` before it
+abbrev pub as_stmt_behind : Value → (Pos → Stmt)
+as_stmt_behind (stmt_behind x) = x
+as_stmt_behind _ = λ pos. no_stmt
 
 -- the binary operator that a value is
 abbrev pub as_op : Value → TreeOp
@@ -326,6 +360,23 @@ called t es = expr_at (node.Call t.text es) t.pos
 abbrev pub whole : Expr → List Step → Option Arms → Expr
 whole e ss c = picked (joined e ss) c
 
+-- a name, which is called if arguments stand after it
+abbrev pub called_or_named : Spelled → Option (List Expr) → Expr
+called_or_named t None = named t
+called_or_named t (Some es) = called t es
+
+-- an operand with what goes on with it: operators and arms, or a setting, of which it is the target
+abbrev pub finished : Expr → List Step → Option Arms → Option Setting → Expr
+finished e ss c None = whole e ss c
+finished e ss c (Some s) = set e s
+
+abbrev pub ended : Expr → Value → Expr
+ended e r = finished e (as_steps r) (as_arms r) (as_setting r)
+
+-- a `++` or `--` with its place
+abbrev pub increment_at : Value → Operation
+increment_at o = record { op = increment_op (kind_at o); pos = place o }
+
 -- a binary operator with its place and its right operand
 abbrev pub step : Value → Value → Step
 step o e = record { op = as_op o; pos = place o; operand = as_expr e }
@@ -336,7 +387,7 @@ struct_type t = ctype.Struct t.text t.pos
 
 -- What a production stands for, by what its symbols stand for. The places: a literal or a name at its first byte; an
 -- operator, `[`, `.`, `->` and `?` at that token; a call at the called name; a cast at its `(`; `sizeof`, a bounds
--- cast and a statement at the first token; a declaration at the declared name; an assignment at its `=`;
+-- cast and a statement at the first token; a declaration at the declared name; an assignment or increment at its operator;
 -- `bounds(unknown)` at `bounds`.
 abbrev pub made : Rule → List Value → Value
 made g.Text (is ∷ []) = tree (record { items = as_items is })
@@ -412,10 +463,10 @@ made g.Count (c ∷ a ∷ e ∷ b ∷ []) = limits (bounds.Count (as_expr e) (pl
 made g.ByteCount (c ∷ a ∷ e ∷ b ∷ []) = limits (bounds.ByteCount (as_expr e) (place c))
 made g.BoundsOf (b ∷ a ∷ r ∷ []) = limits (as_limits_at r (place b))
 made g.Unknown (u ∷ r ∷ []) = limits_at (λ pos. as_limits_of_unknown r pos (as_token u))
-made g.BetweenNamed (name ∷ ps ∷ r ∷ d ∷ e ∷ b ∷ []) = limits_at (λ pos. bounds.Between (whole (posted (named (as_token name)) (as_posts ps)) (as_steps r) (as_arms r)) (as_expr e) pos)
-made g.Between (f ∷ r ∷ d ∷ e ∷ b ∷ []) = limits_at (λ pos. bounds.Between (whole (as_expr f) (as_steps r) (as_arms r)) (as_expr e) pos)
+made g.BetweenNamed (name ∷ h ∷ r ∷ d ∷ e ∷ b ∷ []) = limits_at (λ pos. bounds.Between (ended (as_expr_of_name h (as_token name)) r) (as_expr e) pos)
+made g.Between (f ∷ r ∷ d ∷ e ∷ b ∷ []) = limits_at (λ pos. bounds.Between (ended (as_expr f) r) (as_expr e) pos)
 made g.UnknownEnd (b ∷ []) = limits_of_unknown (λ pos t. bounds.Unknown pos)
-made g.UnknownName (ps ∷ r ∷ d ∷ e ∷ b ∷ []) = limits_of_unknown (λ pos t. bounds.Between (whole (posted (named t) (as_posts ps)) (as_steps r) (as_arms r)) (as_expr e) pos)
+made g.UnknownName (h ∷ r ∷ d ∷ e ∷ b ∷ []) = limits_of_unknown (λ pos t. bounds.Between (ended (as_expr_of_name h t) r) (as_expr e) pos)
 made g.EndBlock (b ∷ []) = stmts []
 made g.Locals (ds ∷ ss ∷ []) = stmts (locals (as_decls ds) ++ as_stmts ss)
 made g.Stmts (s ∷ ss ∷ []) = stmts (as_stmt s ∷ as_stmts ss)
@@ -426,13 +477,13 @@ made g.LocalName (ps ∷ name ∷ b ∷ i ∷ []) = decl_of_base (λ base. decla
 made g.LocalInitial (e ∷ v ∷ []) = init (inits.One (as_expr v))
 made g.NoLocalInitial [] = init inits.Nothing
 made g.CallocValue (name ∷ v ∷ []) = expr (as_expr_of_name v (as_token name))
-made g.NamedValue (name ∷ v ∷ []) = expr (as_expr_of_name v (as_token name))
-made g.Value (f ∷ r ∷ []) = expr (whole (as_expr f) (as_steps r) (as_arms r))
-made g.CallValue (a ∷ es ∷ []) = expr_of_name (λ t. called t (as_exprs es))
-made g.ExprValue (ps ∷ r ∷ []) = expr_of_name (λ t. whole (posted (named t) (as_posts ps)) (as_steps r) (as_arms r))
-made g.CallocCall (a ∷ es ∷ []) = expr_of_name (λ t. called t (as_exprs es))
+made g.NamedValue (name ∷ h ∷ r ∷ []) = expr (ended (as_expr_of_name h (as_token name)) r)
+made g.Value (f ∷ r ∷ []) = expr (ended (as_expr f) r)
+made g.CallocCall (a ∷ es ∷ ps ∷ i ∷ r ∷ []) = expr_of_name (λ t. ended (with_increment (posted (called t (as_exprs es)) (as_posts ps)) (as_increment i)) r)
 made g.CallocLess (a ∷ v ∷ []) = expr_of_name (λ t. as_expr_of_less v t (place a))
-made g.CallocPost (p ∷ ps ∷ r ∷ []) = expr_of_name (λ t. whole (posted (named t) (as_post p ∷ as_posts ps)) (as_steps r) (as_arms r))
+made g.CallocPost (p ∷ ps ∷ i ∷ r ∷ []) = expr_of_name (λ t. ended (with_increment (posted (named t) (as_post p ∷ as_posts ps)) (as_increment i)) r)
+made g.CallocIncrement (o ∷ r ∷ []) = expr_of_name (λ t. ended (with_increment (named t) (Some (increment_at o))) r)
+made g.CallocSetting (s ∷ []) = expr_of_name (λ t. finished (named t) [] None (as_setting s))
 made g.CallocStep (o ∷ e ∷ r ∷ []) = expr_of_name (λ t. whole (named t) (step o e ∷ as_steps r) (as_arms r))
 made g.CallocName (c ∷ []) = expr_of_name (λ t. picked (named t) (as_arms c))
 made g.LessOperand (e ∷ r ∷ []) = expr_of_less (λ t pos. whole (named t) (record { op = op.Lt; pos = pos; operand = as_expr e } ∷ as_steps r) (as_arms r))
@@ -442,7 +493,21 @@ made g.Arguments (e ∷ es ∷ []) = exprs (as_expr e ∷ as_exprs es)
 made g.MoreArguments (c ∷ e ∷ es ∷ []) = exprs (as_expr e ∷ as_exprs es)
 made g.EndArguments (b ∷ []) = exprs []
 made g.Allocation (t ∷ a ∷ b ∷ e ∷ c ∷ s ∷ d ∷ u ∷ f ∷ h ∷ []) = expr_of_name (λ name. expr_at (node.Calloc (as_type t) (as_expr e) (as_type u)) name.pos)
-made g.Assign (e ∷ a ∷ v ∷ []) = stmt (stmt_at (act.Assign (as_expr e) (as_expr v)) (place a))
+made g.SetTo (a ∷ x ∷ []) = setting (Some (record { op = None; pos = place a; value = as_expr x }))
+made g.SetBy (o ∷ e ∷ []) = setting (Some (record { op = Some (compound_op (kind_at o)); pos = place o; value = as_expr e }))
+made g.LaterSetting (s ∷ []) = s
+made g.NoSetting [] = setting None
+made g.SettingChange (s ∷ []) = change None (as_setting s)
+made g.IncrementChange (o ∷ s ∷ []) = change (Some (increment_at o)) (as_setting s)
+made g.NamedAssign (name ∷ c ∷ ps ∷ d ∷ []) = stmt (changed (posted (called_or_named (as_token name) (as_call c)) (as_posts ps)) (as_increment d) (as_setting d))
+made g.UnnamedAssign (s ∷ []) = s
+made g.SignedAssign (a ∷ e ∷ s ∷ []) = stmt (changed (expr_at (node.Un (sign_op (kind_at a)) (as_expr e)) (place a)) None (as_setting s))
+made g.IncrementAssign (o ∷ e ∷ s ∷ []) = stmt (stepped (as_expr e) (increment_at o) (as_setting s))
+made g.RoundAssign (a ∷ r ∷ []) = stmt (as_stmt_behind r (place a))
+made g.SizeofAssign (x ∷ a ∷ t ∷ b ∷ s ∷ []) = stmt (changed (expr_at (node.Size (as_type t)) (place x)) None (as_setting s))
+made g.PostfixAssign (e ∷ ps ∷ d ∷ []) = stmt (changed (posted (as_expr e) (as_posts ps)) (as_increment d) (as_setting d))
+made g.ParenAssign (e ∷ b ∷ ps ∷ d ∷ []) = stmt_behind (λ pos. changed (posted (as_expr e) (as_posts ps)) (as_increment d) (as_setting d))
+made g.CastAssign (t ∷ b ∷ e ∷ s ∷ []) = stmt_behind (λ pos. changed (expr_at (node.Cast (as_type t) (as_expr e)) pos) None (as_setting s))
 made g.ModedBlock (m ∷ a ∷ ss ∷ []) = stmt (stmt_at (act.Block (Some (as_mode m)) (as_stmts ss)) (place m))
 made g.Block (a ∷ ss ∷ []) = stmt (stmt_at (act.Block None (as_stmts ss)) (place a))
 made g.Empty (a ∷ []) = stmt (stmt_at act.Empty (place a))
@@ -454,13 +519,15 @@ made g.Break (b ∷ a ∷ []) = stmt (stmt_at act.Break (place b))
 made g.Continue (c ∷ a ∷ []) = stmt (stmt_at act.Continue (place c))
 made g.Check (c ∷ a ∷ e ∷ b ∷ d ∷ []) = stmt (stmt_at (act.Check (as_expr e)) (place c))
 made g.Bundle (b ∷ a ∷ s ∷ c ∷ u ∷ d ∷ ss ∷ []) = stmt (stmt_at (act.Bundle (as_stmt s ∷ as_stmt u ∷ as_stmts ss)) (place b))
-made g.CallocStmt (name ∷ s ∷ []) = stmt (as_stmt_of_name s (as_token name))
-made g.NamedStmt (name ∷ s ∷ []) = stmt (as_stmt_of_name s (as_token name))
-made g.AssignStmt (f ∷ a ∷ v ∷ b ∷ []) = stmt (stmt_at (act.Assign (as_expr f) (as_expr v)) (place a))
-made g.CallocTypeStmt (a ∷ v ∷ b ∷ []) = stmt_of_name (λ t. stmt_at (act.Call (as_expr_of_name v t)) t.pos)
+made g.CallocStmt (name ∷ s ∷ a ∷ []) = stmt (as_stmt_of_name s (as_token name))
+made g.NamedStmt (name ∷ s ∷ a ∷ []) = stmt (as_stmt_of_name s (as_token name))
+made g.AssignStmt (s ∷ a ∷ []) = s
+made g.CallocTypeStmt (a ∷ x ∷ []) = stmt_of_name (λ t. stmt_at (act.Call (as_expr_of_name x t)) t.pos)
 made g.CallocNameStmt (s ∷ []) = s
-made g.CallStmt (a ∷ es ∷ b ∷ []) = stmt_of_name (λ t. stmt_at (act.Call (called t (as_exprs es))) t.pos)
-made g.NamedAssign (ps ∷ a ∷ v ∷ b ∷ []) = stmt_of_name (λ t. stmt_at (act.Assign (posted (named t) (as_posts ps)) (as_expr v)) (place a))
+made g.CallStmt (a ∷ es ∷ r ∷ []) = stmt_of_name (λ t. changed (posted (called t (as_exprs es)) (as_posts r)) (as_increment r) (as_setting r))
+made g.ChangeStmt (ps ∷ d ∷ []) = stmt_of_name (λ t. changed (posted (named t) (as_posts ps)) (as_increment d) (as_setting d))
+made g.CalledStmt [] = called_change [] None None
+made g.CalledChange (ps ∷ d ∷ []) = called_change (as_posts ps) (as_increment d) (as_setting d)
 made g.Else (e ∷ s ∷ []) = part (Some (as_stmt s))
 made g.NoElse [] = part None
 made g.NoCondition (a ∷ []) = value None
@@ -472,8 +539,10 @@ made g.NoStep (b ∷ []) = part None
 made g.AssignStep (s ∷ b ∷ []) = part (Some (as_stmt s))
 made g.EndAssigns (b ∷ []) = stmts []
 made g.Assigns (s ∷ a ∷ ss ∷ []) = stmts (as_stmt s ∷ as_stmts ss)
-made g.Expr (e ∷ r ∷ []) = expr (whole (as_expr e) (as_steps r) (as_arms r))
-made g.ExprRest (ss ∷ c ∷ []) = rest (as_steps ss) (as_arms c)
+made g.Expr (e ∷ r ∷ []) = expr (ended (as_expr e) r)
+made g.ExprRest (c ∷ []) = c
+made g.ExprSetting (s ∷ []) = rest [] None (as_setting s)
+made g.Chain (ss ∷ c ∷ []) = rest (as_steps ss) (as_arms c) None
 made g.Choice (q ∷ e ∷ c ∷ f ∷ []) = arms (Some (record { pos = place q; yes = as_expr e; no = as_expr f }))
 made g.NoChoice [] = arms None
 made g.Step (o ∷ e ∷ ss ∷ []) = steps (step o e ∷ as_steps ss)
@@ -484,13 +553,19 @@ made g.Operator (a ∷ []) = operator (binary_op (kind_at a)) (place a)
 made g.Greater (a ∷ b ∷ []) = operator (if as_next b then op.Shr else op.Gt) (place a)
 made g.Second (a ∷ []) = second true
 made g.NoSecond [] = second false
-made g.Named (name ∷ ps ∷ []) = expr (posted (named (as_token name)) (as_posts ps))
+made g.Named (name ∷ h ∷ []) = expr (as_expr_of_name h (as_token name))
+made g.NameRest (c ∷ ps ∷ i ∷ []) = expr_of_name (λ t. with_increment (posted (called_or_named t (as_call c)) (as_posts ps)) (as_increment i))
+made g.CallRest (a ∷ es ∷ []) = call (Some (as_exprs es))
+made g.NoCall [] = call None
+made g.Increment (o ∷ []) = increment (Some (increment_at o))
+made g.NoIncrement [] = increment None
 made g.Unnamed (e ∷ []) = e
 made g.Signed (a ∷ e ∷ []) = expr (expr_at (node.Un (sign_op (kind_at a)) (as_expr e)) (place a))
+made g.Incremented (o ∷ e ∷ []) = expr (set (as_expr e) (by_one (increment_at o)))
 made g.Round (a ∷ e ∷ []) = expr (as_expr_behind e (place a))
 made g.Sizeof (s ∷ a ∷ t ∷ b ∷ []) = expr (expr_at (node.Size (as_type t)) (place s))
-made g.Postfix (e ∷ ps ∷ []) = expr (posted (as_expr e) (as_posts ps))
-made g.Paren (e ∷ b ∷ ps ∷ []) = expr_behind (λ pos. posted (as_expr e) (as_posts ps))
+made g.Postfix (e ∷ ps ∷ i ∷ []) = expr (with_increment (posted (as_expr e) (as_posts ps)) (as_increment i))
+made g.Paren (e ∷ b ∷ ps ∷ i ∷ []) = expr_behind (λ pos. with_increment (posted (as_expr e) (as_posts ps)) (as_increment i))
 made g.Cast (t ∷ b ∷ e ∷ []) = expr_behind (λ pos. expr_at (node.Cast (as_type t) (as_expr e)) pos)
 made g.Posts (p ∷ ps ∷ []) = posts (as_post p ∷ as_posts ps)
 made g.NoPosts [] = posts []

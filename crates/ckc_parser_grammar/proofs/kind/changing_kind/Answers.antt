@@ -1,0 +1,17 @@
+use Rattle.std.proofs.Common.{sym, ◌∙◌}
+use Rattle.std.specs.Prelude.{codes}
+use Rattle.ckc_parser_grammar.proofs.Spelled.{skip}
+use Rattle.ckc_parser_grammar.proofs.kind.changing_kind.Goals as goal
+
+pub returns-in_default : goal.returns-in_default
+returns-in_default c = sym (
+    skip _ (codes "++") _ _ c.in_default.not-text
+    ∙ skip _ (codes "--") _ _ c.in_default.not-text-2
+    ∙ skip _ (codes "+=") _ _ c.in_default.not-text-3
+    ∙ skip _ (codes "-=") _ _ c.in_default.not-text-4
+    ∙ skip _ (codes "*=") _ _ c.in_default.not-text-5
+    ∙ skip _ (codes "/=") _ _ c.in_default.not-text-6
+    ∙ skip _ (codes "%=") _ _ c.in_default.not-text-7
+    ∙ skip _ (codes "&=") _ _ c.in_default.not-text-8
+    ∙ skip _ (codes "|=") _ _ c.in_default.not-text-9
+    ∙ skip _ (codes "^=") _ _ c.in_default.not-text-10)
