@@ -23,6 +23,7 @@ ghost use Rattle.ckc_typed.specs.Types.{is_scalar};
 ghost use Rattle.ckc_typed.specs.Environment.{member_type, variable_declared, variables_of};
 ghost use Rattle.ckc_resolve.specs.Trees.{Tree};
 ghost use Rattle.ckc_plain.specs.Phase.{resolving};
+ghost use Rattle.ckc_typed_welltyped.specs.Productions.{spoken_tree};
 ghost use Rattle.ckc_scopes.specs.Phase.{scoping};
 ghost use Rattle.ckc_typed_welltyped.specs.Expressions.{WellTypedExpr};
 ghost use Rattle.ckc_typed_welltyped.specs.Noteless.{without_notes};

@@ -23,14 +23,16 @@ use Rattle.ckc_syntax.specs.declared.tree.TreeOp.{TreeOp}
 use Rattle.ckc_syntax.specs.declared.tree.TreeOp.TheVariants as op
 use Rattle.ckc_parser_grammar.specs.declared.kind.Kind.{Kind}
 use Rattle.ckc_parser_grammar.specs.declared.parts.Arms.{Arms}
+use Rattle.ckc_parser_grammar.specs.declared.parts.Operation.{Operation}
+use Rattle.ckc_parser_grammar.specs.declared.parts.Setting.{Setting}
 use Rattle.ckc_parser_grammar.specs.declared.parts.Post.{Post}
 use Rattle.ckc_parser_grammar.specs.declared.parts.Post.TheVariants as behind
 use Rattle.ckc_parser_grammar.specs.code.Grammar.{Part, Symbol, t, n, Rule, left, right}
 use Rattle.ckc_parser_grammar.specs.code.Grammar as g
-use Rattle.ckc_parser_grammar.specs.code.Trees.{Name, Tree, Item, Head, TypeTree, Decl, Limits, Expr, Node, Stmt, Act, expr_at, stmt_at, statics, local_of, locals, function_of, posted, joined_at, joined_to, joined, level, picked, literal}
+use Rattle.ckc_parser_grammar.specs.code.Trees.{Name, Tree, Item, Head, TypeTree, Decl, Limits, Expr, Node, Stmt, Act, expr_at, stmt_at, statics, local_of, locals, function_of, one_at, assigned_by, set_by, posted, with_increment, assigned_to, assigned, set_to, set, by_one, changed, stepped, joined_at, joined_to, joined, level, picked, literal}
 use Rattle.ckc_grammar.specs.declared.chain.Step.{Step}
 use Rattle.ckc_parser_grammar.specs.code.Values as v
-use Rattle.ckc_parser_grammar.specs.code.Values.{Value, made, named, called, whole, step, as_token, as_items, as_items_of_name, as_items_of_base, as_items_of_declarator, as_item_of_head, as_decl, as_decls, as_decl_of_base, as_decls_of_base, as_decl_of_name, as_init, as_limits, as_declared_limits, as_limits_at, as_limits_of_unknown, as_expr, as_exprs, as_value, as_expr_behind, as_expr_of_name, as_expr_of_less, as_arms, as_steps, as_post, as_posts, as_stmt, as_part, as_stmts, as_stmt_of_name, operand_of, limits_of, as_type, name_of}
+use Rattle.ckc_parser_grammar.specs.code.Values.{Value, made, named, called, whole, step, as_token, as_items, as_items_of_name, as_items_of_base, as_items_of_declarator, as_item_of_head, as_decl, as_decls, as_decl_of_base, as_decls_of_base, as_decl_of_name, as_init, as_limits, as_declared_limits, as_limits_at, as_limits_of_unknown, as_expr, as_exprs, as_value, as_expr_behind, as_expr_of_name, as_expr_of_less, as_arms, as_steps, as_post, as_posts, as_stmt, as_part, as_stmts, as_stmt_of_name, operand_of, limits_of, as_type, name_of, called_or_named, finished, ended, increment_at, as_call, as_increment, as_setting, as_stmt_behind}
 use Rattle.ckc_parser_grammar.specs.code.Derives.{Sign, Derives}
 use Rattle.ckc_parser_grammar.specs.code.Derives as D
 use Rattle.ckc_blame_words.proofs.Strings.{decoded_bytes}
@@ -59,6 +61,9 @@ SA ss = AllByRecursion (λ s. C s.operand) ss
 
 abbrev AA : Option Arms → Type 0
 AA o = IfSome o (λ a. C a.yes × C a.no)
+
+abbrev SetOk : Option Setting → Type 0
+SetOk o = IfSome o (λ (s : Setting). C s.value)
 
 abbrev bounds_have : Option Limits → Bool
 bounds_have = inside_if all_have limits_have_words
@@ -115,13 +120,18 @@ Good g.more_locals x = (base : TypeTree) → LD (as_decls_of_base x base)
 Good g.local x = (base : TypeTree) → decl_has_words (as_decl_of_base x base) ≡ true
 Good g.local_initial x = init_has_words (as_init x) ≡ true
 Good g.value x = C (as_expr x)
-Good g.named_value x = (s : Spelled) → C (as_expr_of_name x s)
 Good g.calloc_value x = (s : Spelled) → C (as_expr_of_name x s)
 Good g.less x = (s : Spelled) (pos : Pos) → C (as_expr_of_less x s pos)
 Good g.arguments x = LE (as_exprs x)
 Good g.more_arguments x = LE (as_exprs x)
 Good g.allocation x = (s : Spelled) → C (as_expr_of_name x s)
+Good g.setting x = SetOk (as_setting x)
+Good g.later_setting x = SetOk (as_setting x)
+Good g.change x = SetOk (as_setting x)
 Good g.assign x = S (as_stmt x)
+Good g.unnamed x = S (as_stmt x)
+Good g.round_assign x = (pos : Pos) → S (as_stmt_behind x pos)
+Good g.called_stmt x = PA (as_posts x) × SetOk (as_setting x)
 Good g.stmt x = S (as_stmt x)
 Good g.calloc_stmt x = (s : Spelled) → S (as_stmt_of_name x s)
 Good g.named_stmt x = (s : Spelled) → S (as_stmt_of_name x s)
@@ -131,7 +141,10 @@ Good g.for_start x = part_has (as_part x) ≡ true
 Good g.for_step x = part_has (as_part x) ≡ true
 Good g.assigns x = LS (as_stmts x)
 Good g.expr x = C (as_expr x)
-Good g.expr_rest x = SA (as_steps x) × AA (as_arms x)
+Good g.expr_rest x = SA (as_steps x) × AA (as_arms x) × SetOk (as_setting x)
+Good g.chain x = SA (as_steps x) × AA (as_arms x) × SetOk (as_setting x)
+Good g.name_rest x = (s : Spelled) → C (as_expr_of_name x s)
+Good g.call_rest x = IfSome (as_call x) LE
 Good g.choice x = AA (as_arms x)
 Good g.tail x = SA (as_steps x)
 Good g.unary x = C (as_expr x)
@@ -287,6 +300,28 @@ c_picked e (Some a) h p = c_pick e a.yes a.no a.pos h p.0 p.1
 c_whole : (e : Expr) (ss : List Step) (a : Option Arms) → C e → SA ss → AA a → C (whole e ss a)
 c_whole e ss a h p q = c_picked (joined e ss) a (c_joined e ss h p) q
 
+c_one : (pos : Pos) → C (one_at pos)
+c_one pos = c_number 1 false pos refl
+
+c_set_to : (x : Expr) (o : Option TreeOp) (pos : Pos) (e : Expr) → C x → C e → C (set_to x o pos e)
+c_set_to x None pos e h k = c_bin op.Set x e pos h k
+c_set_to x (Some o) pos e h k = c_bin op.Set x (expr_at (node.Bin o x e) pos) pos h (c_bin o x e pos h k)
+
+c_set : (x : Expr) (s : Setting) → C x → C s.value → C (set x s)
+c_set x s h k = c_set_to x s.op s.pos s.value h k
+
+c_incremented : (x : Expr) (i : Option Operation) → C x → C (with_increment x i)
+c_incremented x None h = h
+c_incremented x (Some o) h = c_un _ x o.pos h
+
+c_finished : (e : Expr) (ss : List Step) (a : Option Arms) (s : Option Setting) → C e → SA ss → AA a → SetOk s → C (finished e ss a s)
+c_finished e ss a None h p q r = c_whole e ss a h p q
+c_finished e ss a (Some s) h p q r = c_set e s h r
+
+c_called_or_named : (s : Spelled) (o : Option (List Expr)) → IfSome o LE → C (called_or_named s o)
+c_called_or_named s None h = c_name s.text s.pos
+c_called_or_named s (Some es) h = c_called s es h
+
 -- ---- bounds
 
 limited : (d : Limits-F Name (Unit {0}) Limits Node Expr) (l : Limits) → roll-Limits Name (Unit {0}) d ≡ l
@@ -365,6 +400,23 @@ locals_have : (ds : List Decl) → LD ds → LS (locals ds)
 locals_have [] h = refl
 locals_have (d ∷ ds) h = both _ _ (s_local d (first_of _ _ h)) (locals_have ds (second_of _ _ h))
 
+s_assigned_to : (x : Expr) (o : Option TreeOp) (pos : Pos) (e : Expr) → C x → C e → S (assigned_to x o pos e)
+s_assigned_to x None pos e h k = s_assign x e pos h k
+s_assigned_to x (Some o) pos e h k = s_assign x (expr_at (node.Bin o x e) pos) pos h (c_bin o x e pos h k)
+
+s_assigned : (x : Expr) (s : Setting) → C x → C s.value → S (assigned x s)
+s_assigned x s h k = s_assigned_to x s.op s.pos s.value h k
+
+s_changed : (x : Expr) (i : Option Operation) (s : Option Setting) → C x → SetOk s → S (changed x i s)
+s_changed x None None h k = s_call x x.pos h
+s_changed x (Some o) None h k = s_assigned x (by_one o) h (c_one o.pos)
+s_changed x None (Some s) h k = s_assigned x s h k
+s_changed x (Some o) (Some s) h k = s_assigned (with_increment x (Some o)) s (c_incremented x (Some o) h) k
+
+s_stepped : (x : Expr) (o : Operation) (s : Option Setting) → C x → SetOk s → S (stepped x o s)
+s_stepped x o None h k = s_assigned x (by_one o) h (c_one o.pos)
+s_stepped x o (Some s) h k = s_assigned (set x (by_one o)) s (c_set x (by_one o) h (c_one o.pos)) k
+
 -- ---- items
 
 statics_have : (ds : List Decl) → LD ds → LI (statics ds)
@@ -432,10 +484,10 @@ good_made g.Count (cons h0 (cons h1 (cons h2 (cons h3 nil)))) = l_count _ _ h2
 good_made g.ByteCount (cons h0 (cons h1 (cons h2 (cons h3 nil)))) = l_bytes _ _ h2
 good_made g.BoundsOf (cons h0 (cons h1 (cons h2 nil))) = h2 _
 good_made g.Unknown (cons h0 (cons h1 nil)) = λ pos. h1 _ _
-good_made g.BetweenNamed (cons h0 (cons h1 (cons h2 (cons h3 (cons h4 (cons h5 nil)))))) = λ pos. l_between _ _ pos (c_whole _ _ _ (c_posted _ _ (c_name _ _) h1) h2.0 h2.1) h4
-good_made g.Between (cons h0 (cons h1 (cons h2 (cons h3 (cons h4 nil))))) = λ pos. l_between _ _ pos (c_whole _ _ _ h0 h1.0 h1.1) h3
+good_made g.BetweenNamed (cons h0 (cons h1 (cons h2 (cons h3 (cons h4 (cons h5 nil)))))) = λ pos. l_between _ _ pos (c_finished _ _ _ _ (h1 _) h2.0 h2.1 h2.2) h4
+good_made g.Between (cons h0 (cons h1 (cons h2 (cons h3 (cons h4 nil))))) = λ pos. l_between _ _ pos (c_finished _ _ _ _ (h0) h1.0 h1.1 h1.2) h3
 good_made g.UnknownEnd (cons h0 nil) = λ pos s. l_unknown pos
-good_made g.UnknownName (cons h0 (cons h1 (cons h2 (cons h3 (cons h4 nil))))) = λ pos s. l_between _ _ pos (c_whole _ _ _ (c_posted _ _ (c_name _ _) h0) h1.0 h1.1) h3
+good_made g.UnknownName (cons h0 (cons h1 (cons h2 (cons h3 (cons h4 nil))))) = λ pos s. l_between _ _ pos (c_finished _ _ _ _ (h0 s) h1.0 h1.1 h1.2) h3
 good_made g.EndBlock (cons h0 nil) = refl
 good_made g.Locals (cons h0 (cons h1 nil)) = all_joined stmt_has_words _ _ (locals_have _ h0) h1
 good_made g.Stmts (cons h0 (cons h1 nil)) = both _ _ h0 h1
@@ -446,14 +498,14 @@ good_made g.LocalName (cons h0 (cons h1 (cons h2 (cons h3 nil)))) = λ base. bot
 good_made g.LocalInitial (cons h0 (cons h1 nil)) = h1
 good_made g.NoLocalInitial nil = refl
 good_made g.CallocValue (cons h0 (cons h1 nil)) = h1 _
-good_made g.NamedValue (cons h0 (cons h1 nil)) = h1 _
-good_made g.Value (cons h0 (cons h1 nil)) = c_whole _ _ _ h0 h1.0 h1.1
-good_made g.CallValue (cons h0 (cons h1 nil)) = λ s. c_called s _ h1
-good_made g.ExprValue (cons h0 (cons h1 nil)) = λ s. c_whole _ _ _ (c_posted _ _ (c_name _ _) h0) h1.0 h1.1
-good_made g.CallocCall (cons h0 (cons h1 nil)) = λ s. c_called s _ h1
+good_made g.NamedValue (cons h0 (cons h1 (cons h2 nil))) = c_finished _ _ _ _ (h1 _) h2.0 h2.1 h2.2
+good_made g.Value (cons h0 (cons h1 nil)) = c_finished _ _ _ _ (h0) h1.0 h1.1 h1.2
+good_made g.CallocCall (cons h0 (cons h1 (cons h2 (cons h3 (cons h4 nil))))) = λ s. c_finished _ _ _ _ (c_incremented _ _ (c_posted _ _ (c_called s _ h1) h2)) h4.0 h4.1 h4.2
 good_made g.CallocLess (cons h0 (cons h1 nil)) = λ s. h1 _ _
-good_made g.CallocPost (cons {x = x0} h0 (cons {x = x1} h1 (cons {x = x2} h2 nil))) = λ s. c_whole _ _ _ (c_posted (named s) (as_post x0 ∷ as_posts x1) (c_name _ _) (h0, h1)) h2.0 h2.1
+good_made g.CallocPost (cons {x = x0} h0 (cons {x = x1} h1 (cons {x = x2} h2 (cons h3 nil)))) = λ s. c_finished _ _ _ _ (c_incremented _ (as_increment x2) (c_posted (named s) (as_post x0 ∷ as_posts x1) (c_name _ _) (h0, h1))) h3.0 h3.1 h3.2
 good_made g.CallocStep (cons {x = x0} h0 (cons {x = x1} h1 (cons {x = x2} h2 nil))) = λ s. c_whole (named s) (step x0 x1 ∷ as_steps x2) (as_arms x2) (c_name _ _) (h1, h2.0) h2.1
+good_made g.CallocIncrement (cons {x = x0} h0 (cons h1 nil)) = λ s. c_finished _ _ _ _ (c_incremented (named s) (Some (increment_at x0)) (c_name _ _)) h1.0 h1.1 h1.2
+good_made g.CallocSetting (cons {x = x0} h0 nil) = λ s. c_finished (named s) [] None (as_setting x0) (c_name _ _) tt tt h0
 good_made g.CallocName (cons h0 nil) = λ s. c_picked _ _ (c_name _ _) h0
 good_made g.LessOperand (cons {x = x0} h0 (cons {x = x1} h1 nil)) = λ s pos. c_whole (named s) (record { op = op.Lt; pos = pos; operand = as_expr x0 } ∷ as_steps x1) (as_arms x1) (c_name _ _) (h0, h1.0) h1.1
 good_made g.LessType (cons h0 nil) = λ s pos. h0 s
@@ -462,7 +514,21 @@ good_made g.Arguments (cons h0 (cons h1 nil)) = both _ _ h0 h1
 good_made g.MoreArguments (cons h0 (cons h1 (cons h2 nil))) = both _ _ h1 h2
 good_made g.EndArguments (cons h0 nil) = refl
 good_made g.Allocation (cons {x = x0} h0 (cons {x = x1} h1 (cons {x = x2} h2 (cons {x = x3} h3 (cons {x = x4} h4 (cons {x = x5} h5 (cons {x = x6} h6 (cons {x = x7} h7 (cons {x = x8} h8 (cons {x = x9} h9 nil)))))))))) = λ s. c_calloc (as_type x0) (as_expr x3) (as_type x7) s.pos h3
-good_made g.Assign (cons h0 (cons h1 (cons h2 nil))) = s_assign _ _ _ h0 h2
+good_made g.SetTo (cons h0 (cons h1 nil)) = h1
+good_made g.SetBy (cons h0 (cons h1 nil)) = h1
+good_made g.LaterSetting (cons h0 nil) = h0
+good_made g.NoSetting nil = tt
+good_made g.SettingChange (cons h0 nil) = h0
+good_made g.IncrementChange (cons h0 (cons h1 nil)) = h1
+good_made g.NamedAssign (cons {x = x0} h0 (cons {x = x1} h1 (cons {x = x2} h2 (cons {x = x3} h3 nil)))) = s_changed _ (as_increment x3) (as_setting x3) (c_posted _ _ (c_called_or_named (as_token x0) (as_call x1) h1) h2) h3
+good_made g.UnnamedAssign (cons h0 nil) = h0
+good_made g.SignedAssign (cons h0 (cons h1 (cons {x = x2} h2 nil))) = s_changed _ None (as_setting x2) (c_un _ _ _ h1) h2
+good_made g.IncrementAssign (cons {x = x0} h0 (cons h1 (cons {x = x2} h2 nil))) = s_stepped _ (increment_at x0) (as_setting x2) h1 h2
+good_made g.RoundAssign (cons h0 (cons h1 nil)) = h1 _
+good_made g.SizeofAssign (cons h0 (cons h1 (cons h2 (cons h3 (cons {x = x4} h4 nil))))) = s_changed _ None (as_setting x4) (c_size _ _) h4
+good_made g.PostfixAssign (cons h0 (cons h1 (cons {x = x2} h2 nil))) = s_changed _ (as_increment x2) (as_setting x2) (c_posted _ _ h0 h1) h2
+good_made g.ParenAssign (cons h0 (cons h1 (cons h2 (cons {x = x3} h3 nil)))) = λ pos. s_changed _ (as_increment x3) (as_setting x3) (c_posted _ _ h0 h2) h3
+good_made g.CastAssign (cons h0 (cons h1 (cons h2 (cons {x = x3} h3 nil)))) = λ pos. s_changed _ None (as_setting x3) (c_cast _ _ pos h2) h3
 good_made g.ModedBlock (cons h0 (cons h1 (cons h2 nil))) = s_block (Some _) _ _ h2
 good_made g.Block (cons h0 (cons h1 nil)) = s_block None _ _ h1
 good_made g.Empty (cons h0 nil) = s_empty _
@@ -474,13 +540,15 @@ good_made g.Break (cons h0 (cons h1 nil)) = s_break _
 good_made g.Continue (cons h0 (cons h1 nil)) = s_continue _
 good_made g.Check (cons h0 (cons h1 (cons h2 (cons h3 (cons h4 nil))))) = s_check _ _ h2
 good_made g.Bundle (cons h0 (cons h1 (cons h2 (cons h3 (cons h4 (cons h5 (cons h6 nil))))))) = s_bundle _ _ (both _ _ h2 (both _ _ h4 h6))
-good_made g.CallocStmt (cons h0 (cons h1 nil)) = h1 _
-good_made g.NamedStmt (cons h0 (cons h1 nil)) = h1 _
-good_made g.AssignStmt (cons h0 (cons h1 (cons h2 (cons h3 nil)))) = s_assign _ _ _ h0 h2
-good_made g.CallocTypeStmt (cons h0 (cons h1 (cons h2 nil))) = λ s. s_call _ _ (h1 s)
+good_made g.CallocStmt (cons h0 (cons h1 (cons h2 nil))) = h1 _
+good_made g.NamedStmt (cons h0 (cons h1 (cons h2 nil))) = h1 _
+good_made g.AssignStmt (cons h0 (cons h1 nil)) = h0
+good_made g.CallocTypeStmt (cons h0 (cons h1 nil)) = λ s. s_call _ _ (h1 s)
 good_made g.CallocNameStmt (cons h0 nil) = h0
-good_made g.CallStmt (cons h0 (cons h1 (cons h2 nil))) = λ s. s_call _ _ (c_called s _ h1)
-good_made g.NamedAssign (cons h0 (cons h1 (cons h2 (cons h3 nil)))) = λ s. s_assign _ _ _ (c_posted _ _ (c_name _ _) h0) h2
+good_made g.CallStmt (cons h0 (cons h1 (cons {x = x2} h2 nil))) = λ s. s_changed _ (as_increment x2) (as_setting x2) (c_posted _ _ (c_called s _ h1) h2.0) h2.1
+good_made g.ChangeStmt (cons h0 (cons {x = x1} h1 nil)) = λ s. s_changed _ (as_increment x1) (as_setting x1) (c_posted _ _ (c_name _ _) h0) h1
+good_made g.CalledStmt nil = (tt, tt)
+good_made g.CalledChange (cons h0 (cons h1 nil)) = (h0, h1)
 good_made g.Else (cons h0 (cons h1 nil)) = h1
 good_made g.NoElse nil = refl
 good_made g.NoCondition (cons h0 nil) = refl
@@ -492,19 +560,25 @@ good_made g.NoStep (cons h0 nil) = refl
 good_made g.AssignStep (cons h0 (cons h1 nil)) = h0
 good_made g.EndAssigns (cons h0 nil) = refl
 good_made g.Assigns (cons h0 (cons h1 (cons h2 nil))) = both _ _ h0 h2
-good_made g.Expr (cons h0 (cons h1 nil)) = c_whole _ _ _ h0 h1.0 h1.1
-good_made g.ExprRest (cons h0 (cons h1 nil)) = (h0, h1)
+good_made g.Expr (cons h0 (cons h1 nil)) = c_finished _ _ _ _ (h0) h1.0 h1.1 h1.2
+good_made g.ExprRest (cons h0 nil) = h0
+good_made g.ExprSetting (cons h0 nil) = (tt, (tt, h0))
+good_made g.Chain (cons h0 (cons h1 nil)) = (h0, (h1, tt))
 good_made g.Choice (cons h0 (cons h1 (cons h2 (cons h3 nil)))) = (h1, h3)
 good_made g.NoChoice nil = tt
 good_made g.Step (cons h0 (cons h1 (cons h2 nil))) = (h1, h2)
 good_made g.NoTail nil = tt
-good_made g.Named (cons h0 (cons h1 nil)) = c_posted _ _ (c_name _ _) h1
+good_made g.Named (cons h0 (cons h1 nil)) = h1 _
+good_made g.NameRest (cons {x = x0} h0 (cons h1 (cons {x = x2} h2 nil))) = λ s. c_incremented _ (as_increment x2) (c_posted _ _ (c_called_or_named s (as_call x0) h0) h1)
+good_made g.CallRest (cons h0 (cons h1 nil)) = h1
+good_made g.NoCall nil = tt
 good_made g.Unnamed (cons h0 nil) = h0
 good_made g.Signed (cons h0 (cons h1 nil)) = c_un _ _ _ h1
+good_made g.Incremented (cons {x = x0} h0 (cons h1 nil)) = c_set _ (by_one (increment_at x0)) h1 (c_one _)
 good_made g.Round (cons h0 (cons h1 nil)) = h1 _
 good_made g.Sizeof (cons h0 (cons h1 (cons h2 (cons h3 nil)))) = c_size _ _
-good_made g.Postfix (cons h0 (cons h1 nil)) = c_posted _ _ h0 h1
-good_made g.Paren (cons h0 (cons h1 (cons h2 nil))) = λ pos. c_posted _ _ h0 h2
+good_made g.Postfix (cons h0 (cons h1 (cons {x = x2} h2 nil))) = c_incremented _ (as_increment x2) (c_posted _ _ h0 h1)
+good_made g.Paren (cons h0 (cons h1 (cons h2 (cons {x = x3} h3 nil)))) = λ pos. c_incremented _ (as_increment x3) (c_posted _ _ h0 h2)
 good_made g.Cast (cons h0 (cons h1 (cons h2 nil))) = λ pos. c_cast _ _ pos h2
 good_made g.Posts (cons h0 (cons h1 nil)) = (h0, h1)
 good_made g.NoPosts nil = tt

@@ -5,7 +5,6 @@ pub mod NamedActs
 pub mod Defined
 pub mod NamedItems
 pub mod FormKept
-pub mod SmallKept
 pub mod Numbered
 pub mod EachOnce
 pub mod LocalsCounted

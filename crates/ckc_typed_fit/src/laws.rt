@@ -2,19 +2,17 @@
 
 ghost use Rattle.std.specs.Prelude.{◌≡◌, true, All};
 ghost use Rattle.ckc_syntax.specs.declared.tree.NamedText.{NamedText};
-ghost use Rattle.ckc_syntax_limits.specs.Small.{Small};
 ghost use Rattle.ckc_resolve.specs.Trees.{Tree};
 ghost use Rattle.ckc_resolve.specs.Phase.{naming};
-ghost use Rattle.ckc_typed_welltyped.specs.Productions.{given_tree, spoken_tree};
+ghost use Rattle.ckc_typed_welltyped.specs.Productions.{spoken_tree};
 ghost use Rattle.ckc_typed_fit.specs.Bodies.{FunctionsHaveBodies, HasMain};
-ghost use Rattle.ckc_typed_fit.specs.Fit.{Fit};
 ghost use Rattle.ckc_typed_fit.specs.Locals.{item_locals};
 ghost use Rattle.ckc_typed_fit.specs.Members.{item_members, AreDifferent};
 ghost use Rattle.ckc_typed_fit.specs.Numbers.{static_numbers, CountsFrom, function_numbers, tag_numbers, CountsUp};
 ghost use Rattle.ckc_typed_fit.specs.Visible.{NamesAreVisible, TagsHaveBodies};
 
-/// The grammar gives a tree whose names are resolved exactly when it gives the tree of the spellings: calls stand in
-/// the same places, and so do the parts of bundles, of `for` and of structures.
+/// The grammar gives a tree whose names are resolved exactly when it gives the tree of the spellings: each `calloc` stands
+/// in the same place, and so do declarations, and the parts of bundles, of `for` and of structures.
 pub fn names_keep_form()
     ensures form { (t : Tree) (n : NamedText) →
         naming.Makes t n → spoken_tree n.tree ≡ spoken_tree t }
@@ -48,11 +46,6 @@ pub fn members_differ()
         naming.Makes t n → All (λ i. AreDifferent (item_members i)) n.tree.items }
 {}
 
-/// A text whose names are resolved keeps the limits of a text if the text of the spellings does.
-pub fn small_stays()
-    ensures small { (t : Tree) (n : NamedText) → naming.Makes t n → Small t → Small n.tree }
-{}
-
 /// Each name is declared and visible where it stands (ISO C11, 6.2.1), and each tag that a type names has a body.
 pub fn names_are_visible()
     ensures names { (t : Tree) (n : NamedText) → naming.Makes t n → NamesAreVisible n.tree.items }
@@ -68,10 +61,4 @@ pub fn functions_have_bodies()
 /// The function `main` has a body and the head `int main(void)` (ISO C11, 5.1.2.2.1).
 pub fn has_main()
     ensures main { (t : Tree) (n : NamedText) → naming.Makes t n → HasMain n }
-{}
-
-/// What the names phase makes of a small tree that the grammar gives is fit: later phases may rely on all of `Fit`.
-pub fn fits_later_phases()
-    ensures fit { (t : Tree) (n : NamedText) → given_tree t ≡ true → Small t → naming.Makes t n
-        → Fit n }
 {}

@@ -5,7 +5,6 @@
 mod laws;
 
 pub use laws::{
-    fits_later_phases, functions_and_tags_are_numbered, functions_have_bodies, has_main,
-    locals_are_numbered, members_differ, names_are_visible, names_keep_form, small_stays,
-    statics_are_numbered,
+    functions_and_tags_are_numbered, functions_have_bodies, has_main, locals_are_numbered,
+    members_differ, names_are_visible, names_keep_form, statics_are_numbered,
 };

@@ -254,20 +254,20 @@ module _ (known : Integers) where
 
   -- an expression that is no effect stays
   record Plainly (r : NamedExpr × Pending) : Type 0 where
-    form : form_of r.0 ≡ form.Other
+    shape : form_of r.0 ≡ form.Other
     same : taken known r ≡ r
 
   plainly : (x : Layer) (n : NamedNode) (pos : Pos) (q : Pending) → roll-Node Name (Unit {0}) x ≡ n → form_of_layer x ≡ form.Other
       → node_taken known x (expr_at n pos) q ≡ (expr_at n pos, q) → Plainly (expr_at n pos, q)
   plainly x n pos q is other same = record {
-    form = ap form_of_layer (layer_of x n is) ∙ other;
+    shape = ap form_of_layer (layer_of x n is) ∙ other;
     same = ap (λ z. node_taken known z (expr_at n pos) q) (layer_of x n is) ∙ same;
   }
 
   ordinary : (i : Bool) (d : Found) (k : OfExpr) → d.form ≡ form.Other → ((p : Pending) → Plainly (k p))
       → ((b : Bool) → i ≡ true → d.inside b ≡ [] → (p : Pending) → AllGood p.stmts → Made Callless (k p)) → Holds (no_call i) d k
   ordinary i d k is plain inner =
-      other_holds i d k (subst IsOther (sym is) other_is) (λ p. ap forms.is_call (plain p).form)
+      other_holds i d k (subst IsOther (sym is) other_is) (λ p. ap forms.is_call (plain p).shape)
       (λ b f e p g. subst (Made Callless) (sym (plain p).same) (inner b f (empty_parts (d.inside b) (d.itself b) e).0 p g))
 
   -- ---- right sides, and calls as a whole
@@ -463,7 +463,7 @@ module _ (known : Integers) where
     computes : (w : Work) → work_of o ≡ w → forms.unary_form w ≡ form.Other → ((a e : NamedExpr) (q : Pending) → unary_taken known w a e q ≡ (e, q)) → Says (Node-F.Un o k.0) pos
     computes w is other same =
         ordinary (expr_form k.0).inner d (λ p. (whole p, (after_rest p).1)) (ap forms.unary_form is ∙ other)
-        (λ p. record { form = form_is p w is ∙ other; same = taken_is p w is ∙ same (after_rest p).0 (whole p) (after_rest p).1 })
+        (λ p. record { shape = form_is p w is ∙ other; same = taken_is p w is ∙ same (after_rest p).0 (whole p) (after_rest p).1 })
         (λ b f e p g. let m = k.1.inner b f e p g in made (Node-F.Un o _) _ pos _ (node.rolls-Un o _) m.is m.pending)
 
     steps : (by : TreeOp) → work_of o ≡ work.Steps by → Says (Node-F.Un o k.0) pos

@@ -1,10 +1,7 @@
 -- The items of a plain tree are those of the tree before, but for the bodies of its functions.
-use Rattle.std.proofs.Common.{◌≡◌, ◌∙◌, ◌<◌, sym, ap, refl, subst, cc, ℕ, suc, List, [], ◌∷◌, ◌++◌, map, arith}
-use Rattle.std.specs.Prelude.{All, Any, Ok, Err, Option, Some, None}
-use Rattle.std.specs.List.{flat_map, slice_get}
-use Rattle.std.specs.Option.{option_map}
-use Rattle.std.proofs.lemmas.List.{length-map}
-use Rattle.std.proofs.lemmas.Option.{slice_get-map}
+use Rattle.std.proofs.Common.{◌≡◌, ◌∙◌, ◌<◌, sym, ap, refl, subst, ℕ, zero, suc, List, [], ◌∷◌, ◌++◌, map, length, get_or, arith}
+use Rattle.std.specs.Prelude.{All, Any, Ok}
+use Rattle.std.specs.List.{flat_map}
 use Rattle.std.proofs.lemmas.List.Elements.{All-nil, All-cons, All-head, All-tail}
 use Rattle.ckc_base.specs.declared.places.Pos.{Pos}
 use Rattle.ckc_base.specs.Outcomes.{Outcome, bind}
@@ -50,31 +47,36 @@ resolved_of t n m =
 
 -- ---- what looks at no bodies
 
-module _ (known : Integers) where
-  -- a claim on items holds of what they become
-  all_kept : (P : NamedItem → Type 0) → ((h : NamedHead) (b c : NamedStmt) → P (item.Function h b) → P (item.Function h c)) → (is : List NamedItem) → All P is → All P (map (item_plain known) is)
-  all_kept P blind [] h = All-nil P
-  all_kept P blind (i ∷ is) h = All-cons P (item_plain known i) (map (item_plain known) is) (one i (All-head P i is h)) (all_kept P blind is (All-tail P i is h))
-    where
-      one : (i : NamedItem) → P i → P (item_plain known i)
-      one (item.Directive d) p = p
-      one (item.Tag n at) p = p
-      one (item.Struct n members at) p = p
-      one (item.Static d) p = p
-      one (item.Proto g) p = p
-      one (item.Function g body) p = blind g body _ p
+any_here : {X : Type 0} (P : X → Type 0) (x : X) (xs : List X) → P x → Any P (x ∷ xs)
+any_here P x xs p = (0, x, omega arith, refl, p)
 
-  any_kept : (P : NamedItem → Type 0) → ((h : NamedHead) (b c : NamedStmt) → P (item.Function h b) → P (item.Function h c)) → (is : List NamedItem) → Any P is → Any P (map (item_plain known) is)
-  any_kept P blind is a =
-      (a.0, item_plain known a.1, subst (λ n. a.0 < n) (sym (length-map is (item_plain known))) a.2, slice_get-map (item_plain known) is a.0 ∙ ap (option_map (item_plain known)) a.3, one a.1 a.4)
-    where
-      one : (i : NamedItem) → P i → P (item_plain known i)
-      one (item.Directive d) p = p
-      one (item.Tag n at) p = p
-      one (item.Struct n members at) p = p
-      one (item.Static d) p = p
-      one (item.Proto g) p = p
-      one (item.Function g body) p = blind g body _ p
+any_there : {X : Type 0} (P : X → Type 0) (x : X) (xs : List X) → Any P xs → Any P (x ∷ xs)
+any_there P x xs a = (suc a.0, a.1, omega (arith, a.2), a.3, a.4)
+
+module _ (known : Integers) where
+  abbrev IsBlind : (NamedItem → Type 0) → Type 0
+  IsBlind P = (h : NamedHead) (b c : NamedStmt) → P (item.Function h b) → P (item.Function h c)
+
+  -- a claim on an item holds of what it becomes
+  one_kept : (P : NamedItem → Type 0) → IsBlind P → (i : NamedItem) → P i → P (item_plain known i)
+  one_kept P blind (item.Directive d) p = p
+  one_kept P blind (item.Tag n at) p = p
+  one_kept P blind (item.Struct n members at) p = p
+  one_kept P blind (item.Static d) p = p
+  one_kept P blind (item.Proto g) p = p
+  one_kept P blind (item.Function g body) p = blind g body _ p
+
+  all_kept : (P : NamedItem → Type 0) → IsBlind P → (is : List NamedItem) → All P is → All P (map (item_plain known) is)
+  all_kept P blind [] h = All-nil P
+  all_kept P blind (i ∷ is) h = All-cons P (item_plain known i) (map (item_plain known) is) (one_kept P blind i (All-head P i is h)) (all_kept P blind is (All-tail P i is h))
+
+  any_at : (P : NamedItem → Type 0) → IsBlind P → (is : List NamedItem) (k : ℕ) (x : NamedItem) → k < length is → get_or is k x ≡ x → P x → Any P (map (item_plain known) is)
+  any_at P blind [] k x h e p = absurd (omega (arith, h))
+  any_at P blind (i ∷ is) zero x h e p = any_here P (item_plain known i) (map (item_plain known) is) (one_kept P blind i (subst P (sym e) p))
+  any_at P blind (i ∷ is) (suc k) x h e p = any_there P (item_plain known i) (map (item_plain known) is) (any_at P blind is k x (omega (arith, h)) e p)
+
+  any_kept : (P : NamedItem → Type 0) → IsBlind P → (is : List NamedItem) → Any P is → Any P (map (item_plain known) is)
+  any_kept P blind is a = any_at P blind is a.0 a.1 a.2 a.3 a.4
 
   -- a function of items gives the same of what they become
   module _ {X : Type 0} (f : NamedItem → X) (blind : (h : NamedHead) (b c : NamedStmt) → f (item.Function h b) ≡ f (item.Function h c)) where

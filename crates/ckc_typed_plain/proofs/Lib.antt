@@ -4,3 +4,6 @@ pub mod GivenExprs
 pub mod Untouched
 pub mod GivenStmts
 pub mod Given
+pub mod VisibleExprs
+pub mod VisibleStmts
+pub mod Found

@@ -78,7 +78,7 @@ sub_both vs us xs ys f g n h =
     by true is k = or_left _ _ (f n is)
     by false is k = or_right _ _ (g n k)
 
-left_append : (xs ys : List Walked) → left_by (xs ++ ys) ≡ left_by xs ++ left_by ys
+pub left_append : (xs ys : List Walked) → left_by (xs ++ ys) ≡ left_by xs ++ left_by ys
 left_append [] ys = refl
 left_append (x ∷ xs) ys = ap (λ l. x.leaves ++ l) (left_append xs ys) ∙ sym (append_assoc x.leaves (left_by xs) (left_by ys))
 
@@ -93,7 +93,7 @@ pass_append (x ∷ xs) ys visible =
     assoc true b c = refl
     assoc false b c = refl
 
-map_append : {X Y : Type 0} (f : X → Y) (xs ys : List X) → map f (xs ++ ys) ≡ map f xs ++ map f ys
+pub map_append : {X Y : Type 0} (f : X → Y) (xs ys : List X) → map f (xs ++ ys) ≡ map f xs ++ map f ys
 map_append f [] ys = refl
 map_append f (x ∷ xs) ys = ap (λ l. f x ∷ l) (map_append f xs ys)
 
@@ -116,7 +116,7 @@ module _ (T : Tests) (tame : AreTame T) where
   abbrev pub Pass : List Name → List NamedStmt → Type 0
   Pass ws ss = pass_in_turn (map W ss) ws ≡ true
 
-  at_append : (ws : List Name) (ss ts : List NamedStmt) → At ws (ss ++ ts) ≡ At ws ss ++ left_by (map W ts)
+  pub at_append : (ws : List Name) (ss ts : List NamedStmt) → At ws (ss ++ ts) ≡ At ws ss ++ left_by (map W ts)
   at_append ws ss ts =
       ap (λ l. ws ++ left_by l) (map_append W ss ts) ∙ ap (λ l. ws ++ l) (left_append (map W ss) (map W ts)) ∙ sym (append_assoc ws (left_by (map W ss)) (left_by (map W ts)))
 
@@ -192,6 +192,94 @@ module _ (T : Tests) (tame : AreTame T) where
       let left : left_by (map W (declare_at t k e pos ∷ [])) ≡ name.Local k ∷ [] = ap (λ (w : Walked). w.leaves ++ []) (walked_at (Act-F.Local _) _ pos (act.rolls-Local _)) in
       subst (λ us. Has us (name.Local k)) (sym (at_append ws ss (declare_at t k e pos ∷ [])))
       (sub_back (At ws ss) (left_by (map W (declare_at t k e pos ∷ []))) (name.Local k) (subst (λ us. Has us (name.Local k)) (sym left) (or_left (k == k) false (eq-eqb k k refl))))
+
+  -- ---- more is visible
+
+  abbrev LimitsMore : NamedLimits → Type 0
+  LimitsMore l = (vs us : List Name) → Sub vs us → PL vs l → PL us l
+
+  abbrev NodeMore : NamedNode → Type 0
+  NodeMore n = (vs us : List Name) → Sub vs us → PN vs n → PN us n
+
+  abbrev ExprMore : NamedExpr → Type 0
+  ExprMore e = (vs us : List Name) → Sub vs us → PE vs e → PE us e
+
+  abbrev MoreLimits : Type 0
+  MoreLimits = (l : NamedLimits) × LimitsMore l
+
+  abbrev MoreNode : Type 0
+  MoreNode = (n : NamedNode) × NodeMore n
+
+  abbrev MoreExpr : Type 0
+  MoreExpr = (e : NamedExpr) × ExprMore e
+
+  abbrev LimitsLayer : Type 0
+  LimitsLayer = Limits-F Name (Unit {0}) NamedLimits NamedNode NamedExpr
+
+  abbrev limits_tests : List Name → LimitsLayer → Limits-F Name (Unit {0}) Bool Bool Bool
+  limits_tests us = map-Limits Name (Unit {0}) NamedLimits NamedNode NamedExpr Bool Bool Bool (limits_pass T us) (node_passes T us) (expr_passes T us)
+
+  abbrev more_limits : Limits-F Name (Unit {0}) MoreLimits MoreNode MoreExpr → LimitsLayer
+  more_limits = map-Limits Name (Unit {0}) MoreLimits MoreNode MoreExpr NamedLimits NamedNode NamedExpr (λ e. e.0) (λ e. e.0) (λ e. e.0)
+
+  abbrev more_node : Node-F Name (Unit {0}) MoreLimits MoreNode MoreExpr → Layer
+  more_node = map-Node Name (Unit {0}) MoreLimits MoreNode MoreExpr NamedLimits NamedNode NamedExpr (λ e. e.0) (λ e. e.0) (λ e. e.0)
+
+  abbrev more_expr : Expr-F Name (Unit {0}) MoreLimits MoreNode MoreExpr → Expr-F Name (Unit {0}) NamedLimits NamedNode NamedExpr
+  more_expr = map-Expr Name (Unit {0}) MoreLimits MoreNode MoreExpr NamedLimits NamedNode NamedExpr (λ e. e.0) (λ e. e.0) (λ e. e.0)
+
+  both_more : (a b c d : Bool) → (a ≡ true → c ≡ true) → (b ≡ true → d ≡ true) → (a && b) ≡ true → (c && d) ≡ true
+  both_more a b c d f g h = let hs = parts_of a b h in both c d (f hs.0) (g hs.1)
+
+  limits_more : (y : Limits-F Name (Unit {0}) MoreLimits MoreNode MoreExpr) (vs us : List Name) → Sub vs us → tests.limits_parts (limits_tests vs (more_limits y)) ≡ true → tests.limits_parts (limits_tests us (more_limits y)) ≡ true
+  limits_more (Limits-F.Count k pos) vs us s h = k.1 vs us s h
+  limits_more (Limits-F.ByteCount k pos) vs us s h = k.1 vs us s h
+  limits_more (Limits-F.Between k j pos) vs us s h = both_more _ _ _ _ (k.1 vs us s) (j.1 vs us s) h
+  limits_more (Limits-F.Unknown pos) vs us s h = refl
+
+  each_more : (ks : List MoreExpr) (vs us : List Name) → Sub vs us → list_all (λ (b : Bool). b) (map (expr_passes T vs) (map (λ (k : MoreExpr). k.0) ks)) ≡ true
+      → list_all (λ (b : Bool). b) (map (expr_passes T us) (map (λ (k : MoreExpr). k.0) ks)) ≡ true
+  each_more [] vs us s h = refl
+  each_more (k ∷ ks) vs us s h = both_more _ _ _ _ (k.1 vs us s) (each_more ks vs us s) h
+
+  node_more : (y : Node-F Name (Unit {0}) MoreLimits MoreNode MoreExpr) (vs us : List Name) → Sub vs us → tests.node_parts T vs (inside vs (more_node y)) ≡ true → tests.node_parts T us (inside us (more_node y)) ≡ true
+  node_more (Node-F.Number n unsigned) vs us s h = refl
+  node_more (Node-F.Text bytes) vs us s h = refl
+  node_more Node-F.Null vs us s h = refl
+  node_more (Node-F.Name n) vs us s h = tame.more vs us s n h
+  node_more (Node-F.Un o k) vs us s h = k.1 vs us s h
+  node_more (Node-F.Bin o k j) vs us s h = both_more _ _ _ _ (k.1 vs us s) (j.1 vs us s) h
+  node_more (Node-F.Pick k j i) vs us s h = both_more _ _ _ _ (both_more _ _ _ _ (k.1 vs us s) (j.1 vs us s)) (i.1 vs us s) h
+  node_more (Node-F.Index k j) vs us s h = both_more _ _ _ _ (k.1 vs us s) (j.1 vs us s) h
+  node_more (Node-F.Dot k n at) vs us s h = both_more _ _ _ _ (k.1 vs us s) (λ x. x) h
+  node_more (Node-F.Arrow k n at) vs us s h = both_more _ _ _ _ (k.1 vs us s) (λ x. x) h
+  node_more (Node-F.Cast t k) vs us s h = both_more _ _ _ _ (λ x. x) (k.1 vs us s) h
+  node_more (Node-F.Size t) vs us s h = h
+  node_more (Node-F.Trusted t k None) vs us s h = both_more _ _ _ _ (λ x. x) (both_more _ _ _ _ (k.1 vs us s) (λ x. x)) h
+  node_more (Node-F.Trusted t k (Some l)) vs us s h = both_more _ _ _ _ (λ x. x) (both_more _ _ _ _ (k.1 vs us s) (l.1 vs us s)) h
+  node_more (Node-F.Tested t k None) vs us s h = both_more _ _ _ _ (λ x. x) (both_more _ _ _ _ (k.1 vs us s) (λ x. x)) h
+  node_more (Node-F.Tested t k (Some l)) vs us s h = both_more _ _ _ _ (λ x. x) (both_more _ _ _ _ (k.1 vs us s) (l.1 vs us s)) h
+  node_more (Node-F.Call n ks) vs us s h = both_more _ _ _ _ (each_more ks vs us s) (tame.more vs us s n) h
+  node_more (Node-F.Calloc t k u) vs us s h = both_more _ _ _ _ (λ x. x) (both_more _ _ _ _ (k.1 vs us s) (λ x. x)) h
+
+  more_limits_by : (x : LimitsLayer) (y : Limits-F Name (Unit {0}) MoreLimits MoreNode MoreExpr) → more_limits y ≡ x → LimitsMore (roll-Limits Name (Unit {0}) x)
+  more_limits_by x y is vs us s h =
+      fold-roll-Limits Name (Unit {0}) Bool Bool Bool tests.limits_parts (tests.node_parts T us) tests.expr_parts x
+      ∙ subst (λ z. tests.limits_parts (limits_tests vs z) ≡ true → tests.limits_parts (limits_tests us z) ≡ true) is (limits_more y vs us s)
+      (sym (fold-roll-Limits Name (Unit {0}) Bool Bool Bool tests.limits_parts (tests.node_parts T vs) tests.expr_parts x) ∙ h)
+
+  more_node_by : (x : Layer) (y : Node-F Name (Unit {0}) MoreLimits MoreNode MoreExpr) → more_node y ≡ x → NodeMore (roll-Node Name (Unit {0}) x)
+  more_node_by x y is vs us s h =
+      node_is us x ∙ subst (λ z. tests.node_parts T vs (inside vs z) ≡ true → tests.node_parts T us (inside us z) ≡ true) is (node_more y vs us s) (sym (node_is vs x) ∙ h)
+
+  more_expr_by : (x : Expr-F Name (Unit {0}) NamedLimits NamedNode NamedExpr) (y : Expr-F Name (Unit {0}) MoreLimits MoreNode MoreExpr) → more_expr y ≡ x → ExprMore (roll-Expr Name (Unit {0}) x)
+  more_expr_by x y is =
+      subst (λ z. ExprMore (roll-Expr Name (Unit {0}) z)) is (λ vs us s h.
+      expr_is us (roll-Expr Name (Unit {0}) (more_expr y)) ∙ y.node.1 vs us s (sym (expr_is vs (roll-Expr Name (Unit {0}) (more_expr y))) ∙ h))
+
+  -- bounds that pass where some names are visible pass where more are
+  pub bounds_more : (l : NamedLimits) → LimitsMore l
+  bounds_more = ind-Limits Name (Unit {0}) LimitsMore NodeMore ExprMore more_limits_by more_node_by more_expr_by
 
   -- ---- what is made, and what is then pending
 
@@ -290,9 +378,6 @@ module _ (T : Tests) (tame : AreTame T) where
     abbrev KeptExpr : Type 0
     KeptExpr = (e : NamedExpr) × ExprHolds e
 
-    abbrev LimitsLayer : Type 0
-    LimitsLayer = Limits-F Name (Unit {0}) NamedLimits NamedNode NamedExpr
-
     abbrev inner_limits : Limits-F Name (Unit {0}) KeptLimits KeptNode KeptExpr → LimitsLayer
     inner_limits = map-Limits Name (Unit {0}) KeptLimits KeptNode KeptExpr NamedLimits NamedNode NamedExpr (λ e. e.0) (λ e. e.0) (λ e. e.0)
 
@@ -307,9 +392,6 @@ module _ (T : Tests) (tame : AreTame T) where
 
     abbrev node_inside : Layer → Node-F Name (Unit {0}) OfLimits OfNode OfExpr
     node_inside = map-Node Name (Unit {0}) NamedLimits NamedNode NamedExpr OfLimits OfNode OfExpr (limits_plain known) (node_kept known) (expr_kept known)
-
-    abbrev limits_tests : List Name → LimitsLayer → Limits-F Name (Unit {0}) Bool Bool Bool
-    limits_tests us = map-Limits Name (Unit {0}) NamedLimits NamedNode NamedExpr Bool Bool Bool (limits_pass T us) (node_passes T us) (expr_passes T us)
 
     abbrev after_rest : KeptExpr → Pending → NamedExpr × Pending
     after_rest k p = rest known (expr_kept known k.0) p

@@ -8,6 +8,7 @@ ghost use Rattle.ckc_plain.specs.Phase.{resolving};
 ghost use Rattle.ckc_typed_welltyped.specs.Productions.{spoken_tree, given_tree};
 ghost use Rattle.ckc_typed_fit.specs.Bodies.{FunctionsHaveBodies, HasMain};
 ghost use Rattle.ckc_typed_fit.specs.Members.{item_members, AreDifferent};
+ghost use Rattle.ckc_typed_fit.specs.Visible.{NamesAreVisible, TagsHaveBodies};
 ghost use Rattle.ckc_typed_fit.specs.Numbers.{static_numbers, CountsFrom, function_numbers, tag_numbers, CountsUp};
 
 /// The objects of file scope, functions, tags and members of a plain text are numbered as those of the text before.
@@ -34,4 +35,13 @@ pub fn plain_texts_are_within()
 pub fn plain_texts_are_given()
     ensures given { (t : Tree) (n : NamedText) → spoken_tree t ≡ true → resolving.Makes t n
         → given_tree n.tree ≡ true }
+{}
+
+/// Each name in such a text is declared and visible where it stands, fresh locals too, and each tag that a type names has
+/// a body.
+pub fn plain_names_are_visible()
+    ensures names { (t : Tree) (n : NamedText) → spoken_tree t ≡ true → resolving.Makes t n
+        → NamesAreVisible n.tree.items }
+    ensures tags { (t : Tree) (n : NamedText) → spoken_tree t ≡ true → resolving.Makes t n
+        → TagsHaveBodies n.tree.items }
 {}
