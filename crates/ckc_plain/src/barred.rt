@@ -5,7 +5,8 @@ ghost use Rattle.ckc_plain.specs.Barred.{in_init, in_local, in_act, in_stmt, in_
 ghost use Rattle.ckc_plain.specs.code.First.{first, in_part, in_each, in_decls, in_items};
 
 use crate::effects::{
-    first_in, first_in_bounds, first_in_exprs, first_in_maybe, first_in_right, first_in_whole, first_of,
+    first_in, first_in_bounds, first_in_exprs, first_in_maybe, first_in_right, first_in_whole,
+    first_of,
 };
 use crate::forms::form_of;
 use crate::integers::{Integers, locals_of};
@@ -28,7 +29,10 @@ fn first_in_init(known: &Integers, init: &Init<Name, ()>, barred: bool) -> Optio
 fn first_in_local(known: &Integers, d: &Decl<Name, ()>, barred: bool) -> Option<Pos>
     ensures { result ≡ first (in_local known.now d.now barred) }
 {
-    first_of(first_in_bounds(known, &d.bounds), first_in_init(known, &d.init, barred))
+    first_of(
+        first_in_bounds(known, &d.bounds),
+        first_in_init(known, &d.init, barred),
+    )
 }
 
 /// The first effect that is refused in what a statement does.
@@ -48,10 +52,16 @@ fn first_in_act(known: &Integers, act: &Act<Name, ()>, barred: bool) -> Option<P
         Act::Call(e) => first_in_whole(known, e.get(), barred),
         Act::If(e, s, t) => first_of(
             first_in(known, e.get(), barred),
-            first_of(first_in_stmt(known, s.get(), barred), first_in_part(known, t, barred)),
+            first_of(
+                first_in_stmt(known, s.get(), barred),
+                first_in_part(known, t, barred),
+            ),
         ),
         Act::While(e, s) => {
-            first_of(first_in(known, e.get(), barred), first_in_stmt(known, s.get(), barred))
+            first_of(
+                first_in(known, e.get(), barred),
+                first_in_stmt(known, s.get(), barred),
+            )
         }
         Act::For(first, e, step, body) => first_of(
             first_in_part(known, first, barred),
@@ -118,7 +128,10 @@ fn first_in_static_init(known: &Integers, init: &Init<Name, ()>) -> Option<Pos>
 fn first_in_decl(known: &Integers, d: &Decl<Name, ()>) -> Option<Pos>
     ensures { result ≡ first (in_decl known.now d.now) }
 {
-    first_of(first_in_bounds(known, &d.bounds), first_in_static_init(known, &d.init))
+    first_of(
+        first_in_bounds(known, &d.bounds),
+        first_in_static_init(known, &d.init),
+    )
 }
 
 fn first_in_decls(known: &Integers, ds: &[Decl<Name, ()>]) -> Option<Pos>
@@ -136,7 +149,10 @@ fn first_in_decls(known: &Integers, ds: &[Decl<Name, ()>]) -> Option<Pos>
 fn first_in_head(known: &Integers, h: &Head<Name, ()>) -> Option<Pos>
     ensures { result ≡ first (in_head known.now h.now) }
 {
-    first_of(first_in_decls(known, h.params.as_slice()), first_in_bounds(known, &h.bounds))
+    first_of(
+        first_in_decls(known, h.params.as_slice()),
+        first_in_bounds(known, &h.bounds),
+    )
 }
 
 #[tactic(auto, using(crate::proofs::Firsts::first_both))]

@@ -37,7 +37,13 @@ fn is_refused(known: &Integers, e: &Expr<Name, ()>, barred: bool) -> bool
     match &e.node {
         Node::Un(op, x) => unary_refused(known, work_of(*op), form_of(x.get()), barred),
         Node::Bin(op, x, f) => {
-            binary_refused(known, work_of(*op), form_of(x.get()), form_of(f.get()), barred)
+            binary_refused(
+                known,
+                work_of(*op),
+                form_of(x.get()),
+                form_of(f.get()),
+                barred,
+            )
         }
         Node::Call(n, _) => barred || result_of(known, *n).is_none(),
         _ => false,
@@ -82,24 +88,39 @@ fn first_inside(known: &Integers, e: &Expr<Name, ()>, barred: bool) -> Option<Po
                 first_in(known, x.get(), true),
                 first_in_right(known, form_of(x.get()), f.get(), barred),
             ),
-            _ => first_of(first_in(known, x.get(), barred), first_in(known, f.get(), barred)),
+            _ => first_of(
+                first_in(known, x.get(), barred),
+                first_in(known, f.get(), barred),
+            ),
         },
         Node::Pick(x, f, g) => first_of(
             first_in(known, x.get(), barred),
-            first_of(first_in(known, f.get(), true), first_in(known, g.get(), true)),
+            first_of(
+                first_in(known, f.get(), true),
+                first_in(known, g.get(), true),
+            ),
         ),
         Node::Index(x, f) => {
-            first_of(first_in(known, x.get(), barred), first_in(known, f.get(), barred))
+            first_of(
+                first_in(known, x.get(), barred),
+                first_in(known, f.get(), barred),
+            )
         }
         Node::Dot(x, _, _) => first_in(known, x.get(), barred),
         Node::Arrow(x, _, _) => first_in(known, x.get(), barred),
         Node::Cast(_, x) => first_in(known, x.get(), barred),
         Node::Size(_) => None,
         Node::Trusted(_, x, limits) => {
-            first_of(first_in(known, x.get(), barred), first_in_bounds(known, limits))
+            first_of(
+                first_in(known, x.get(), barred),
+                first_in_bounds(known, limits),
+            )
         }
         Node::Tested(_, x, limits) => {
-            first_of(first_in(known, x.get(), barred), first_in_bounds(known, limits))
+            first_of(
+                first_in(known, x.get(), barred),
+                first_in_bounds(known, limits),
+            )
         }
         Node::Call(_, es) => first_in_exprs(known, es.as_slice(), barred),
         Node::Calloc(_, x, _) => first_in(known, x.get(), barred),
@@ -146,10 +167,7 @@ pub fn first_in_exprs(known: &Integers, es: &[Expr<Name, ()>], barred: bool) -> 
 
 /// The same in bounds that may be left out.
 #[cycle(effects)]
-pub fn first_in_bounds(
-    known: &Integers,
-    bounds: &Option<Boxed<Limits<Name, ()>>>,
-) -> Option<Pos>
+pub fn first_in_bounds(known: &Integers, bounds: &Option<Boxed<Limits<Name, ()>>>) -> Option<Pos>
     ensures { result ≡ first (in_bounds known.now bounds.now) }
 {
     match bounds {
@@ -167,7 +185,10 @@ fn first_in_limits(known: &Integers, limits: &Limits<Name, ()>) -> Option<Pos>
         Limits::Count(e, _) => first_in(known, e.get(), true),
         Limits::ByteCount(e, _) => first_in(known, e.get(), true),
         Limits::Between(e, f, _) => {
-            first_of(first_in(known, e.get(), true), first_in(known, f.get(), true))
+            first_of(
+                first_in(known, e.get(), true),
+                first_in(known, f.get(), true),
+            )
         }
         Limits::Unknown(_) => None,
     }

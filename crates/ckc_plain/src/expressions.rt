@@ -60,7 +60,12 @@ fn calloc_at(
 }
 
 /// `t = b != 0;`
-fn truth_at(alloc: Global, k: u32, b: Expr<Name, ()>, pos: Pos) -> Result<Stmt<Name, ()>, AllocError>
+fn truth_at(
+    alloc: Global,
+    k: u32,
+    b: Expr<Name, ()>,
+    pos: Pos,
+) -> Result<Stmt<Name, ()>, AllocError>
     ensures { IfOk result (λ s. s ≡ truth_at k b pos) }
 {
     let truth = binary_at(alloc, TreeOp::Ne, b, number_at(0, pos), pos)?;
@@ -140,7 +145,13 @@ fn choice_taken(
     let truth = truth_at(alloc, k, b, pos)?;
     stmts.push(truth)?;
     let made = chosen(alloc, all, a, block_at(stmts, pos), pos)?;
-    let name = add_fresh(alloc, Integer::Int, number_at(start_of(all), pos), pos, pending)?;
+    let name = add_fresh(
+        alloc,
+        Integer::Int,
+        number_at(start_of(all), pos),
+        pos,
+        pending,
+    )?;
     pending.stmts.push(made)?;
     pending.next = next;
     Ok(name)
@@ -266,6 +277,7 @@ fn kept(
 }
 
 /// An expression without any effect.
+#[tactic(auto, using(crate::proofs::Stays::unary_stays, crate::proofs::Stays::binary_stays))]
 #[cycle(plain)]
 pub fn plain_expr(
     alloc: Global,
@@ -300,6 +312,7 @@ pub fn plain_expr(
 }
 
 /// The right side of an assignment to a target.
+#[tactic(auto, using(crate::proofs::Stays::right_is))]
 #[cycle(plain)]
 pub fn right_expr(
     alloc: Global,
@@ -396,6 +409,7 @@ fn plain_limits(
 }
 
 /// An expression that is no effect if it is a call, in a box of its own.
+#[tactic(auto, using(crate::proofs::Stays::whole_is))]
 pub fn whole_expr(
     alloc: Global,
     known: &Integers,

@@ -132,10 +132,7 @@ pub fn limited(named: NamedText) -> Result<NamedText, Fault>
 
 /// All phases from a tree of spellings to the plain tree within the limits: names (E301 to E304), effects (E408), and
 /// the limits again (E202 to E205).
-pub fn resolve_plainly<'a>(
-    alloc: Global,
-    tree: Tree<Spelling<'a>, ()>,
-) -> Result<NamedText, Fault>
+pub fn resolve_plainly<'a>(alloc: Global, tree: Tree<Spelling<'a>, ()>) -> Result<NamedText, Fault>
     ensures exact { Exact resolving tree.entry result }
 {
     let named = resolve(alloc, tree)?;
