@@ -364,8 +364,8 @@ module _ (known : Integers) where
   -- ---- by parts
 
   pub record MadeLimits (r : NamedLimits × Pending) : Type 0 where
-    is : callless_limits r.0 ≡ true
-    pending : AllGood r.1.stmts
+    pub is : callless_limits r.0 ≡ true
+    pub pending : AllGood r.1.stmts
 
   abbrev LimitsHold : NamedLimits → Type 0
   LimitsHold l = limits_form l ≡ true → in_limits known l ≡ [] → (p : Pending) → AllGood p.stmts → MadeLimits (limits_plain known l p)

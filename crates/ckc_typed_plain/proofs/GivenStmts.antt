@@ -438,8 +438,7 @@ module _ (known : Integers) where
   act_says (Act-F.For None e None k) = record {
     made = λ b f w none p g.
         let gs = parts_of (placed_value with_calls e) (spoken k).fine f in
-        let es : ([] ≡ []) × ((in_maybe known e b ++ (in_stmt known k.0 b ++ [])) ≡ []) = (refl, none) in
-        let ds = empty_parts (in_maybe known e b) (in_stmt known k.0 b ++ []) es.1 in
+        let ds = empty_parts (in_maybe known e b) (in_stmt known k.0 b ++ []) none in
         let cs = empty_parts (in_stmt known k.0 b) ([]) ds.1 in
         let q = p in
         let v = value_made e b gs.0 ds.0 (none_pending q.next) refl in
@@ -455,8 +454,7 @@ module _ (known : Integers) where
         let gs = parts_of (placed_value with_calls e) (steps (Some (spoken j)) && (spoken k).fine) f in
         let hs = parts_of (steps (Some (spoken j))) (spoken k).fine gs.1 in
         let vs = parts_of (is_branch (spoken j)) (is_branch (spoken k)) w in
-        let es : ([] ≡ []) × ((in_maybe known e b ++ (in_stmt known k.0 b ++ in_stmt known j.0 b)) ≡ []) = (refl, none) in
-        let ds = empty_parts (in_maybe known e b) (in_stmt known k.0 b ++ in_stmt known j.0 b) es.1 in
+        let ds = empty_parts (in_maybe known e b) (in_stmt known k.0 b ++ in_stmt known j.0 b) none in
         let cs = empty_parts (in_stmt known k.0 b) (in_stmt known j.0 b) ds.1 in
         let q = p in
         let v = value_made e b gs.0 ds.0 (none_pending q.next) refl in

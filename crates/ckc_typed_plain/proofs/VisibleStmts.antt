@@ -282,9 +282,9 @@ module _ (T : Tests) (tame : AreTame T) where
     act_is x a is = ap (walked_act T) (sym is) ∙ fold-roll-Act Name (Unit {0}) Walked Walked (act_walked T) stmt_walked x
 
     -- a statement that leaves nothing visible and is no declaration
-    made : (ws : List Name) (p q : Pending) (w : Walked) (g : Given) (x : ActLayer) (a : NamedAct) → roll-Act Name (Unit {0}) x ≡ a → g.declares ≡ false
+    made : {n : ℕ} (ws : List Name) (p q : Pending) (w : Walked) (g : Given) (x : ActLayer) (a : NamedAct) → roll-Act Name (Unit {0}) x ≡ a → g.declares ≡ false
         → ((us : List Name) → Sub (A ws q.stmts) us → (act_walked T (walked_inside T tame x)).passes us ≡ true) → (act_walked T (walked_inside T tame x)).leaves ≡ w.leaves → P ws q.stmts → Sub (A ws p.stmts) (A ws q.stmts)
-        → GoesAct ws p w g (a, q)
+        → GoesAct ws p w g (a, record { stmts = q.stmts; next = n })
     made ws p q w g x a rolls none h l good more = record {
       is = λ us f. ap (λ (v : Walked). v.passes us) (act_is x a rolls) ∙ h us f;
       leaves = ap (λ (v : Walked). v.leaves) (act_is x a rolls) ∙ l;
