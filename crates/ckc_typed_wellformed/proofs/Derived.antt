@@ -731,8 +731,8 @@ good_made g.EndAssigns (cons h0 nil) = tt
 good_made g.Assigns (cons h0 (cons h1 (cons h2 nil))) = (h0, h2)
 good_made g.Expr (cons h0 (cons h1 nil)) = c_finished _ _ _ _ (h0) h1.0 h1.1 h1.2
 good_made g.ExprRest (cons h0 nil) = h0
-good_made g.ExprSetting (cons {x = x0} h0 nil) = (tt, (tt, may_set (as_setting x0) h0))
-good_made g.Chain (cons h0 (cons h1 nil)) = (h0, (h1, tt))
+good_made g.ExprSetting (cons {x = x0} h0 nil) = (tt, tt, may_set (as_setting x0) h0)
+good_made g.Chain (cons h0 (cons h1 nil)) = (h0, h1, tt)
 good_made g.Choice (cons h0 (cons h1 (cons h2 (cons h3 nil)))) = (h1, h3)
 good_made g.NoChoice nil = tt
 good_made g.Step (cons h0 (cons h1 (cons h2 nil))) = (h1, h2)
