@@ -135,8 +135,8 @@ module _ (functions : List PlacedFunc) (placed : All IsPlacedWhole functions) (o
       op_adds n (Copy t a) ys o = copy_adds labels k (place_at f.homes t) (place_at f.homes a) ys (good t o.0) (good a o.1)
       op_adds n (Bin b t x y) ys o = bin_adds labels k b (place_at f.homes t) (operand_at f.homes x) (operand_at f.homes y) ys (good t o.0) (fine x o.1) (fine y o.2)
       op_adds n (High s t x y) ys o = high_adds labels k s (place_at f.homes t) (operand_at f.homes x) (operand_at f.homes y) ys (good t o.0) (fine x o.1) (fine y o.2)
-      op_adds n (Load width t a) ys o = data_load_adds labels k width (place_at f.homes t) (operand_at f.homes a) ys (good t o.0) (fine a o.1)
-      op_adds n (Store width a b) ys o = data_store_adds labels k width (operand_at f.homes a) (operand_at f.homes b) ys (fine a o.0) (fine b o.1)
+      op_adds n (Load width t a offset) ys o = data_load_adds labels k width (place_at f.homes t) (operand_at f.homes a) offset ys (good t o.0) (fine a o.1)
+      op_adds n (Store width a offset b) ys o = data_store_adds labels k width (operand_at f.homes a) offset (operand_at f.homes b) ys (fine a o.0) (fine b o.2)
       op_adds n (Check check at c a b) ys o =
           more_adds labels (operand_size a + operand_size b + 10) (omega (arith, reading_is a, reading_is b))
           (test_adds labels k check at c (operand_at f.homes a) (operand_at f.homes b) ys (fine a o.1) (fine b o.2))

@@ -24,6 +24,7 @@ pub mod Values
 pub mod Acting
 pub mod Sources
 pub mod Operands
+pub mod Addresses
 pub mod Binary
 pub mod Regions
 pub mod Relation

@@ -71,8 +71,12 @@ fn put_op(
         TacOp::Copy(t, a) => put_copy(out, home(f, *t), home(f, *a)),
         TacOp::Bin(op, t, a, b) => put_bin(out, *op, home(f, *t), operand(f, *a), operand(f, *b)),
         TacOp::High(s, t, a, b) => put_high(out, *s, home(f, *t), operand(f, *a), operand(f, *b)),
-        TacOp::Load(width, t, a) => put_data_load(out, *width, home(f, *t), operand(f, *a)),
-        TacOp::Store(width, a, b) => put_data_store(out, *width, operand(f, *a), operand(f, *b)),
+        TacOp::Load(width, t, a, offset) => {
+            put_data_load(out, *width, home(f, *t), operand(f, *a), *offset)
+        }
+        TacOp::Store(width, a, offset, b) => {
+            put_data_store(out, *width, operand(f, *a), *offset, operand(f, *b))
+        }
         TacOp::Check(check, at, c, a, b) => {
             put_test(out, *check, *at, *c, operand(f, *a), operand(f, *b))
         }

@@ -57,10 +57,10 @@ op_lines functions f n (Bin op t a b) rest =
     bin_lines op (place_at f.homes t) (operand_at f.homes a) (operand_at f.homes b) rest
 op_lines functions f n (High is_signed t a b) rest =
     high_lines is_signed (place_at f.homes t) (operand_at f.homes a) (operand_at f.homes b) rest
-op_lines functions f n (Load width t a) rest =
-    data_load_lines width (place_at f.homes t) (operand_at f.homes a) rest
-op_lines functions f n (Store width a b) rest =
-    data_store_lines width (operand_at f.homes a) (operand_at f.homes b) rest
+op_lines functions f n (Load width t a offset) rest =
+    data_load_lines width (place_at f.homes t) (operand_at f.homes a) offset rest
+op_lines functions f n (Store width a offset b) rest =
+    data_store_lines width (operand_at f.homes a) offset (operand_at f.homes b) rest
 op_lines functions f n (Check check at c a b) rest =
     test_lines check at c (operand_at f.homes a) (operand_at f.homes b) rest
 op_lines functions f n (Call target callee arguments at) rest =
