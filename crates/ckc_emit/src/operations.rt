@@ -378,10 +378,7 @@ pub fn put_data_load(
 {
     put_address(out, a, offset, 5)?;
     let (rd, ra) = (source(t, 5), base(a, offset, 5));
-    put(
-        out,
-        Instr::Load(load_op(width), rd, ra, rest(a, offset)),
-    )?;
+    put(out, Instr::Load(load_op(width), rd, ra, rest(a, offset)))?;
     put_write(out, t, 5)
 }
 

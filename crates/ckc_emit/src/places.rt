@@ -8,7 +8,9 @@ ghost use Rattle.ckc_emit.specs.code.Lines.{offset_of, source_of, register_with,
 ghost use Rattle.ckc_emit.specs.code.Operands.{IsOperand};
 
 use ckc_asm_lines::Line;
-use ckc_emit_templates::{SP, lower, put, put_constant, put_load, put_move, put_store, register, upper};
+use ckc_emit_templates::{
+    SP, lower, put, put_constant, put_load, put_move, put_store, register, upper,
+};
 use ckc_frame::Place;
 use ckc_rv::Instr;
 use std::alloc::AllocError;
@@ -142,7 +144,11 @@ pub fn put_take(out: &mut Vec<Line>, rd: u8, operand: PlacedOperand) -> Result<(
 fn number_at(n: u32, offset: u32) -> u32
     ensures { result ≡ at_offset n offset }
 {
-    if offset == 0 { n } else { n.wrapping_add(offset) }
+    if offset == 0 {
+        n
+    } else {
+        n.wrapping_add(offset)
+    }
 }
 
 /// Loads a slot, or sets the upper bits of a number, into a scratch register: the register that `base` names for an
@@ -179,7 +185,13 @@ pub fn base(a: PlacedOperand, offset: u32, scratch: u8) -> u8
 {
     match a {
         PlacedOperand::At(place) => source(place, scratch),
-        PlacedOperand::Number(n) => { if upper(number_at(n, offset)) == 0 { 0 } else { scratch } }
+        PlacedOperand::Number(n) => {
+            if upper(number_at(n, offset)) == 0 {
+                0
+            } else {
+                scratch
+            }
+        }
     }
 }
 
