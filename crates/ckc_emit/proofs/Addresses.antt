@@ -1,5 +1,5 @@
 -- Addresses with an offset: what is read of them before the instruction that loads or stores there.
-use Rattle.std.proofs.Common.{◌≡◌, ◌≢◌, ℕ, ◌+◌, ◌*◌, ◌%◌, ◌^◌, ◌<◌, ◌==◌, if◌then◌else◌, Bool, true, false, List, [], ◌∷◌, refl, sym, ◌∙◌, ap, arith}
+use Rattle.std.proofs.Common.{◌≡◌, ◌≢◌, ℕ, ◌+◌, ◌*◌, ◌%◌, ◌^◌, ◌<◌, ◌==◌, if◌then◌else◌, Bool, true, false, List, [], ◌∷◌, refl, ◌∙◌, ap, arith}
 use Rattle.ckc_rv.specs.declared.instructions.Instr.TheVariants.{Lui}
 use Rattle.ckc_rv.specs.Effects.{moved}
 use Rattle.ckc_asm_lines.specs.declared.lines.Line.{Line}
@@ -9,7 +9,7 @@ use Rattle.ckc_tac.specs.WellFormed.{IsOffset}
 use Rattle.ckc_emit.specs.declared.places.PlacedOperand.{PlacedOperand}
 use Rattle.ckc_emit.specs.declared.places.PlacedOperand.TheVariants.{At, Number}
 use Rattle.ckc_emit.specs.code.Operands.{IsOperand}
-use Rattle.ckc_emit.specs.code.Lines.{upper_of, lower_of, address_lines, upper_lines, base_with, rest_of}
+use Rattle.ckc_emit.specs.code.Lines.{upper_of, address_lines, base_with, rest_of}
 use Rattle.ckc_emit.proofs.Local.{Local}
 use Rattle.ckc_emit.proofs.Paths.{Code, stay, loosened}
 use Rattle.ckc_emit.proofs.FrameWords.{lui_sets}

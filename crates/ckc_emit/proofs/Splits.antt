@@ -37,9 +37,14 @@ near_word frame offset h k = grind (arith, ints, nat_tests)
 pub moved_none : (a : ℕ) → a < 2 ^ 32 → moved a (pos 0) ≡ a
 moved_none a h = omega arith
 
-near_other : (p n : ℕ) → (n + 2048) % 2 ^ 32 < 4096 → (p + word_of (lower_of n)) % 2 ^ 32 ≡ (p + n) % 2 ^ 32
+near_rest : (n : ℕ) → (n + 2048) % 2 ^ 32 < 4096 → word_of (lower_of n) ≡ n % 2 ^ 32
 unfolding lower_of
-near_other p n h = grind (arith, ints, nat_tests)
+near_rest n h = grind (arith, ints, nat_tests)
+
+near_other : (p n : ℕ) → (n + 2048) % 2 ^ 32 < 4096 → (p + word_of (lower_of n)) % 2 ^ 32 ≡ (p + n) % 2 ^ 32
+near_other p n h =
+    let e : (p + n % 2 ^ 32) % 2 ^ 32 ≡ (p + n) % 2 ^ 32 = omega arith in
+    ap (λ w. (p + w) % 2 ^ 32) (near_rest n h) ∙ e
 
 near_by : (b : Bool) (p n : ℕ) → (n == 0) ≡ b → p < 2 ^ 32 → (p + n) % 2 ^ 32 ≡ (if b then p else (p + n) % 2 ^ 32)
 near_by true p n e fits = let z : n ≡ 0 = eq_of n 0 e in omega (arith, z)

@@ -1,6 +1,6 @@
 -- Expressions whose loads have offsets, as they are lowered: a small number that an address adds is the offset of the
 -- load. They mirror the code and need not be believed.
-use Rattle.std.specs.Prelude.{ℕ, ◌+◌, ◌%◌, ◌^◌, ◌==◌, nat_lt, if◌then◌else◌, Bool, true, false}
+use Rattle.std.specs.Prelude.{ℕ, ◌+◌, ◌%◌, ◌^◌, ◌==◌, nat_lt, if◌then◌else◌, Bool}
 use Rattle.ckc_base.specs.declared.arithmetic.BinOp.{BinOp}
 use Rattle.ckc_base.specs.declared.arithmetic.BinOp.TheVariants as binary
 use Rattle.ckc_base.specs.declared.arithmetic.Width.{Width}
