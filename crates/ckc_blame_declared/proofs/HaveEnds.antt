@@ -24,6 +24,9 @@ use Rattle.ckc_blame_sound.specs.Settings.{Setting, IsFunction, frame_of_text, s
 use Rattle.ckc_blame_sound.specs.Ends.{IsCounted, HasElements, IsBase, IsEnd, AreEnds, HasEnds, HaveEnds}
 use Rattle.ckc_blame_sound.specs.JudgedTexts.{IsJudged}
 use Rattle.ckc_blame_declared.proofs.Ends as declared
+use Rattle.ckc_blame_sound.specs.Numbered.{AreAllLocals}
+use Rattle.ckc_blame_sound.proofs.Functions.{numbered}
+use Rattle.ckc_blame_sound.proofs.Locals.{names_declared}
 use Rattle.ckc_blame_declared.proofs.Locals.{IsThere, bounds_known, declared_there, local_there, local_is, variable_there}
 
 apart_forms : (f : CType-F CType) → is_integer_form f ≡ true → is_pointer_form f ≡ true → ⊥
@@ -40,12 +43,18 @@ unbounded l bounds.Unknown same is_known i = same refl
 unbounded l (bounds.Known low high) same is_known i = absurd (apart_forms (out-CType l.ctype) i (is_known low high refl))
 
 module _ (p : Typed) (h : NotedHead) (body : NotedStmt) (j : IsJudged p) (there : Contains p.tree.items (item.Function h body)) where
+  numbers : AreAllLocals (names_declared (all_of h body))
+  numbers = numbered p h body j there
+
+  all_there : (ds es : List NotedDecl) → ds ++ es ≡ all_of h body → AreAllLocals (names_declared (ds ++ es))
+  all_there ds es is = subst (λ cs. AreAllLocals (names_declared cs)) (sym is) numbers
+
   -- the parameters, with some more that are declared
-  pub counted : (ds es : List NotedDecl) → ds ++ es ≡ all_of h body → (x : ℕ) → declared.IsInteger (types_in (frame_of_text p) ds) x → IsCounted (setting_of p h body) x
+  pub counted : (ds es : List NotedDecl) → ds ++ es ≡ all_of h body → AreAllLocals (names_declared ds) → (x : ℕ) → declared.IsInteger (types_in (frame_of_text p) ds) x → IsCounted (setting_of p h body) x
   unfolding setting_of
-  counted ds es is zero i = tt
-  counted ds es is (suc k) i =
-      let one = subst (λ ds'. IsThere (frame_of_text p) ds' k i.0.ctype) is (declared_there (frame_of_text p) ds es k i.0 i.1) in
+  counted ds es is some zero i = tt
+  counted ds es is some (suc k) i =
+      let one = subst (λ ds'. IsThere (frame_of_text p) ds' k i.0.ctype) is (declared_there (frame_of_text p) ds es k i.0 some (all_there ds es is) i.1) in
       let v = variable_there p h body k one.local j there one.there one.few in
       record {
         local = one.local;
@@ -54,11 +63,11 @@ module _ (p : Typed) (h : NotedHead) (body : NotedStmt) (j : IsJudged p) (there 
         same = ap (λ o. integer_in_variable o) v.named ∙ ap integer_of (sym v.same);
       }
 
-  pub like : (ds es : List NotedDecl) → ds ++ es ≡ all_of h body → (t : CType) (k : ℕ) → declared.IsLike (types_in (frame_of_text p) ds) t k
+  pub like : (ds es : List NotedDecl) → ds ++ es ≡ all_of h body → AreAllLocals (names_declared ds) → (t : CType) (k : ℕ) → declared.IsLike (types_in (frame_of_text p) ds) t k
       → HasElements (setting_of p h body) (size_behind p.layout t) k
   unfolding setting_of
-  like ds es is t k i =
-      let one = subst (λ ds'. IsThere (frame_of_text p) ds' k i.local.ctype) is (declared_there (frame_of_text p) ds es k i.local i.there) in
+  like ds es is some t k i =
+      let one = subst (λ ds'. IsThere (frame_of_text p) ds' k i.local.ctype) is (declared_there (frame_of_text p) ds es k i.local some (all_there ds es is) i.there) in
       record {
         local = one.local;
         there = local_there (frame_of_text p) h body k one.local one.there one.few;
@@ -77,11 +86,11 @@ module _ (p : Typed) (h : NotedHead) (body : NotedStmt) (j : IsJudged p) (there 
         base = elim e.base [
           | inl i ↦ subst B (sym i) (record { local = l; there = at; pointer = pointer; sized = refl })
           | inr i ↦ elim i [
-            | inl n ↦ subst B (sym n.1) (like (all_of h body) [] (append-nil (all_of h body)) l.ctype n.0 n.2)
+            | inl n ↦ subst B (sym n.1) (like (all_of h body) [] (append-nil (all_of h body)) numbers l.ctype n.0 n.2)
             | inr n ↦ subst B (sym n.1) tt
           ]
         ];
-        variable = counted (all_of h body) [] (append-nil (all_of h body)) f.var e.variable;
+        variable = counted (all_of h body) [] (append-nil (all_of h body)) numbers f.var e.variable;
       }
 
   known_ends : (k : ℕ) (l : Local) (b : Bounds) → local_at (setting_of p h body).frame k ≡ Some l
@@ -92,7 +101,7 @@ module _ (p : Typed) (h : NotedHead) (body : NotedStmt) (j : IsJudged p) (there 
   declared_ends : (k : ℕ) (l : Local) → local_at (setting_of p h body).frame k ≡ Some l → slice_get (declared_in (frame_of_text p) (all_of h body)) k ≡ Some l → HasEnds (setting_of p h body) l
   unfolding setting_of
   declared_ends k l at e =
-      let w = bounds_known (frame_of_text p) (all_of h body) k l e in
+      let w = bounds_known (frame_of_text p) (all_of h body) k l numbers e in
       record {
         ends = known_ends k l l.bounds at w;
         integer = unbounded l l.bounds (λ f. f) (λ low high f.

@@ -1,5 +1,5 @@
 -- What a head says of its parameters and its result.
-use Rattle.std.proofs.Common.{◌≡◌, ◌∙◌, sym, subst, refl, inl, inr, arith, ℕ, suc, ◌+◌, ◌<◌, List, [], ◌++◌, length, append-nil}
+use Rattle.std.proofs.Common.{◌≡◌, ◌∙◌, sym, subst, refl, inl, inr, arith, ℕ, suc, ◌+◌, ◌<◌, List, [], ◌++◌, length}
 use Rattle.std.specs.Prelude.{◌⊎◌, ◌==◌, Bool, true, false, ◌||◌, Option, Some, slice_get}
 use Rattle.std.specs.List.{Contains}
 use Rattle.std.proofs.lemmas.Bool.{eqb-true}
@@ -22,16 +22,21 @@ use Rattle.ckc_blame_sound.specs.ckc_bounds_points.specs.Frames.{local_at}
 use Rattle.ckc_blame_sound.specs.ckc_bounds_declared.specs.declared.limits.Holder.{Holder}
 use Rattle.ckc_blame_sound.specs.ckc_bounds_declared.specs.declared.limits.Holder.TheVariants as holder
 use Rattle.ckc_blame_sound.specs.ckc_bounds_declared.specs.Written.{own}
-use Rattle.ckc_blame_sound.specs.ckc_bounds.specs.Declarations.{result_bounds, types_in, declared_in, head_bounds}
+use Rattle.ckc_blame_sound.specs.ckc_bounds.specs.Declarations.{result_bounds, all_made, few_of, types_in, declared_in, head_bounds}
 use Rattle.ckc_blame_sound.specs.ckc_bounds_statements.specs.Paths.{path}
 use Rattle.ckc_source.specs.Code.{Function}
 use Rattle.ckc_build_values.specs.Kinds.{size_behind}
 use Rattle.ckc_blame_sound.specs.Settings.{Setting, IsFunction, frame_of_text, setting_of}
 use Rattle.ckc_blame_sound.specs.Passed.{IsResultBase, IsResultEnd, IsResult}
 use Rattle.ckc_blame_sound.specs.JudgedTexts.{IsJudged}
+use Rattle.ckc_blame_sound.specs.Numbered.{AreAllLocals}
+use Rattle.ckc_blame_sound.proofs.ByNumber.{made_length}
+use Rattle.ckc_blame_sound.proofs.Frames.{first_at}
+use Rattle.ckc_blame_sound.proofs.Functions.{params_own}
+use Rattle.ckc_blame_sound.proofs.Locals.{names_declared}
 use Rattle.ckc_blame_declared.proofs.Ends.{IsFrom, IsInteger, IsEnd, AreKnown, declared_is}
 use Rattle.ckc_blame_declared.proofs.HaveEnds.{counted, like}
-use Rattle.ckc_blame_declared.proofs.Locals.{known, bounds_known, declared_there}
+use Rattle.ckc_blame_declared.proofs.Locals.{known, bounds_known}
 
 -- ---- what bounds name
 
@@ -52,9 +57,9 @@ own_within (holder.Member tag) n j w e = absurd cc
 
 -- a local among those whose types are known
 there_within : (frame : Frame) (ds : List NotedDecl) (j : ℕ) (l : Local) → local_at (types_in frame ds) j ≡ Some l → j < length (declared_in frame ds)
+unfolding few_of
 there_within frame ds j l e =
-    let one = declared_there frame ds [] j l e in
-    subst (λ es. j < length (declared_in frame es)) (append-nil ds) (slice_get_within (declared_in frame (ds ++ [])) j one.local one.there)
+    subst (λ n. j < n) (made_length frame false ds ∙ sym (made_length (types_in frame ds) true ds)) (slice_get_within (all_made frame false ds) j l (first_at 1023 (all_made frame false ds) j l e).1)
 
 module _ (frame : Frame) (ds : List NotedDecl) (h : Holder) (w : IsOwnWithin h (length (declared_in frame ds))) where
   abbrev within : ℕ
@@ -87,10 +92,10 @@ module _ (frame : Frame) (ds : List NotedDecl) (h : Holder) (w : IsOwnWithin h (
       elim (either (in_form j low) (in_form j high) e) [ inl g ↦ form_within t low j i.begins g | inr g ↦ form_within t high j i.ends g ]
 
 -- the bounds of a parameter name parameters
-pub parameter_names : (frame : Frame) (ds : List NotedDecl) (k : ℕ) (l : Local) → slice_get (declared_in frame ds) k ≡ Some l → (j : ℕ) → in_bounds j l.bounds ≡ true
+pub parameter_names : (frame : Frame) (ds : List NotedDecl) (k : ℕ) (l : Local) → AreAllLocals (names_declared ds) → slice_get (declared_in frame ds) k ≡ Some l → (j : ℕ) → in_bounds j l.bounds ≡ true
     → j < length (declared_in frame ds)
-parameter_names frame ds k l e j n =
-    bounds_within frame ds (holder.Local k) (slice_get_within (declared_in frame ds) k l e) l.ctype l.bounds j (bounds_known frame ds k l e) n
+parameter_names frame ds k l numbers e j n =
+    bounds_within frame ds (holder.Local k) (slice_get_within (declared_in frame ds) k l e) l.ctype l.bounds j (bounds_known frame ds k l numbers e) n
 
 -- ---- the result
 
@@ -109,11 +114,11 @@ module _ (p : Typed) (h : NotedHead) (body : NotedStmt) (j : IsJudged p) (there 
         base = elim e.base [
           | inl i ↦ subst B (sym i) refl
           | inr i ↦ elim i [
-            | inl n ↦ subst B (sym n.1) (like p h body j there h.params (path body).declared refl t n.0 n.2)
+            | inl n ↦ subst B (sym n.1) (like p h body j there h.params (path body).declared refl (params_own p h body j there) t n.0 n.2)
             | inr n ↦ subst B (sym n.1) tt
           ]
         ];
-        variable = counted p h body j there h.params (path body).declared refl f.var e.variable;
+        variable = counted p h body j there h.params (path body).declared refl (params_own p h body j there) f.var e.variable;
       }
 
   result_there : (low high : Form) → (setting_of p h body).head.bounds ≡ bounds.Known low high

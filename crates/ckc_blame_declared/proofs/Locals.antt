@@ -3,8 +3,7 @@ use Rattle.std.proofs.Common.{◌≡◌, ◌∙◌, sym, ap, subst, refl, inl, i
 use Rattle.std.specs.Prelude.{◌⊎◌, Bool, true, false, if◌then◌else◌, Option, Some, None, find, slice_get, Ok, Err}
 use Rattle.std.specs.List.{Contains}
 use Rattle.std.specs.Option.{option_map}
-use Rattle.std.proofs.lemmas.List.{map-append, length-map}
-use Rattle.std.proofs.lemmas.List.Elements.{All-contains_itself, Contains-get_or, at_from_Contains}
+use Rattle.std.proofs.lemmas.List.Elements.{All-contains_itself, Contains-append_left, Contains-get_or, at_from_Contains}
 use Rattle.std.proofs.lemmas.List.Sorted.{Contains-permutation}
 use Rattle.std.proofs.lemmas.Option.{slice_get-map, slice_get_within, slice_get-get_or, slice_get_read}
 use Rattle.ckc_base.specs.Outcomes.{Outcome}
@@ -24,24 +23,19 @@ use Rattle.ckc_blame_sound.specs.ckc_bounds_points.specs.declared.frame.Frame.{F
 use Rattle.ckc_blame_sound.specs.ckc_bounds_points.specs.declared.frame.Local.{Local}
 use Rattle.ckc_blame_sound.specs.ckc_bounds_points.specs.Frames.{local_at}
 use Rattle.ckc_blame_sound.specs.ckc_bounds_declared.specs.declared.limits.Holder.TheVariants as holder
-use Rattle.ckc_blame_sound.specs.ckc_bounds.specs.Declarations.{few_of, first_of, known_or_not, local_made, with_all, types_in, declared_in, head_bounds}
+use Rattle.ckc_blame_sound.specs.ckc_bounds.specs.Declarations.{few_of, first_of, known_or_not, local_made, all_made, types_in, declared_in, head_bounds}
 use Rattle.ckc_blame_sound.specs.ckc_bounds.specs.Frames.{all_of, first_fresh, fresh_needed, function_frame, locals_frame, nameless}
 use Rattle.ckc_blame_sound.specs.Settings.{frame_of_text, setting_of}
 use Rattle.ckc_blame_sound.specs.JudgedTexts.{IsJudged}
-use Rattle.ckc_blame_sound.specs.Numbered.{AreLocals}
-use Rattle.ckc_blame_sound.proofs.Frames.{first_at, first_keeps, types_of, types_declared, all_types, declared_types, local_named, setting_types, variables_moved}
+use Rattle.ckc_blame_sound.specs.Numbered.{AreLocals, AreAllLocals}
+use Rattle.ckc_blame_sound.proofs.Frames.{first_at, first_keeps, local_named, setting_types, variables_moved}
 use Rattle.ckc_blame_sound.proofs.Functions.{numbered}
 use Rattle.ckc_blame_sound.proofs.Lists.{found, more_at}
+use Rattle.ckc_blame_sound.proofs.ByNumber.{at_index, all_at, declaration_at}
 use Rattle.ckc_blame_sound.proofs.Locals.{names_declared, variables_declared}
 use Rattle.ckc_blame_declared.proofs.Ends.{AreKnown, declared_is}
 
 -- ---- lists
-
-at_end : (xs : List Local) (y : Local) (k : ℕ) (l : Local) → slice_get (xs ++ y ∷ []) k ≡ Some l → (slice_get xs k ≡ Some l) ⊎ ((k ≡ length xs) × (l ≡ y))
-at_end [] y zero l e = inr (refl, cc)
-at_end [] y (suc k) l e = absurd cc
-at_end (x ∷ xs) y zero l e = inl e
-at_end (x ∷ xs) y (suc k) l e = elim (at_end xs y k l e) [ inl f ↦ inl f | inr f ↦ inr (ap suc f.0, f.1) ]
 
 repeated_at : (n : ℕ) (y : Local) (k : ℕ) (l : Local) → slice_get (replicate n y) k ≡ Some l → l ≡ y
 repeated_at zero y k l e = absurd cc
@@ -85,28 +79,16 @@ not_none {A} p (y ∷ xs) (suc k) x e t n = by (p y) n (λ g. not_none p xs k x 
 
 -- ---- what is declared
 
-made_at : (frame : Frame) (b : Bool) (ls : List Local) (ds : List NotedDecl) (k : ℕ) (l : Local) → slice_get (with_all frame b ls ds) k ≡ Some l
-    → (slice_get ls k ≡ Some l) ⊎ ((d : NotedDecl) × (l ≡ local_made frame b k d))
-made_at frame b ls [] k l e = inl e
-made_at frame b ls (d ∷ ds) k l e =
-    elim (made_at frame b (ls ++ local_made frame b (length ls) d ∷ []) ds k l e) [
-      | inl f ↦ elim (at_end ls (local_made frame b (length ls) d) k l f) [ inl g ↦ inl g | inr g ↦ inr (d, g.1 ∙ ap (λ n. local_made frame b n d) (sym g.0)) ]
-      | inr f ↦ inr f
-    ]
-
-declared_at : (frame : Frame) (ds : List NotedDecl) (k : ℕ) (l : Local) → slice_get (declared_in frame ds) k ≡ Some l → (d : NotedDecl) × (l ≡ local_made (types_in frame ds) true k d)
-declared_at frame ds k l e = elim (made_at (types_in frame ds) true [] ds k l e) [ inl f ↦ absurd cc | inr f ↦ f ]
-
 pub known : (P : Bounds → Type 0) → P bounds.Unknown → (o : Outcome Bounds) → Gives P o → P (known_or_not o)
 known P u (Ok b) h = h
 known P u (Err r) h = u
 
 -- the bounds of a local that is declared
-pub bounds_known : (frame : Frame) (ds : List NotedDecl) (k : ℕ) (l : Local) → slice_get (declared_in frame ds) k ≡ Some l → AreKnown (types_in frame ds) (holder.Local k) l.ctype l.bounds
-bounds_known frame ds k l e =
-    let made = declared_at frame ds k l e in
+pub bounds_known : (frame : Frame) (ds : List NotedDecl) (k : ℕ) (l : Local) → AreAllLocals (names_declared ds) → slice_get (declared_in frame ds) k ≡ Some l → AreKnown (types_in frame ds) (holder.Local k) l.ctype l.bounds
+bounds_known frame ds k l numbers e =
+    let made = declaration_at (types_in frame ds) true ds k l numbers e in
     let d = made.0 in
-    subst (λ (x : Local). AreKnown (types_in frame ds) (holder.Local k) x.ctype x.bounds) (sym made.1)
+    subst (λ (x : Local). AreKnown (types_in frame ds) (holder.Local k) x.ctype x.bounds) (sym made.3)
     (known (AreKnown (types_in frame ds) (holder.Local k) (type_written d.ctype)) tt _ (declared_is (types_in frame ds) (holder.Local k) (type_written d.ctype) d.length d.bounds refl))
 
 -- a local that is declared where types are known
@@ -116,24 +98,18 @@ pub record IsThere (frame : Frame) (ds : List NotedDecl) (k : ℕ) (t : CType) :
   pub same : local.ctype ≡ t
   pub few : k < 1023
 
-pub declared_there : (frame : Frame) (ds es : List NotedDecl) (k : ℕ) (a : Local) → local_at (types_in frame ds) k ≡ Some a → IsThere frame (ds ++ es) k a.ctype
+pub declared_there : (frame : Frame) (ds es : List NotedDecl) (k : ℕ) (a : Local) → AreAllLocals (names_declared ds) → AreAllLocals (names_declared (ds ++ es)) → local_at (types_in frame ds) k ≡ Some a → IsThere frame (ds ++ es) k a.ctype
 unfolding few_of
-declared_there frame ds es k a e =
-    let one = first_at 1023 (with_all frame false [] ds) k a e in
-    let typed : slice_get (types_declared ds) k ≡ Some a.ctype =
-    sym (ap (λ ts. slice_get ts k) (all_types frame false [] ds)) ∙ slice_get-map (λ (x : Local). x.ctype) (with_all frame false [] ds) k ∙ ap (option_map (λ (x : Local). x.ctype)) one.1 in
-    let more : slice_get (types_declared (ds ++ es)) k ≡ Some a.ctype =
-    ap (λ ts. slice_get ts k) (map-append (λ (d : NotedDecl). type_written d.ctype) ds es) ∙ more_at (types_declared ds) (types_declared es) k a.ctype typed in
-    let D = declared_in frame (ds ++ es) in
-    let all : slice_get (types_of D) k ≡ Some a.ctype = ap (λ ts. slice_get ts k) (declared_types frame (ds ++ es)) ∙ more in
-    let less : k < length D = subst (λ n. k < n) (length-map D (λ (x : Local). x.ctype)) (slice_get_within (types_of D) k a.ctype all) in
-    let l = get_or D k nameless in
-    let there : slice_get D k ≡ Some l = slice_get-get_or D k nameless less in
-    let few : k < 1023 = one.0 in
-    record { local = l; there = there; same = ctype l there (sym (slice_get-map (λ (x : Local). x.ctype) D k) ∙ all); few = few }
-  where
-    ctype : (l : Local) → slice_get (declared_in frame (ds ++ es)) k ≡ Some l → option_map (λ (x : Local). x.ctype) (slice_get (declared_in frame (ds ++ es)) k) ≡ Some a.ctype → l.ctype ≡ a.ctype
-    ctype l f g = let h : Some l.ctype ≡ Some a.ctype = sym (ap (option_map (λ (x : Local). x.ctype)) f) ∙ g in cc
+declared_there frame ds es k a some all e =
+    let one = first_at 1023 (all_made frame false ds) k a e in
+    let d = declaration_at frame false ds k a some one.1 in
+    let T = types_in frame (ds ++ es) in
+    record {
+      local = local_made T true k d.0;
+      there = all_at T true (ds ++ es) k d.0 all (Contains-append_left ds es d.0 d.1) d.2;
+      same = sym (ap (λ (x : Local). x.ctype) d.3);
+      few = one.0;
+    }
 
 -- ---- the locals of a frame
 
@@ -180,14 +156,13 @@ pub record IsVariable (variables : List Variable) (k : ℕ) (t : CType) : Type 0
 pub from_zero : (k : ℕ) → 0 + k ≡ k
 from_zero k = omega arith
 
-declared_variable : (h : NotedHead) (body : NotedStmt) (k : ℕ) (d : NotedDecl) → AreLocals 0 (names_declared (all_of h body)) → slice_get (all_of h body) k ≡ Some d
+declared_variable : (h : NotedHead) (body : NotedStmt) (k : ℕ) (d : NotedDecl) → Contains (all_of h body) d → d.name ≡ name.Local k
     → (v : Variable) × Contains (variables_of h body) v × (same_name v.name (name.Local k) ≡ true)
-declared_variable h body k d ns e =
+declared_variable h body k d c named =
     let ds = all_of h body in
-    let named : d.name ≡ name.Local k =
-    name_at 0 (names_declared ds) k d.name ns (slice_get-map (λ (x : NotedDecl). x.name) ds k ∙ ap (option_map (λ (x : NotedDecl). x.name)) e) ∙ ap name.Local (from_zero k) in
+    let at = at_index ds d c in
     let there : Contains (variables_declared ds) (variable_declared d) =
-    contains_at (variables_declared ds) k (variable_declared d) (slice_get-map (λ (x : NotedDecl). variable_declared x) ds k ∙ ap (option_map (λ (x : NotedDecl). variable_declared x)) e) in (
+    contains_at (variables_declared ds) at.0 (variable_declared d) (slice_get-map (λ (x : NotedDecl). variable_declared x) ds at.0 ∙ ap (option_map (λ (x : NotedDecl). variable_declared x)) at.1) in (
       variable_declared d,
       Contains-permutation (variables_declared ds) (variables_of h body) (variable_declared d) (variables_moved h body) there,
       subst (λ n. same_name n (name.Local k) ≡ true) (sym named) (same_local k),
@@ -211,11 +186,6 @@ pub variable_there : (p : Typed) (h : NotedHead) (body : NotedStmt) (k : ℕ) (l
     → slice_get (declared_in (frame_of_text p) (all_of h body)) k ≡ Some l → k < 1023 → IsVariable (variables_of h body) k l.ctype
 unfolding setting_of
 variable_there p h body k l j there e few =
-    let frame = frame_of_text p in
-    let ds = all_of h body in
-    let typed : slice_get (types_declared ds) k ≡ Some l.ctype =
-    sym (ap (λ ts. slice_get ts k) (declared_types frame ds)) ∙ slice_get-map (λ (x : Local). x.ctype) (declared_in frame ds) k ∙ ap (option_map (λ (x : Local). x.ctype)) e in
-    let less : k < length ds = subst (λ n. k < n) (length-map ds (λ (x : NotedDecl). type_written x.ctype)) (slice_get_within (types_declared ds) k l.ctype typed) in
-    let one = some_at ds k less in
-    let v = found_variable (variables_of h body) k (declared_variable h body k one.0 (numbered p h body j there) one.1) in
-    record { variable = v.0; named = v.1; same = setting_types p h body j there v.0 k l v.2 v.3 (local_there frame h body k l e few) }
+    let one = declaration_at (types_in (frame_of_text p) (all_of h body)) true (all_of h body) k l (numbered p h body j there) e in
+    let v = found_variable (variables_of h body) k (declared_variable h body k one.0 one.1 one.2) in
+    record { variable = v.0; named = v.1; same = setting_types p h body j there v.0 k l v.2 v.3 (local_there (frame_of_text p) h body k l e few) }

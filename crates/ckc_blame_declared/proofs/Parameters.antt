@@ -3,8 +3,7 @@ use Rattle.std.proofs.Common.{◌≡◌, ◌∙◌, sym, ap, subst, refl, arith,
 use Rattle.std.specs.Prelude.{All, Bool, true, false, Some, slice_get, Ok, Err}
 use Rattle.std.specs.List.{Contains}
 use Rattle.std.specs.Option.{option_map}
-use Rattle.std.proofs.lemmas.List.{length-map}
-use Rattle.std.proofs.lemmas.List.Elements.{All-nil, All-cons, All-contains}
+use Rattle.std.proofs.lemmas.List.Elements.{All-nil, All-cons, All-contains, Contains-append_left}
 use Rattle.std.proofs.lemmas.Option.{slice_get-map, slice_get_within}
 use Rattle.ckc_base.specs.Outcomes.{Outcome}
 use Rattle.ckc_base.proofs.Gives.{Gives, given_from, bound, itself}
@@ -20,7 +19,7 @@ use Rattle.ckc_blame_sound.specs.ckc_bounds_points.specs.declared.frame.Local.{L
 use Rattle.ckc_blame_sound.specs.ckc_bounds_declared.specs.declared.limits.Holder.TheVariants as holder
 use Rattle.ckc_blame_sound.specs.ckc_bounds_statements.specs.DeclBounds.{holder_of, decl_bounds, bounds_there}
 use Rattle.ckc_blame_sound.specs.ckc_bounds_statements.specs.Paths.{path}
-use Rattle.ckc_blame_sound.specs.ckc_bounds.specs.Declarations.{member_holder, each, few_of, known_or_not, local_made, with_all, types_in, declared_in, head_judged, result_bounds}
+use Rattle.ckc_blame_sound.specs.ckc_bounds.specs.Declarations.{member_holder, each, few_of, known_or_not, local_made, all_made, types_in, declared_in, head_judged, result_bounds}
 use Rattle.ckc_blame_sound.specs.ckc_bounds.specs.Frames.{all_of}
 use Rattle.ckc_blame_sound.specs.ckc_bounds.specs.Texts.{members_judged, object_judged, body_judged, head_kept, item_judged, items_judged}
 use Rattle.ckc_source.specs.Code.{Function}
@@ -28,62 +27,26 @@ use Rattle.ckc_blame_sound.specs.Settings.{Setting, IsFunction, frame_of_text, s
 use Rattle.ckc_blame_sound.specs.Passed.{AreParameters}
 use Rattle.ckc_blame_sound.specs.JudgedTexts.{IsJudged}
 use Rattle.ckc_blame_sound.proofs.Bounded.{is_bounded, anything}
-use Rattle.ckc_blame_sound.proofs.Frames.{first_at, first_keeps, all_types, locals_counted}
-use Rattle.ckc_blame_sound.proofs.Functions.{numbered}
-use Rattle.ckc_blame_sound.proofs.Lists.{more_at, seam}
+use Rattle.ckc_blame_sound.proofs.Frames.{first_at, first_keeps, locals_counted}
+use Rattle.ckc_blame_sound.proofs.Functions.{params_own, numbered}
+use Rattle.ckc_blame_sound.specs.Numbered.{AreAllLocals}
+use Rattle.ckc_blame_sound.proofs.ByNumber.{at_index, all_at, declaration_at}
 use Rattle.ckc_blame_sound.proofs.Locals.{names_declared}
 use Rattle.ckc_blame_declared.proofs.Heads.{parameter_names}
-use Rattle.ckc_blame_declared.proofs.Locals.{contains_at, some_at, name_at, from_zero, local_there}
+use Rattle.ckc_blame_declared.proofs.Locals.{contains_at, local_there}
 use Rattle.ckc_blame_declared.proofs.More.{KnowsAs, declared_stays}
 
--- ---- what stands at a number
-
-front_kept : (frame : Frame) (b : Bool) (ls : List Local) (ds : List NotedDecl) (k : ℕ) (l : Local) → slice_get ls k ≡ Some l → slice_get (with_all frame b ls ds) k ≡ Some l
-front_kept frame b ls [] k l e = e
-front_kept frame b ls (d ∷ ds) k l e =
-    let m = local_made frame b (length ls) d in front_kept frame b (ls ++ m ∷ []) ds k l (more_at ls (m ∷ []) k l e)
-
-made_there : (frame : Frame) (b : Bool) (ls : List Local) (ds : List NotedDecl) (i k : ℕ) (d : NotedDecl) → k ≡ length ls + i → slice_get ds i ≡ Some d
-    → slice_get (with_all frame b ls ds) k ≡ Some (local_made frame b k d)
-made_there frame b ls [] i k d is e = absurd cc
-made_there frame b ls (x ∷ ds) zero k d is e =
-    let m = local_made frame b (length ls) x in
-    let same : x ≡ d = cc in
-    let first : k ≡ length ls = omega (arith, is) in
-    subst (λ n. slice_get (with_all frame b ls (x ∷ ds)) n ≡ Some (local_made frame b n d)) (sym first)
-    (front_kept frame b (ls ++ m ∷ []) ds (length ls) (local_made frame b (length ls) d) (seam ls m [] ∙ ap (λ y. Some (local_made frame b (length ls) y)) same))
-made_there frame b ls (x ∷ ds) (suc i) k d is e =
-    let m = local_made frame b (length ls) x in
-    let longer : length (ls ++ m ∷ []) ≡ length ls + 1 = length-append ls (m ∷ []) in
-    made_there frame b (ls ++ m ∷ []) ds i k d (omega (arith, is, longer)) e
-
--- the local that is made of a declaration
-pub all_at : (frame : Frame) (b : Bool) (ds : List NotedDecl) (k : ℕ) (d : NotedDecl) → slice_get ds k ≡ Some d → slice_get (with_all frame b [] ds) k ≡ Some (local_made frame b k d)
-all_at frame b ds k d e = made_there frame b [] ds k k d (sym (from_zero k)) e
-
-pub declaration_at : (frame : Frame) (b : Bool) (ds : List NotedDecl) (k : ℕ) (l : Local) → slice_get (with_all frame b [] ds) k ≡ Some l
-    → (d : NotedDecl) × (slice_get ds k ≡ Some d) × (l ≡ local_made frame b k d)
-declaration_at frame b ds k l e =
-    let one = some_at ds k less in (one.0, one.1, same (all_at frame b ds k one.0 one.1))
-  where
-    less : k < length ds
-    less =
-        subst (λ n. k < n) (sym (length-map (with_all frame b [] ds) (λ (x : Local). x.ctype)) ∙ ap length (all_types frame b [] ds) ∙ length-map ds (λ (d : NotedDecl). type_written d.ctype))
-        (slice_get_within (with_all frame b [] ds) k l e)
-
-    same : {m : Local} → slice_get (with_all frame b [] ds) k ≡ Some m → l ≡ m
-    same f = cc
-
 -- more declarations leave the types of those before them
-knows_more : (frame other : Frame) (ds es : List NotedDecl) → other.structs ≡ frame.structs → other.statics ≡ frame.statics → KnowsAs (types_in frame ds) (types_in other (ds ++ es))
+knows_more : (frame other : Frame) (ds es : List NotedDecl) → AreAllLocals (names_declared ds) → AreAllLocals (names_declared (ds ++ es)) → other.structs ≡ frame.structs → other.statics ≡ frame.statics
+    → KnowsAs (types_in frame ds) (types_in other (ds ++ es))
 unfolding few_of
-knows_more frame other ds es structs statics = record {
+knows_more frame other ds es some all structs statics = record {
   structs = structs;
   statics = statics;
   locals = λ k a e.
-      (let one = first_at 1023 (with_all frame false [] ds) k a e in
-      let d = declaration_at frame false ds k a one.1 in
-      first_keeps 1023 (with_all other false [] (ds ++ es)) k a one.0 (all_at other false (ds ++ es) k d.0 (more_at ds es k d.0 d.1) ∙ ap Some (sym d.2)));
+      (let one = first_at 1023 (all_made frame false ds) k a e in
+      let d = declaration_at frame false ds k a some one.1 in
+      first_keeps 1023 (all_made other false (ds ++ es)) k a one.0 (all_at other false (ds ++ es) k d.0 all (Contains-append_left ds es d.0 d.1) d.2 ∙ ap Some (sym d.3)));
 }
 
 -- ---- what was judged
@@ -144,36 +107,38 @@ function_well p j h body there =
 -- ---- parameters
 
 module _ (p : Typed) (j : IsJudged p) (h : NotedHead) (body : NotedStmt) (there : Contains p.tree.items (item.Function h body)) where
-  knows : (es : List NotedDecl) → KnowsAs (types_in (frame_of_text j.typed) h.params) (types_in (frame_of_text p) (h.params ++ es))
-  knows es = knows_more (frame_of_text j.typed) (frame_of_text p) h.params es (is_bounded j.typed p j.has_bounds).layout (is_bounded j.typed p j.has_bounds).statics
+  some : AreAllLocals (names_declared h.params)
+  some = params_own p h body j there
+
+  knows : (es : List NotedDecl) → AreAllLocals (names_declared (h.params ++ es)) → KnowsAs (types_in (frame_of_text j.typed) h.params) (types_in (frame_of_text p) (h.params ++ es))
+  knows es all = knows_more (frame_of_text j.typed) (frame_of_text p) h.params es some all (is_bounded j.typed p j.has_bounds).layout (is_bounded j.typed p j.has_bounds).statics
 
   -- its bounds as they were judged
-  judged_at : (k : ℕ) (d : NotedDecl) → slice_get h.params k ≡ Some d → (b : Bounds) × (decl_bounds (types_in (frame_of_text j.typed) h.params) (holder.Local k) d ≡ Ok b)
-  judged_at k d e =
+  judged_at : (k : ℕ) (d : NotedDecl) → Contains h.params d → d.name ≡ name.Local k → (b : Bounds) × (decl_bounds (types_in (frame_of_text j.typed) h.params) (holder.Local k) d ≡ Ok b)
+  judged_at k d c named =
       let T = types_in (frame_of_text j.typed) h.params in
-      let ds = all_of h body in
-      let named : d.name ≡ name.Local k =
-      name_at 0 (names_declared ds) k d.name (numbered p h body j there)
-      (slice_get-map (λ (x : NotedDecl). x.name) ds k ∙ ap (option_map (λ (x : NotedDecl). x.name)) (more_at h.params (path body).declared k d e)) ∙ ap name.Local (from_zero k) in
+      let at = at_index h.params d c in
       let one = All-contains IsJudgedWell (map (bounds_there T) h.params) (bounds_there T d) (function_well p j h body there).params
-      (contains_at (map (bounds_there T) h.params) k (bounds_there T d) (slice_get-map (bounds_there T) h.params k ∙ ap (option_map (bounds_there T)) e)) in
+      (contains_at (map (bounds_there T) h.params) at.0 (bounds_there T d) (slice_get-map (bounds_there T) h.params at.0 ∙ ap (option_map (bounds_there T)) at.1)) in
       (one.0, subst (λ n. decl_bounds T (holder_of n) d ≡ Ok one.0) named one.1)
 
-  made_same : (k : ℕ) (d : NotedDecl) (es : List NotedDecl) (b : Bounds) → decl_bounds (types_in (frame_of_text j.typed) h.params) (holder.Local k) d ≡ Ok b
+  made_same : (k : ℕ) (d : NotedDecl) (es : List NotedDecl) (b : Bounds) → AreAllLocals (names_declared (h.params ++ es)) → decl_bounds (types_in (frame_of_text j.typed) h.params) (holder.Local k) d ≡ Ok b
       → local_made (types_in (frame_of_text p) (h.params ++ es)) true k d ≡ record { ctype = type_written d.ctype; bounds = b }
-  made_same k d es b e =
-      let f = declared_stays (types_in (frame_of_text j.typed) h.params) (types_in (frame_of_text p) (h.params ++ es)) (knows es) (holder.Local k) (type_written d.ctype) d.length d.bounds b e in
+  made_same k d es b all e =
+      let f = declared_stays (types_in (frame_of_text j.typed) h.params) (types_in (frame_of_text p) (h.params ++ es)) (knows es all) (holder.Local k) (type_written d.ctype) d.length d.bounds b e in
       ap (λ (o : Outcome Bounds). record { ctype = type_written d.ctype; bounds = known_or_not o }) f
 
   parameter_declared : (k : ℕ) (l : Local) → slice_get (declared_in (frame_of_text p) h.params) k ≡ Some l → slice_get (declared_in (frame_of_text p) (all_of h body)) k ≡ Some l
   parameter_declared k l e =
       let frame = frame_of_text p in
       let es = (path body).declared in
-      let d = declaration_at (types_in frame h.params) true h.params k l e in
-      let b = judged_at k d.0 d.1 in
+      let all = numbered p h body j there in
+      let d = declaration_at (types_in frame h.params) true h.params k l some e in
+      let b = judged_at k d.0 d.1 d.2 in
+      let alone : AreAllLocals (names_declared (h.params ++ [])) = subst (λ ds. AreAllLocals (names_declared ds)) (sym (append-nil h.params)) some in
       let first : local_made (types_in frame h.params) true k d.0 ≡ record { ctype = type_written d.0.ctype; bounds = b.0 } =
-      subst (λ (ds : List NotedDecl). local_made (types_in frame ds) true k d.0 ≡ record { ctype = type_written d.0.ctype; bounds = b.0 }) (append-nil h.params) (made_same k d.0 [] b.0 b.1) in
-      all_at (types_in frame (h.params ++ es)) true (h.params ++ es) k d.0 (more_at h.params es k d.0 d.1) ∙ ap (λ (x : Local). Some x) (made_same k d.0 es b.0 b.1 ∙ sym first ∙ sym d.2)
+      subst (λ (ds : List NotedDecl). local_made (types_in frame ds) true k d.0 ≡ record { ctype = type_written d.0.ctype; bounds = b.0 }) (append-nil h.params) (made_same k d.0 [] b.0 alone b.1) in
+      all_at (types_in frame (h.params ++ es)) true (h.params ++ es) k d.0 all (Contains-append_left h.params es d.0 d.1) d.2 ∙ ap (λ (x : Local). Some x) (made_same k d.0 es b.0 all b.1 ∙ sym first ∙ sym d.3)
 
   abbrev Has : Setting → Type 0
   Has s = length s.variables < 1024 → AreParameters s s.head.params
@@ -186,7 +151,7 @@ module _ (p : Typed) (j : IsJudged p) (h : NotedHead) (body : NotedStmt) (there 
         let less : k < length (declared_in (frame_of_text p) (all_of h body)) = slice_get_within (declared_in (frame_of_text p) (all_of h body)) k l f in
         let below : k < length (variables_of h body) = subst (λ n. k < n) (locals_counted (frame_of_text p) h body) less in
         local_there (frame_of_text p) h body k l f (omega (arith, below, few)));
-    named = λ k l e i n. parameter_names (frame_of_text p) h.params k l e i n;
+    named = λ k l e i n. parameter_names (frame_of_text p) h.params k l some e i n;
   }
 
 pub parameters_are_locals : (p : Typed) (s : Setting) (f : Function) → IsJudged p → IsFunction p s f → length s.variables < 1024 → AreParameters s s.head.params

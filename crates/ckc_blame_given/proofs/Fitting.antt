@@ -42,7 +42,7 @@ use Rattle.ckc_blame_sound.specs.Settings.{Setting, IsFunction, frame_of_text, s
 use Rattle.ckc_blame_sound.proofs.Facts.{one_of}
 use Rattle.ckc_blame_sound.proofs.Types.{no_pointer}
 use Rattle.ckc_blame_sound.specs.JudgedTexts.{IsJudged, globals_in}
-use Rattle.ckc_blame_sound.proofs.Frames.{types_declared, declared_types, named_type, statics_named, variables_have, variables_have_types, locals_counted}
+use Rattle.ckc_blame_sound.proofs.Frames.{types_numbered, declared_types, named_type, statics_named, variables_have, variables_have_types, locals_counted}
 use Rattle.ckc_blame_sound.proofs.Functions.{numbered as numbered_names}
 use Rattle.ckc_blame_sound.proofs.KeptTrees.{same_fold}
 use Rattle.ckc_blame_sound.proofs.SameViews.{same_view}
@@ -130,7 +130,7 @@ char_bare t f c h = ⊎_elim
 
 -- ---- variables
 
-types_counted : (p : Typed) (h : NotedHead) (body : NotedStmt) → length (types_declared (all_of h body)) ≡ length (variables_of h body)
+types_counted : (p : Typed) (h : NotedHead) (body : NotedStmt) → length (types_numbered (all_of h body)) ≡ length (variables_of h body)
 types_counted p h body =
     let frame = frame_of_text p in
     ap length (sym (declared_types frame (all_of h body))) ∙ length-map (declared_in frame (all_of h body)) (λ (x : Local). x.ctype) ∙ locals_counted frame h body
@@ -144,10 +144,10 @@ module _ (p : Typed) (s : Setting) (fn : Function) (j : IsJudged p) (i : IsFunct
   unfolding setting_of
   variables_are = ap (λ (x : Setting). x.variables) i.judged
 
-  short : (k : ℕ) (t : CType) → slice_get (types_declared (all_of i.head i.body)) k ≡ Some t → k < length s.variables
+  short : (k : ℕ) (t : CType) → slice_get (types_numbered (all_of i.head i.body)) k ≡ Some t → k < length s.variables
   short k t e =
       subst (λ vs. k < length vs) (sym variables_are)
-      (subst (λ m. k < m) (types_counted p i.head i.body) (slice_get_within (types_declared (all_of i.head i.body)) k t e))
+      (subst (λ m. k < m) (types_counted p i.head i.body) (slice_get_within (types_numbered (all_of i.head i.body)) k t e))
 
   -- a local that has a type is one of the variables
   typed_below : (k : ℕ) (t : CType) → type_of_name (globals_of_text s.text) s.variables (name.Local k) ≡ Some t → k < length s.variables
@@ -211,7 +211,7 @@ module _ (p : Typed) (s : Setting) (fn : Function) (j : IsJudged p) (i : IsFunct
       → (k < length s.variables) × ((l : Local) → local_at s.frame k ≡ Some l → l.ctype ≡ type_written d.ctype)
   declared_fits d k c is =
       let among : Contains (variables_of i.head i.body) (variable_declared d) = subst (λ vs. Contains vs (variable_declared d)) variables_are c in
-      let typed : (m : ℕ) → d.name ≡ name.Local m → slice_get (types_declared (all_of i.head i.body)) m ≡ Some (type_written d.ctype) =
-      All-contains (λ (v : Variable). (m : ℕ) → v.name ≡ name.Local m → slice_get (types_declared (all_of i.head i.body)) m ≡ Some v.ctype) (variables_of i.head i.body) (variable_declared d)
+      let typed : (m : ℕ) → d.name ≡ name.Local m → slice_get (types_numbered (all_of i.head i.body)) m ≡ Some (type_written d.ctype) =
+      All-contains (λ (v : Variable). (m : ℕ) → v.name ≡ name.Local m → slice_get (types_numbered (all_of i.head i.body)) m ≡ Some v.ctype) (variables_of i.head i.body) (variable_declared d)
       (variables_have i.head i.body (numbered_names p i.head i.body j i.there)) among in
       (short k (type_written d.ctype) (typed k is), λ l there. variables_have_types p s fn j i (variable_declared d) k l c is there)

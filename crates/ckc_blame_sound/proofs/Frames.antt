@@ -5,7 +5,7 @@ use Rattle.std.specs.List.{Contains}
 use Rattle.std.specs.List.Sorted.{IsPermutation}
 use Rattle.std.specs.Option.{option_map}
 use Rattle.std.proofs.lemmas.List.{map-append, length-map}
-use Rattle.std.proofs.lemmas.List.Elements.{All-nil, All-cons, All-contains, All-contains_itself}
+use Rattle.std.proofs.lemmas.List.Elements.{All-nil, All-cons, All-head, All-tail, All-contains, All-contains_itself}
 use Rattle.std.proofs.lemmas.List.Sorted.{IsPermutation-refl, IsPermutation-append, IsPermutation-sym, Contains-permutation, length_permutation}
 use Rattle.std.proofs.lemmas.Option.{slice_get-map, slice_get_within, slice_get-get_or}
 use Rattle.std.proofs.lemmas.Bool.{eqb-true}
@@ -21,22 +21,23 @@ use Rattle.ckc_typed.specs.declared.environment.Object.{Object}
 use Rattle.ckc_typed.specs.declared.environment.Variable.{Variable}
 use Rattle.ckc_typed.specs.declared.typed.Typed.{Typed}
 use Rattle.ckc_typed.specs.Trees.{NotedDecl, NotedHead, NotedStmt, Tree, Item}
-use Rattle.ckc_typed.specs.Types.{type_written}
 use Rattle.ckc_typed.specs.Environment.{same_name, objects_of, or_variable, object_named, variable_named, variable_declared, variables_of, locals_of, type_of_name}
 use Rattle.ckc_typed_fit.proofs.NamedItems as items
 use Rattle.ckc_typed_fit.proofs.NamedItems.{ItemsNamed, text_is}
 use Rattle.ckc_bounds.specs.ckc_bounds_points.specs.declared.frame.Local.{Local}
 use Rattle.ckc_bounds.specs.ckc_bounds_points.specs.declared.frame.Frame.{Frame}
 use Rattle.ckc_bounds.specs.ckc_bounds_points.specs.Frames.{local_at}
-use Rattle.ckc_bounds.specs.Declarations.{first_of, few_of, local_made, with_all, types_in, declared_in, head_bounds}
+use Rattle.ckc_bounds.specs.Declarations.{first_of, few_of, types_in, declared_in, head_bounds}
 use Rattle.ckc_bounds.specs.Frames.{all_of, first_fresh, fresh_needed, function_frame, locals_frame, nameless}
 use Rattle.ckc_bounds.specs.ckc_bounds_statements.specs.Paths.{path}
 use Rattle.ckc_source.specs.Code.{Function}
 use Rattle.ckc_blame_sound.specs.Settings.{Setting, IsFunction, frame_of_text, setting_of}
 use Rattle.ckc_blame_sound.specs.Typed.{Agrees}
 use Rattle.ckc_blame_sound.specs.JudgedTexts.{IsJudged, globals_in}
-use Rattle.ckc_blame_sound.specs.Numbered.{AreLocals, HaveTypes}
+use Rattle.ckc_blame_sound.specs.Numbered.{AreAllLocals, HaveTypes}
 use Rattle.ckc_blame_sound.proofs.Lists.{all_by, found, seam, more_at}
+pub use Rattle.ckc_blame_sound.proofs.ByNumber.{types_of, types_declared, types_numbered, types_length, made_types, declared_types}
+use Rattle.ckc_blame_sound.proofs.ByNumber.{made_length, type_at}
 use Rattle.ckc_blame_sound.proofs.Functions.{tree_named, numbered}
 use Rattle.ckc_blame_sound.proofs.Locals.{names_declared, variables_declared, stmt_declares}
 
@@ -62,27 +63,6 @@ append_at (x ∷ xs) ys (suc k) l e = elim (append_at xs ys k l e) [ inl f ↦ i
 
 -- ---- the locals of a frame
 
-abbrev pub types_of : List Local → List CType
-types_of ls = map (λ (l : Local). l.ctype) ls
-
-abbrev pub types_declared : List NotedDecl → List CType
-types_declared ds = map (λ (d : NotedDecl). type_written d.ctype) ds
-
-made_type : (frame : Frame) (b : Bool) (k : ℕ) (d : NotedDecl) → (local_made frame b k d).ctype ≡ type_written d.ctype
-made_type frame true k d = refl
-made_type frame false k d = refl
-
-pub all_types : (frame : Frame) (b : Bool) (ls : List Local) (ds : List NotedDecl) → types_of (with_all frame b ls ds) ≡ types_of ls ++ types_declared ds
-all_types frame b ls [] = sym (append-nil (types_of ls))
-all_types frame b ls (d ∷ ds) =
-    all_types frame b (ls ++ local_made frame b (length ls) d ∷ []) ds
-    ∙ ap (λ ts. ts ++ types_declared ds) (map-append (λ (l : Local). l.ctype) ls (local_made frame b (length ls) d ∷ []))
-    ∙ append_assoc (types_of ls) ((local_made frame b (length ls) d).ctype ∷ []) (types_declared ds)
-    ∙ ap (λ t. types_of ls ++ t ∷ types_declared ds) (made_type frame b (length ls) d)
-
-pub declared_types : (frame : Frame) (ds : List NotedDecl) → types_of (declared_in frame ds) ≡ types_declared ds
-declared_types frame ds = all_types (types_in frame ds) true [] ds
-
 -- a local of a frame is declared, or comes after all that are
 frame_local : (frame : Frame) (h : NotedHead) (body : NotedStmt) (k : ℕ) (l : Local) → local_at (function_frame frame h body) k ≡ Some l
     → (slice_get (declared_in frame (all_of h body)) k ≡ Some l) ⊎ (length (declared_in frame (all_of h body)) ≤ k)
@@ -102,18 +82,11 @@ frame_local frame h body k l e =
 abbrev HasType : List CType → Variable → Type 0
 HasType ts v = (k : ℕ) → v.name ≡ name.Local k → slice_get ts k ≡ Some v.ctype
 
-same_local : (j k : ℕ) → name.Local j ≡ name.Local k → j ≡ k
-same_local j k e = cc
-
-declared_have : (front : List CType) (ds : List NotedDecl) → AreLocals (length front) (names_declared ds) → All (HasType (front ++ types_declared ds)) (variables_declared ds)
-declared_have front [] h = All-nil (HasType (front ++ []))
-declared_have front (d ∷ ds) h =
-    let t = type_written d.ctype in
-    let longer : length (front ++ t ∷ []) ≡ length front + 1 = length-append front (t ∷ []) in
-    let rest = declared_have (front ++ t ∷ []) ds (subst (λ n. AreLocals n (names_declared ds)) (sym longer) h.1) in
-    All-cons (HasType (front ++ t ∷ types_declared ds)) (variable_declared d) (variables_declared ds)
-    (λ k is. subst (λ n. slice_get (front ++ t ∷ types_declared ds) n ≡ Some t) (same_local (length front) k (sym h.0 ∙ is)) (seam front t (types_declared ds)))
-    (subst (λ ts. All (HasType ts) (variables_declared ds)) (append_assoc front (t ∷ []) (types_declared ds)) rest)
+declared_have : (all : List NotedDecl) → AreAllLocals (names_declared all) → (ds : List NotedDecl) → All (Contains all) ds → All (HasType (types_numbered all)) (variables_declared ds)
+declared_have all numbers [] h = All-nil (HasType (types_numbered all))
+declared_have all numbers (d ∷ ds) h =
+    All-cons (HasType (types_numbered all)) (variable_declared d) (variables_declared ds) (λ k is. type_at all k d numbers (All-head (Contains all) d ds h) is)
+    (declared_have all numbers ds (All-tail (Contains all) d ds h))
 
 all_moved : (P : Variable → Type 0) (xs ys : List Variable) → IsPermutation xs ys → All P xs → All P ys
 all_moved P xs ys m h = all_by (Contains ys) P (λ v c. All-contains P xs v h (Contains-permutation ys xs v (IsPermutation-sym xs ys m) c)) ys (All-contains_itself ys)
@@ -125,9 +98,9 @@ variables_moved h body =
     (IsPermutation-append (variables_declared h.params) (variables_declared h.params) (variables_declared (path body).declared) (locals_of body)
     (IsPermutation-refl (variables_declared h.params)) (stmt_declares body).is.variables)
 
-pub variables_have : (h : NotedHead) (body : NotedStmt) → AreLocals 0 (names_declared (all_of h body)) → All (HasType (types_declared (all_of h body))) (variables_of h body)
+pub variables_have : (h : NotedHead) (body : NotedStmt) → AreAllLocals (names_declared (all_of h body)) → All (HasType (types_numbered (all_of h body))) (variables_of h body)
 variables_have h body n =
-    all_moved (HasType (types_declared (all_of h body))) (variables_declared (all_of h body)) (variables_of h body) (variables_moved h body) (declared_have [] (all_of h body) n)
+    all_moved (HasType (types_numbered (all_of h body))) (variables_declared (all_of h body)) (variables_of h body) (variables_moved h body) (declared_have (all_of h body) n (all_of h body) (All-contains_itself (all_of h body)))
 
 -- ---- objects
 
@@ -161,14 +134,14 @@ local_named name.Getchar k e = absurd cc
 local_named name.Putchar k e = absurd cc
 
 -- the type of a local that is named is that at its number
-pub named_type : (globals : Globals) (h : NotedHead) (body : NotedStmt) (k : ℕ) (t : CType) → AreLocals 0 (names_declared (all_of h body)) → All IsStaticNamed globals.objects
-    → type_of_name globals (variables_of h body) (name.Local k) ≡ Some t → slice_get (types_declared (all_of h body)) k ≡ Some t
+pub named_type : (globals : Globals) (h : NotedHead) (body : NotedStmt) (k : ℕ) (t : CType) → AreAllLocals (names_declared (all_of h body)) → All IsStaticNamed globals.objects
+    → type_of_name globals (variables_of h body) (name.Local k) ≡ Some t → slice_get (types_numbered (all_of h body)) k ≡ Some t
 named_type globals h body k t n os e = by (variable_named (variables_of h body) (name.Local k)) refl (object_named globals (name.Local k)) refl e
   where
     by : (v : Option Variable) → variable_named (variables_of h body) (name.Local k) ≡ v → (o : Option Object) → object_named globals (name.Local k) ≡ o → or_variable v o ≡ Some t
-        → slice_get (types_declared (all_of h body)) k ≡ Some t
+        → slice_get (types_numbered (all_of h body)) k ≡ Some t
     by (Some v) is o there f =
-        let g = found (HasType (types_declared (all_of h body))) (λ (x : Variable). same_name x.name (name.Local k)) (variables_of h body) v (variables_have h body n) is in
+        let g = found (HasType (types_numbered (all_of h body))) (λ (x : Variable). same_name x.name (name.Local k)) (variables_of h body) v (variables_have h body n) is in
         g.0 k (local_named v.name k g.1) ∙ f
     by None is (Some o) there f = absurd (no_object globals.objects k o os there)
     by None is None there f = absurd cc
@@ -180,14 +153,14 @@ statics_named p j =
 
 -- the local of a frame has the type at its number
 frame_type : (p : Typed) (h : NotedHead) (body : NotedStmt) (k : ℕ) (l : Local) (t : CType) → local_at (function_frame (frame_of_text p) h body) k ≡ Some l
-    → slice_get (types_declared (all_of h body)) k ≡ Some t → l.ctype ≡ t
+    → slice_get (types_numbered (all_of h body)) k ≡ Some t → l.ctype ≡ t
 frame_type p h body k l t at types =
     let frame = frame_of_text p in
-    let long : length (types_declared (all_of h body)) ≡ length (declared_in frame (all_of h body)) =
+    let long : length (types_numbered (all_of h body)) ≡ length (declared_in frame (all_of h body)) =
     ap length (sym (declared_types frame (all_of h body))) ∙ length-map (declared_in frame (all_of h body)) (λ (x : Local). x.ctype) in
     elim (frame_local frame h body k l at) [
       | inl f ↦ same (sym (ap (λ ts. slice_get ts k) (declared_types frame (all_of h body))) ∙ slice_get-map (λ (x : Local). x.ctype) (declared_in frame (all_of h body)) k ∙ ap (option_map (λ (x : Local). x.ctype)) f) types
-      | inr f ↦ absurd (past (length (declared_in frame (all_of h body))) f (subst (λ m. k < m) long (slice_get_within (types_declared (all_of h body)) k t types)))
+      | inr f ↦ absurd (past (length (declared_in frame (all_of h body))) f (subst (λ m. k < m) long (slice_get_within (types_numbered (all_of h body)) k t types)))
     ]
   where
     same : {ts : Option CType} → ts ≡ Some l.ctype → ts ≡ Some t → l.ctype ≡ t
@@ -206,7 +179,7 @@ setting_agrees p h body j there = record {
 pub setting_types : (p : Typed) (h : NotedHead) (body : NotedStmt) → IsJudged p → Contains p.tree.items (item.Function h body) → HaveTypes (setting_of p h body).frame (setting_of p h body).variables
 unfolding setting_of
 setting_types p h body j there v k l is named at =
-    frame_type p h body k l v.ctype at (All-contains (HasType (types_declared (all_of h body))) (variables_of h body) v (variables_have h body (numbered p h body j there)) is k named)
+    frame_type p h body k l v.ctype at (All-contains (HasType (types_numbered (all_of h body))) (variables_of h body) v (variables_have h body (numbered p h body j there)) is k named)
 
 pub frames_agree : (p : Typed) (s : Setting) (f : Function) → IsJudged p → IsFunction p s f → Agrees (globals_in p) s
 frames_agree p s f j is = subst (Agrees (globals_in p)) (sym is.judged) (setting_agrees p is.head is.body j is.there)
@@ -226,7 +199,7 @@ first_keeps (suc m) (x ∷ ls) (suc k) l h e = first_keeps m ls k l (omega (arit
 pub locals_counted : (frame : Frame) (h : NotedHead) (body : NotedStmt) → length (declared_in frame (all_of h body)) ≡ length (variables_of h body)
 locals_counted frame h body =
     let ds = all_of h body in
-    sym (length-map (declared_in frame ds) (λ (x : Local). x.ctype)) ∙ ap length (declared_types frame ds) ∙ length-map ds (λ (d : NotedDecl). type_written d.ctype)
+    made_length (types_in frame ds) true ds
     ∙ sym (length-map ds (λ (d : NotedDecl). variable_declared d)) ∙ sym (length_permutation (variables_declared ds) (variables_of h body) (variables_moved h body))
 
 frame_has : (frame : Frame) (h : NotedHead) (body : NotedStmt) (k : ℕ) → k < length (variables_of h body) → length (variables_of h body) < 1024
@@ -250,8 +223,7 @@ locals_are_there p s f k is less few =
 
 -- there are as many as are declared
 pub declared_counted : (frame : Frame) (ds : List NotedDecl) → length ds ≡ length (declared_in frame ds)
-declared_counted frame ds =
-    sym (length-map ds (λ (d : NotedDecl). type_written d.ctype)) ∙ ap length (sym (declared_types frame ds)) ∙ length-map (declared_in frame ds) (λ (x : Local). x.ctype)
+declared_counted frame ds = sym (made_length (types_in frame ds) true ds)
 
 pub function_counts : (p : Typed) (s : Setting) (f : Function) → IsFunction p s f → (f.locals ≡ length s.variables) × (f.params ≡ length s.head.params)
 unfolding setting_of

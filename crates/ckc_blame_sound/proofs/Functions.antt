@@ -1,17 +1,21 @@
 -- The functions of a judged text.
-use Rattle.std.proofs.Common.{◌≡◌, ◌∙◌, sym, ap, subst, refl, List, [], ◌∷◌, ◌++◌, map}
+use Rattle.std.proofs.Common.{◌≡◌, ◌∙◌, sym, ap, subst, refl, ℕ, ◌+◌, List, [], ◌∷◌, ◌++◌, map}
 use Rattle.std.specs.Prelude.{All}
 use Rattle.std.specs.List.{Contains, flat_map}
 use Rattle.std.proofs.lemmas.List.{map-append}
 use Rattle.std.proofs.lemmas.List.Elements.{All-nil, All-cons, All-head, All-tail, All-contains}
+use Rattle.std.proofs.lemmas.List.Sorted.{IsPermutation-refl}
+use Rattle.ckc_syntax.specs.declared.tree.Name.{Name}
+use Rattle.ckc_syntax.specs.declared.tree.Name.TheVariants as name
 use Rattle.ckc_syntax.specs.declared.tree.Item.TheVariants as item
+use Rattle.ckc_typed_fit.specs.Numbers.{CountsFrom}
 use Rattle.ckc_typed.specs.declared.typed.Typed.{Typed}
 use Rattle.ckc_typed.specs.Trees.{NotedDecl, NotedHead, NotedStmt, NotedItem, Tree, Item}
 use Rattle.ckc_typed_welltyped.specs.Noteless.{bare_decl, bare_item, without_notes}
 use Rattle.ckc_bounds.specs.Frames.{all_of}
 use Rattle.ckc_bounds.specs.ckc_bounds_statements.specs.Paths.{path}
 use Rattle.ckc_blame_sound.specs.JudgedTexts.{IsJudged}
-use Rattle.ckc_blame_sound.specs.Numbered.{AreLocals}
+use Rattle.ckc_blame_sound.specs.Numbered.{AreLocals, AreAllLocals}
 use Rattle.ckc_blame_sound.proofs.Bares.{same_tree}
 use Rattle.ckc_blame_sound.proofs.KeptTrees.{two}
 use Rattle.ckc_blame_sound.proofs.Locals.{names_declared, stmt_declares}
@@ -41,7 +45,30 @@ pub item_is : (p : Typed) (j : IsJudged p) (P : Item → Type 0) → All P j.nam
 item_is p j P h i there =
     All-contains (λ k. P (bare_item k)) p.tree.items i (all_made P bare_item p.tree.items (subst (λ (t : Tree). All P t.items) (sym (tree_named p j)) h)) there
 
-pub numbered : (p : Typed) (h : NotedHead) (body : NotedStmt) → IsJudged p → Contains p.tree.items (item.Function h body) → AreLocals 0 (names_declared (all_of h body))
-numbered p h body j there =
+-- names that count are those of the locals with these numbers
+counting_numbers : (k : ℕ) (ns : List Name) → AreLocals k ns → (ks : List ℕ) × (ns ≡ map name.Local ks) × CountsFrom k ks
+counting_numbers k [] h = ([], refl, tt)
+counting_numbers k (n ∷ ns) h = let r = counting_numbers (k + 1) ns h.1 in (k ∷ r.0, two (λ m ms. m ∷ ms) h.0 r.1, (refl, r.2))
+
+front_locals : (k : ℕ) (ds es : List NotedDecl) → AreLocals k (names_declared (ds ++ es)) → AreLocals k (names_declared ds)
+front_locals k [] es h = tt
+front_locals k (d ∷ ds) es h = (h.0, front_locals (k + 1) ds es h.1)
+
+in_order : (p : Typed) (h : NotedHead) (body : NotedStmt) → IsJudged p → Contains p.tree.items (item.Function h body) → AreLocals 0 (names_declared (all_of h body))
+in_order p h body j there =
     subst (AreLocals 0) (function_names h body)
     (item_is p j (λ i. AreLocals 0 (item_names i)) (locals_named j.spelled j.named j.has_names) (item.Function h body) there)
+
+-- parameters have the first numbers
+pub params_numbered : (p : Typed) (h : NotedHead) (body : NotedStmt) → IsJudged p → Contains p.tree.items (item.Function h body) → AreLocals 0 (names_declared h.params)
+params_numbered p h body j there = front_locals 0 h.params (path body).declared (in_order p h body j there)
+
+all_locals : (ns : List Name) → AreLocals 0 ns → AreAllLocals ns
+all_locals ns h = let r = counting_numbers 0 ns h in (r.0, r.1, (r.0, r.2, IsPermutation-refl r.0))
+
+pub params_own : (p : Typed) (h : NotedHead) (body : NotedStmt) → IsJudged p → Contains p.tree.items (item.Function h body) → AreAllLocals (names_declared h.params)
+params_own p h body j there = all_locals (names_declared h.params) (params_numbered p h body j there)
+
+-- each local has a number of its own
+pub numbered : (p : Typed) (h : NotedHead) (body : NotedStmt) → IsJudged p → Contains p.tree.items (item.Function h body) → AreAllLocals (names_declared (all_of h body))
+numbered p h body j there = all_locals (names_declared (all_of h body)) (in_order p h body j there)

@@ -49,6 +49,7 @@ pub mod Bares
 pub mod Numbers
 pub mod Locals
 pub mod Functions
+pub mod ByNumber
 pub mod Frames
 pub mod Sizes
 pub mod Every

@@ -37,11 +37,11 @@ NamesSeen seen = every-Expr Name Note AnyLimits AnyNode (HasAmong seen)
 abbrev pub NamesOnly : List ℕ → NotedExpr → Type 0
 NamesOnly seen e = (f : NotedExpr) → bare_expr f ≡ bare_expr e → NamesSeen seen f
 
--- The local k is new if some are in scope: it is a variable of the function, it has a greater number than these, and
--- their bounds do not name it.
+-- The local k is new if some are in scope: it is a variable of the function, it is none of these, and their bounds do not
+-- name it.
 pub record IsNewLocal (s : Setting) (seen : List ℕ) (k : ℕ) : Type 0 where
   pub there : k < length s.variables
-  pub later : (j : ℕ) → Contains seen j → j < k
+  pub other : Contains seen k → ⊥
   pub unnamed : (j : ℕ) → Contains seen j → in_bounds_of k (local_at s.frame j) ≡ false
 
 -- A statement stands in the scope of some locals, which are variables of the function: its expressions name only these,

@@ -47,7 +47,7 @@ ghost use Rattle.ckc_blame_sound.specs.Slots.{Slot, slots_of};
 ghost use Rattle.ckc_blame_sound.specs.Cells.{HaveOwnNames, IsPart};
 ghost use Rattle.ckc_blame_sound.specs.Limited.{IsElementAt};
 ghost use Rattle.ckc_blame_sound.specs.JudgedTexts.{IsJudged, IsBodyJudged, globals_in};
-ghost use Rattle.ckc_blame_sound.specs.Numbered.{AreLocals, HaveTypes, IsKnownIn};
+ghost use Rattle.ckc_blame_sound.specs.Numbered.{AreLocals, AreAllLocals, HaveTypes, IsKnownIn};
 
 /// No member of a structure of a judged text has the name of another one.
 pub fn members_have_own_names()
@@ -66,12 +66,15 @@ pub fn judging_keeps_trees()
     ensures { (q p : Typed) → bounding.Makes q p → without_notes p.tree ≡ without_notes q.tree }
 {}
 
-/// The parameters and then the other locals of a function have the numbers from 0 on, in the order in which the
-/// frames of its judgement have them.
+/// The parameters of a function have the numbers from 0 on, and all its locals together each their own number: the
+/// numbers from 0 on, by which the frames of its judgement have them.
 pub fn locals_are_numbered()
-    ensures { (p : Typed) (h : NotedHead) (body : NotedStmt) → IsJudged p
+    ensures params { (p : Typed) (h : NotedHead) (body : NotedStmt) → IsJudged p
         → Contains p.tree.items (item.Function h body)
-        → AreLocals 0 (map (λ (d : NotedDecl). d.name) (all_of h body)) }
+        → AreLocals 0 (map (λ (d : NotedDecl). d.name) h.params) }
+    ensures all { (p : Typed) (h : NotedHead) (body : NotedStmt) → IsJudged p
+        → Contains p.tree.items (item.Function h body)
+        → AreAllLocals (map (λ (d : NotedDecl). d.name) (all_of h body)) }
 {}
 
 /// The frame of each function agrees with what the text and the function declare: each local has the type of its

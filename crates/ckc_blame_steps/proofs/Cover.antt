@@ -236,6 +236,9 @@ module _ (m : Mode) (globals : Globals) (s : Setting) (store : Store) (seen : Li
   unary mode t op.Mul e known row spoken = absurd (cc)
   unary mode t op.Div e known row spoken = absurd (cc)
   unary mode t op.Rem e known row spoken = absurd (cc)
+  unary mode t op.Set e known row spoken = absurd (cc)
+  unary mode t op.PostInc e known row spoken = absurd (cc)
+  unary mode t op.PostDec e known row spoken = absurd (cc)
 
   node_covered : (mode : Mode) (t : CType) (x : NotedLayer) → HasType globals s.variables mode x t → (is_assumed x ≡ true → m ≡ Unchecked) → NamesAmong seen x → IsSpokenNode m s x
       → Down IsKnown (EachLimits IsKnownPart) x → Covered t x

@@ -59,8 +59,9 @@ use Rattle.ckc_blame_sound.specs.Sound.{IsPlaced, Sound}
 use Rattle.ckc_blame_sound.specs.Moves.{IsSoundMove}
 use Rattle.ckc_blame_sound.specs.JudgedTexts.{IsJudged}
 use Rattle.ckc_blame_sound.specs.Numbered.{AreLocals}
-use Rattle.ckc_blame_sound.proofs.Frames.{types_declared, declared_types}
-use Rattle.ckc_blame_sound.proofs.Functions.{numbered}
+use Rattle.ckc_blame_sound.proofs.Frames.{types_declared}
+use Rattle.ckc_blame_sound.proofs.ByNumber.{params_types}
+use Rattle.ckc_blame_sound.proofs.Functions.{params_numbered}
 use Rattle.ckc_blame_walk.specs.ckc_blame_nested.specs.Nested.{AreNested}
 use Rattle.ckc_blame_walk.specs.Walks.{leaving}
 use Rattle.ckc_blame_walk.proofs.Frames.{text_goes}
@@ -113,15 +114,11 @@ many_arguments (t ∷ ts) [] h = absurd h
 some_type : (o : Option Local) (l : Local) → o ≡ Some l → option_map (λ (x : Local). x.ctype) o ≡ Some l.ctype
 some_type o l e = ap (option_map (λ (x : Local). x.ctype)) e
 
-params_typed : (p : Typed) (head : NotedHead) (body : NotedStmt) (i : ℕ) (l : Local) → slice_get (setting_of p head body).head.params i ≡ Some l → slice_get (types_declared head.params) i ≡ Some l.ctype
+params_typed : (p : Typed) (head : NotedHead) (body : NotedStmt) (i : ℕ) (l : Local) → AreLocals 0 (map (λ (d : NotedDecl). d.name) head.params) → slice_get (setting_of p head body).head.params i ≡ Some l → slice_get (types_declared head.params) i ≡ Some l.ctype
 unfolding setting_of
-params_typed p head body i l e =
+params_typed p head body i l first e =
     let params = declared_in (frame_of_text p) head.params in
-    ap (λ ts. slice_get ts i) (sym (declared_types (frame_of_text p) head.params)) ∙ slice_get-map (λ (x : Local). x.ctype) params i ∙ some_type (slice_get params i) l e
-
-front_locals : (k : ℕ) (xs ys : List NotedDecl) → AreLocals k (map (λ (d : NotedDecl). d.name) (xs ++ ys)) → AreLocals k (map (λ (d : NotedDecl). d.name) xs)
-front_locals k [] ys h = tt
-front_locals k (x ∷ xs) ys h = (h.0, front_locals (k + 1) xs ys h.1)
+    ap (λ ts. slice_get ts i) (sym (params_types (frame_of_text p) head.params first)) ∙ slice_get-map (λ (x : Local). x.ctype) params i ∙ some_type (slice_get params i) l e
 
 seen_below : (k : ℕ) (ds : List NotedDecl) → AreLocals k (map (λ (d : NotedDecl). d.name) ds) → (j : ℕ) → Contains (flat_map name_seen ds) j → j < k + length ds
 seen_below k [] h j c = let none = c.1 in absurd (omega (arith, none))
@@ -210,7 +207,7 @@ module _ (p : Typed) (s : State) (h : Sound p s) (j : IsJudged p) (nested : AreN
         ∙ sym (length-map c.function.head.params (λ (d : NotedDecl). type_written d.ctype))
 
     typed_at : (i : ℕ) (l : Local) → slice_get params i ≡ Some l → slice_get types i ≡ Some l.ctype
-    typed_at i l e = params_typed p c.function.head c.function.body i l (ap (λ (t : Setting). slice_get t.head.params i) (sym c.function.judged) ∙ e)
+    typed_at i l e = params_typed p c.function.head c.function.body i l (params_numbered p c.function.head c.function.body j c.function.there) (ap (λ (t : Setting). slice_get t.head.params i) (sym c.function.judged) ∙ e)
 
     typing_is : typing.AreArguments types step.is.args
     typing_is = subst (λ ts. typing.AreArguments ts step.is.args) c.types row.2
@@ -297,7 +294,7 @@ module _ (p : Typed) (s : State) (h : Sound p s) (j : IsJudged p) (nested : AreN
 
       seen_params : (k : ℕ) → Contains (params_seen c.function.head) k → k < length params
       seen_params k e =
-          let names = front_locals 0 c.function.head.params (path c.function.body).declared (numbered p c.function.head c.function.body j c.function.there) in
+          let names = params_numbered p c.function.head c.function.body j c.function.there in
           let b = seen_below 0 c.function.head.params names k e in
           let count = params_count ∙ length-map c.function.head.params (λ (d : NotedDecl). type_written d.ctype) in
           omega (arith, b, count)

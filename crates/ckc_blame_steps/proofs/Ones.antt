@@ -40,8 +40,10 @@ use Rattle.ckc_blame_sound.specs.Settings.{Setting, IsFunction, frame_of_text, s
 use Rattle.ckc_blame_sound.specs.JudgedTexts.{IsJudged, IsBodyJudged, globals_in}
 use Rattle.ckc_blame_sound.proofs.Bodies.{bodies_are_typed}
 use Rattle.ckc_blame_sound.proofs.Bounds.{IsBoundable, decl_fits}
-use Rattle.ckc_blame_walk.specs.ckc_blame_declared.proofs.Locals.{contains_at, local_is}
-use Rattle.ckc_blame_walk.specs.ckc_blame_declared.proofs.Parameters.{IsJudgedWell, declaration_at, function_well}
+use Rattle.ckc_blame_walk.specs.ckc_blame_declared.proofs.Locals.{local_is}
+use Rattle.ckc_blame_walk.specs.ckc_blame_declared.proofs.Parameters.{IsJudgedWell, function_well}
+use Rattle.ckc_blame_sound.proofs.ByNumber.{declaration_at}
+use Rattle.ckc_blame_sound.proofs.Functions.{numbered}
 use Rattle.ckc_blame_given.specs.ckc_blame_pointers.specs.Covered.{DeclareOnes}
 use Rattle.ckc_blame_walk.proofs.Frames.{body_twin}
 use Rattle.ckc_blame_walk.proofs.Pieces.{Gives, through, nested, given, unless_gives, value_moves, maybe_moves, init_moves}
@@ -391,9 +393,9 @@ module _ (p : Typed) (h : NotedHead) (body : NotedStmt) (j : IsJudged p) (there 
   declared_one : (k : ℕ) (l : Local) → slice_get (declared_in (frame_of_text p) (all_of h body)) k ≡ Some l → kind_of l.ctype ≡ Some kind.One → l.bounds ≡ bounds_of_kind (base.Local k) (Some kind.One)
   declared_one k l e one =
       let frame = types_in (frame_of_text p) (all_of h body) in
-      let d = declaration_at frame true (all_of h body) k l e in
-      let fits : IsBoundable d.0 = All-contains IsBoundable (all_of h body) d.0 all_boundable (contains_at (all_of h body) k d.0 d.1) in
-      ap (λ (x : Local). x.bounds) d.2 ∙ one_bounds frame k d.0 fits (sym (ap (λ (x : Local). kind_of x.ctype) d.2) ∙ one)
+      let d = declaration_at frame true (all_of h body) k l (numbered p h body j there) e in
+      let fits : IsBoundable d.0 = All-contains IsBoundable (all_of h body) d.0 all_boundable d.1 in
+      ap (λ (x : Local). x.bounds) d.3 ∙ one_bounds frame k d.0 fits (sym (ap (λ (x : Local). kind_of x.ctype) d.3) ∙ one)
 
   ones_there : DeclareOnes (setting_of p h body)
   unfolding setting_of

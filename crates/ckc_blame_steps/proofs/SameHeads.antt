@@ -1,11 +1,12 @@
 -- What a head says of bounds depends on no places, on no notes, and on the structures and static objects alone.
-use Rattle.std.proofs.Common.{◌≡◌, ◌∙◌, sym, ap, refl, ℕ, Bool, true, false, List, [], ◌∷◌, ◌++◌, map, length}
-use Rattle.std.specs.Prelude.{if◌then◌else◌, ◌&&◌, Option, Some, None, unwrap_or, is_none, slice_get, Ok, Err}
+use Rattle.std.proofs.Common.{◌≡◌, ◌∙◌, sym, ap, refl, ℕ, suc, Bool, true, false, List, [], ◌∷◌, ◌++◌, map, length, replicate}
+use Rattle.std.specs.Prelude.{if◌then◌else◌, ◌&&◌, Option, Some, None, unwrap_or, is_none, slice_get, slice_set, Ok, Err}
 use Rattle.std.specs.Option.{option_map}
 use Rattle.ckc_base.specs.declared.places.Pos.{Pos}
 use Rattle.ckc_base.specs.Outcomes.{Outcome, there_or}
 use Rattle.ckc_types.specs.declared.types.CType.{CType}
 use Rattle.ckc_syntax.specs.declared.tree.Name.{Name}
+use Rattle.ckc_syntax.specs.declared.tree.Name.TheVariants as name
 use Rattle.ckc_syntax.specs.declared.tree.Length.{Length}
 use Rattle.ckc_syntax.specs.declared.tree.Length.TheVariants as lengths
 use Rattle.ckc_syntax.specs.declared.tree.Limits.{out-Limits}
@@ -23,7 +24,7 @@ use Rattle.ckc_blame_sound.specs.ckc_bounds_points.specs.declared.frame.Local.{L
 use Rattle.ckc_blame_sound.specs.ckc_bounds_declared.specs.declared.limits.Holder.{Holder}
 use Rattle.ckc_blame_sound.specs.ckc_bounds_declared.specs.declared.limits.Holder.TheVariants as holder
 use Rattle.ckc_blame_sound.specs.ckc_bounds_declared.specs.Written.{own, takes_bounds_kind, takes_bounds, bounds_by_type, place_of_limits, bounds_taken, bounds_declared}
-use Rattle.ckc_blame_sound.specs.ckc_bounds.specs.Declarations.{result_bounds, known_or_not, bare, few_of, local_made, with_all, with_locals, types_in, declared_in, head_bounds}
+use Rattle.ckc_blame_sound.specs.ckc_bounds.specs.Declarations.{result_bounds, known_or_not, bare, few_of, nameless, local_made, with_local, with_all, all_made, with_locals, types_in, declared_in, head_bounds}
 use Rattle.ckc_blame_walk.specs.ckc_blame_declared.proofs.More.{KnowsAs, declared_stays}
 use Rattle.ckc_blame_steps.proofs.Plain.{type_plain, plain_limits, plain_written, written_plain}
 
@@ -67,41 +68,66 @@ local_plain frame true k d =
     ap (λ b. record { ctype = type_written d.ctype; bounds = b }) (bounds_plain frame (holder.Local k) (type_written d.ctype) d.length d.bounds)
     ∙ ap (λ t. record { ctype = t; bounds = plain_bounds frame (holder.Local k) t (placeless_length d.length) (placeless_bounds (option_map bare_limits d.bounds)) }) (sym (type_plain d.ctype))
 
-abbrev plain_all : Frame → Bool → List Local → List Decl → List Local
-plain_all frame b ls [] = ls
-plain_all frame b ls (d ∷ ds) = plain_all frame b (ls ++ plain_local frame b (length ls) d ∷ []) ds
+-- What each declaration makes stands at its number.
+abbrev plain_one : Frame → Bool → List Local → Name → Decl → List Local
+plain_one frame b ls (name.Local k) d = slice_set ls k (plain_local frame b k d)
+plain_one frame b ls _ d = ls
 
-all_plain : (frame : Frame) (b : Bool) (ls : List Local) (ds : List NotedDecl) → with_all frame b ls ds ≡ plain_all frame b ls (map placeless_decl (map bare_decl ds))
-all_plain frame b ls [] = refl
-all_plain frame b ls (d ∷ ds) =
-    all_plain frame b (ls ++ local_made frame b (length ls) d ∷ []) ds
-    ∙ ap (λ l. plain_all frame b (ls ++ l ∷ []) (map placeless_decl (map bare_decl ds))) (local_plain frame b (length ls) d)
+abbrev plain_each : Frame → Bool → List Local → List Decl → List Local
+plain_each frame b ls [] = ls
+plain_each frame b ls (d ∷ ds) = plain_each frame b (plain_one frame b ls d.name d) ds
+
+abbrev plain_all : Frame → Bool → List Decl → List Local
+plain_all frame b ds = plain_each frame b (replicate (length ds) nameless) ds
+
+one_plain : (frame : Frame) (b : Bool) (ls : List Local) (n : Name) (d : NotedDecl) → with_local frame b ls n d ≡ plain_one frame b ls n (placeless_decl (bare_decl d))
+one_plain frame b ls (name.Local k) d = ap (slice_set ls k) (local_plain frame b k d)
+one_plain frame b ls (name.Static k) d = refl
+one_plain frame b ls (name.Function k) d = refl
+one_plain frame b ls (name.Tag k) d = refl
+one_plain frame b ls (name.Member k) d = refl
+one_plain frame b ls name.Getchar d = refl
+one_plain frame b ls name.Putchar d = refl
+
+each_plain : (frame : Frame) (b : Bool) (ls : List Local) (ds : List NotedDecl) → with_all frame b ls ds ≡ plain_each frame b ls (map placeless_decl (map bare_decl ds))
+each_plain frame b ls [] = refl
+each_plain frame b ls (d ∷ ds) =
+    each_plain frame b (with_local frame b ls d.name d) ds
+    ∙ ap (λ xs. plain_each frame b xs (map placeless_decl (map bare_decl ds))) (one_plain frame b ls d.name d)
+
+as_many : (ds : List NotedDecl) → length ds ≡ length (map placeless_decl (map bare_decl ds))
+as_many [] = refl
+as_many (d ∷ ds) = ap suc (as_many ds)
+
+all_plain : (frame : Frame) (b : Bool) (ds : List NotedDecl) → all_made frame b ds ≡ plain_all frame b (map placeless_decl (map bare_decl ds))
+all_plain frame b ds =
+    each_plain frame b (replicate (length ds) nameless) ds ∙ ap (λ n. plain_each frame b (replicate n nameless) (map placeless_decl (map bare_decl ds))) (as_many ds)
 
 abbrev plain_types : Frame → List Decl → Frame
-plain_types frame ds = with_locals frame (plain_all frame false [] ds)
+plain_types frame ds = with_locals frame (plain_all frame false ds)
 
 abbrev plain_head : Frame → Head → HeadBounds
 plain_head frame h = record {
-  params = plain_all (plain_types frame h.params) true [] h.params;
+  params = plain_all (plain_types frame h.params) true h.params;
   result = type_written h.result;
   bounds = plain_bounds (plain_types frame h.params) holder.Result (type_written h.result) lengths.Plain h.bounds;
 }
 
 types_plain : (frame : Frame) (ds : List NotedDecl) → types_in frame ds ≡ plain_types frame (map placeless_decl (map bare_decl ds))
-types_plain frame ds = ap (with_locals frame) (all_plain frame false [] ds)
+types_plain frame ds = ap (with_locals frame) (all_plain frame false ds)
 
 pub head_plain : (frame : Frame) (h : NotedHead) → head_bounds frame h ≡ plain_head frame (placeless_head (bare_head h))
 head_plain frame h =
     let ds = map placeless_decl (map bare_decl h.params) in
     let l = placeless_bounds (option_map bare_limits h.bounds) in
-    let params : declared_in frame h.params ≡ plain_all (plain_types frame ds) true [] ds =
-    all_plain (types_in frame h.params) true [] h.params ∙ ap (λ f. plain_all f true [] ds) (types_plain frame h.params) in
+    let params : declared_in frame h.params ≡ plain_all (plain_types frame ds) true ds =
+    all_plain (types_in frame h.params) true h.params ∙ ap (λ f. plain_all f true ds) (types_plain frame h.params) in
     let result : known_or_not (result_bounds (types_in frame h.params) h) ≡ plain_bounds (plain_types frame ds) holder.Result (type_written h.result) lengths.Plain l =
     bounds_plain (types_in frame h.params) holder.Result (type_written h.result) lengths.Plain h.bounds
     ∙ ap (λ f. plain_bounds f holder.Result (type_written h.result) lengths.Plain l) (types_plain frame h.params) in
     ap (λ ps. record { params = ps; result = type_written h.result; bounds = known_or_not (result_bounds (types_in frame h.params) h) }) params
-    ∙ ap (λ b. record { params = plain_all (plain_types frame ds) true [] ds; result = type_written h.result; bounds = b }) result
-    ∙ ap (λ t. record { params = plain_all (plain_types frame ds) true [] ds; result = t; bounds = plain_bounds (plain_types frame ds) holder.Result t lengths.Plain l }) (sym (type_plain h.result))
+    ∙ ap (λ b. record { params = plain_all (plain_types frame ds) true ds; result = type_written h.result; bounds = b }) result
+    ∙ ap (λ t. record { params = plain_all (plain_types frame ds) true ds; result = t; bounds = plain_bounds (plain_types frame ds) holder.Result t lengths.Plain l }) (sym (type_plain h.result))
 
 -- Heads that are the same but for places say the same of bounds.
 pub heads_same : (frame : Frame) (g h : NotedHead) → placeless_head (bare_head g) ≡ placeless_head (bare_head h) → head_bounds frame g ≡ head_bounds frame h
@@ -123,9 +149,18 @@ either_known (Err r) (Ok b) h i = absurd (no r b (i b refl))
 either_known (Err r) (Err q) h i = refl
 
 module _ (frame other : Frame) (w : KnowsText frame other) where
+  type_same : (ls : List Local) (n : Name) (d : NotedDecl) → with_local other false ls n d ≡ with_local frame false ls n d
+  type_same ls (name.Local k) d = refl
+  type_same ls (name.Static k) d = refl
+  type_same ls (name.Function k) d = refl
+  type_same ls (name.Tag k) d = refl
+  type_same ls (name.Member k) d = refl
+  type_same ls name.Getchar d = refl
+  type_same ls name.Putchar d = refl
+
   types_same : (ls : List Local) (ds : List NotedDecl) → with_all other false ls ds ≡ with_all frame false ls ds
   types_same ls [] = refl
-  types_same ls (d ∷ ds) = types_same (ls ++ bare (type_written d.ctype) ∷ []) ds
+  types_same ls (d ∷ ds) = types_same (with_local other false ls d.name d) ds ∙ ap (λ xs. with_all frame false xs ds) (type_same ls d.name d)
 
   abbrev first : List NotedDecl → Frame
   first ds = types_in frame ds
@@ -134,22 +169,30 @@ module _ (frame other : Frame) (w : KnowsText frame other) where
   second ds = types_in other ds
 
   there : (ds : List NotedDecl) → KnowsAs (first ds) (second ds)
-  there ds = record { structs = w.structs; statics = w.statics; locals = λ k l e. ap (λ ls. slice_get (few_of ls) k) (types_same [] ds) ∙ e }
+  there ds = record { structs = w.structs; statics = w.statics; locals = λ k l e. ap (λ ls. slice_get (few_of ls) k) (types_same (replicate (length ds) nameless) ds) ∙ e }
 
   back : (ds : List NotedDecl) → KnowsAs (second ds) (first ds)
-  back ds = record { structs = sym w.structs; statics = sym w.statics; locals = λ k l e. sym (ap (λ ls. slice_get (few_of ls) k) (types_same [] ds)) ∙ e }
+  back ds = record { structs = sym w.structs; statics = sym w.statics; locals = λ k l e. sym (ap (λ ls. slice_get (few_of ls) k) (types_same (replicate (length ds) nameless) ds)) ∙ e }
 
   declared_same : (ps : List NotedDecl) (h : Holder) (t : CType) (n : Length) (l : Option NotedLimits)
       → known_or_not (bounds_declared (second ps) h t n l) ≡ known_or_not (bounds_declared (first ps) h t n l)
   declared_same ps h t n l = either_known _ _ (declared_stays (second ps) (first ps) (back ps) h t n l) (declared_stays (first ps) (second ps) (there ps) h t n l)
 
+  one_same : (ps : List NotedDecl) (ls : List Local) (n : Name) (d : NotedDecl) → with_local (second ps) true ls n d ≡ with_local (first ps) true ls n d
+  one_same ps ls (name.Local k) d =
+      ap (λ b. slice_set ls k (record { ctype = type_written d.ctype; bounds = b })) (declared_same ps (holder.Local k) (type_written d.ctype) d.length d.bounds)
+  one_same ps ls (name.Static k) d = refl
+  one_same ps ls (name.Function k) d = refl
+  one_same ps ls (name.Tag k) d = refl
+  one_same ps ls (name.Member k) d = refl
+  one_same ps ls name.Getchar d = refl
+  one_same ps ls name.Putchar d = refl
+
   all_same : (ps : List NotedDecl) (ls : List Local) (ds : List NotedDecl) → with_all (second ps) true ls ds ≡ with_all (first ps) true ls ds
   all_same ps ls [] = refl
-  all_same ps ls (d ∷ ds) =
-      all_same ps (ls ++ local_made (second ps) true (length ls) d ∷ []) ds
-      ∙ ap (λ b. with_all (first ps) true (ls ++ record { ctype = type_written d.ctype; bounds = b } ∷ []) ds) (declared_same ps (holder.Local (length ls)) (type_written d.ctype) d.length d.bounds)
+  all_same ps ls (d ∷ ds) = all_same ps (with_local (second ps) true ls d.name d) ds ∙ ap (λ xs. with_all (first ps) true xs ds) (one_same ps ls d.name d)
 
   pub same_bounds : (h : NotedHead) → head_bounds other h ≡ head_bounds frame h
   same_bounds h =
-      ap (λ ps. record { params = ps; result = type_written h.result; bounds = known_or_not (result_bounds (second h.params) h) }) (all_same h.params [] h.params)
+      ap (λ ps. record { params = ps; result = type_written h.result; bounds = known_or_not (result_bounds (second h.params) h) }) (all_same h.params (replicate (length h.params) nameless) h.params)
       ∙ ap (λ b. record { params = declared_in frame h.params; result = type_written h.result; bounds = b }) (declared_same h.params holder.Result (type_written h.result) lengths.Plain h.bounds)

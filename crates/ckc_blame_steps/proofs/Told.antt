@@ -41,7 +41,6 @@ use Rattle.ckc_build_values.specs.Names.{count_declared, count_of_static, limits
 use Rattle.ckc_build_elaborate.specs.Objects.{run_in, object_elaborated, objects_elaborated}
 use Rattle.ckc_blame_sound.specs.Settings.{Setting, IsFunction, frame_of_text, setting_of}
 use Rattle.ckc_blame_sound.specs.JudgedTexts.{IsJudged, globals_in}
-use Rattle.ckc_blame_sound.specs.Numbered.{AreLocals}
 use Rattle.ckc_blame_sound.proofs.Bounded.{is_bounded}
 use Rattle.ckc_blame_sound.proofs.Frames.{variables_moved}
 use Rattle.ckc_blame_sound.proofs.Functions.{tree_named, numbered}
@@ -192,13 +191,14 @@ module _ (p : Typed) (j : IsJudged p) where
   abbrev IsLocalName : Variable → Type 0
   IsLocalName v = (n : ℕ) × (v.name ≡ name.Local n)
 
-  locals_named : (ds : List NotedDecl) (n : ℕ) → AreLocals n (names_declared ds) → All IsLocalName (variables_declared ds)
-  locals_named [] n h = All-nil IsLocalName
-  locals_named (d ∷ ds) n h = All-cons IsLocalName (variable_declared d) (variables_declared ds) (n, h.0) (locals_named ds (n + 1) h.1)
+  locals_named : (ks : List ℕ) (ds : List NotedDecl) → names_declared ds ≡ map name.Local ks → All IsLocalName (variables_declared ds)
+  locals_named ks [] h = All-nil IsLocalName
+  locals_named [] (d ∷ ds) h = absurd cc
+  locals_named (k ∷ ks) (d ∷ ds) h = All-cons IsLocalName (variable_declared d) (variables_declared ds) (k, cc) (locals_named ks ds cc)
 
   among : (h : NotedHead) (body : NotedStmt) → Contains p.tree.items (item.Function h body) → (v : Variable) → Contains (variables_of h body) v → IsLocalName v
   among h body c v there =
-      All-contains IsLocalName (variables_declared (all_of h body)) v (locals_named (all_of h body) 0 (numbered p h body j c))
+      All-contains IsLocalName (variables_declared (all_of h body)) v (locals_named (numbered p h body j c).0 (all_of h body) (numbered p h body j c).1)
       (Contains-permutation (variables_of h body) (variables_declared (all_of h body)) v (IsPermutation-sym (variables_declared (all_of h body)) (variables_of h body) (variables_moved h body)) there)
 
   no_variable : (h : NotedHead) (body : NotedStmt) (k : ℕ) → Contains p.tree.items (item.Function h body) → variable_named (variables_of h body) (name.Static k) ≡ None

@@ -1,11 +1,11 @@
 -- The body of each function stands in the scope of its parameters.
-use Rattle.std.proofs.Common.{◌≡◌, ⊎_elim, refl, sym, ap, subst, ◌∙◌, ℕ, suc, ◌+◌, Bool, true, false, List, [], ◌∷◌, ◌++◌, map, length, arith}
-use Rattle.std.specs.Prelude.{◌<◌, ◌≤◌, ◌&&◌, ◌||◌, All, Option, None, Some, slice_get}
-use Rattle.std.specs.List.{list_all, list_any, flat_map, Contains}
+use Rattle.std.proofs.Common.{◌≡◌, ⊎_elim, refl, sym, ap, subst, ◌∙◌, ℕ, suc, ◌+◌, Bool, true, false, List, [], ◌∷◌, ◌++◌, map, length, length-append, append-nil, append_assoc, eqb, arith}
+use Rattle.std.specs.Prelude.{◌<◌, ◌≤◌, ◌&&◌, ◌||◌, All, Option, None, Some}
+use Rattle.std.specs.List.{list_all, list_any, flat_map, Contains, IsDistinct}
 use Rattle.std.specs.Option.{option_map}
 use Rattle.std.proofs.lemmas.Bool.{eqb-true}
-use Rattle.std.proofs.lemmas.List.Elements.{All-nil, All-cons, All-contains, Contains-append_cases, Contains-append_left, Contains-append_right, at_from_Contains}
-use Rattle.std.proofs.lemmas.Option.{slice_get-map, slice_get_read}
+use Rattle.std.proofs.lemmas.List.Elements.{All-nil, All-cons, All-head, All-tail, All-contains, Contains-append_cases, Contains-append_left, Contains-append_right}
+use Rattle.std.proofs.lemmas.List.{length-map}
 use Rattle.ckc_syntax.specs.declared.tree.Name.{Name}
 use Rattle.ckc_syntax.specs.declared.tree.Name.TheVariants as name
 use Rattle.ckc_syntax.specs.declared.tree.Item.TheVariants as item
@@ -15,6 +15,7 @@ use Rattle.ckc_typed.specs.Trees.{NotedDecl, NotedHead, NotedItem, NotedStmt}
 use Rattle.ckc_typed_welltyped.specs.Noteless.{bare_limits, bare_init, bare_decl, bare_head, bare_item}
 use Rattle.ckc_typed_fit.specs.Tests as tests
 use Rattle.ckc_typed_fit.specs.Tests.{Tests, type_passes, bounds_pass, init_passes, decl_passes, decls_pass, head_passes, item_passes, items_pass}
+use Rattle.ckc_typed_fit.proofs.EachOnce.{once, all_below}
 use Rattle.ckc_typed_fit.proofs.Found.{names_visible}
 use Rattle.ckc_blame_sound.specs.ckc_bounds_known.proofs.Reaching.{and_cases}
 use Rattle.ckc_blame_sound.specs.ckc_bounds_points.specs.declared.frame.Frame.{Frame}
@@ -26,15 +27,15 @@ use Rattle.ckc_blame_sound.specs.ckc_bounds.specs.Declarations.{local_made, type
 use Rattle.ckc_blame_sound.specs.ckc_bounds.specs.Frames.{all_of, name_seen, first_fresh, nameless, function_frame}
 use Rattle.ckc_blame_sound.specs.Settings.{Setting}
 use Rattle.ckc_blame_sound.specs.JudgedTexts.{IsJudged}
-use Rattle.ckc_blame_sound.specs.Numbered.{AreLocals}
+use Rattle.ckc_blame_sound.specs.Numbered.{AreLocals, AreAllLocals}
 use Rattle.ckc_blame_sound.proofs.Functions.{tree_named, all_made}
 use Rattle.ckc_blame_sound.proofs.Locals.{names_declared}
-use Rattle.ckc_blame_declared.proofs.Locals.{local_is, name_at, from_zero}
-use Rattle.ckc_blame_declared.proofs.Parameters.{all_at}
-use Rattle.ckc_blame_walk.specs.Scopes.{tests_of, items_of, scope_of, HasLocal, IsScope, HasOwnBounds, AreNext, IsScoped}
+use Rattle.ckc_blame_sound.proofs.ByNumber.{all_at, unlike_all}
+use Rattle.ckc_blame_declared.proofs.Locals.{local_is}
+use Rattle.ckc_blame_walk.specs.Scopes.{tests_of, items_of, scope_of, HasLocal, IsScope, HasOwnBounds, AreNew, AreNext, IsScoped, with_declared}
 use Rattle.ckc_blame_walk.proofs.Bounds.{declared_over}
 use Rattle.ckc_blame_walk.proofs.Elements.{no_element, one_element, local_number, number_same}
-use Rattle.ckc_blame_walk.proofs.Standing.{front_locals, next_back}
+use Rattle.ckc_blame_walk.proofs.Standing.{next_back}
 
 -- ---- lists
 
@@ -42,21 +43,31 @@ all_true : {A : Type 0} (p : A → Bool) (xs : List A) → list_all p xs ≡ tru
 all_true p [] h = All-nil (λ x. p x ≡ true)
 all_true p (x ∷ xs) h = let b = and_cases (p x) (list_all p xs) h in All-cons (λ x. p x ≡ true) x xs b.0 (all_true p xs b.1)
 
--- ---- what is declared, by its number
+-- ---- what is declared is new
 
-module _ (ds : List NotedDecl) (numbers : AreLocals 0 (names_declared ds)) where
-  declared_at : (d : NotedDecl) (k : ℕ) → Contains ds d → d.name ≡ name.Local k → slice_get ds k ≡ Some d
-  declared_at d k c named =
-      let at = at_from_Contains ds d c in
-      let there : slice_get ds at.0 ≡ Some d = slice_get_read ds (length ds) at.0 d refl at.1 (sym (at.2 d)) in
-      let same : d.name ≡ name.Local (0 + at.0) =
-      name_at 0 (names_declared ds) at.0 d.name numbers (slice_get-map (λ (x : NotedDecl). x.name) ds at.0 ∙ ap (option_map (λ (x : NotedDecl). x.name)) there) in
-      let number : at.0 ≡ k = sym (from_zero at.0) ∙ local_number (0 + at.0) k (sym same ∙ named) in
-      subst (λ n. slice_get ds n ≡ Some d) number there
+new_by : (count : ℕ) (ks : List ℕ) (past : List ℕ) (ds : List NotedDecl) → names_declared ds ≡ map name.Local ks → IsDistinct eqb ks → All (λ k. k < count) ks
+    → ((k : ℕ) → Contains ks k → Contains past k → ⊥) → AreNew count past ds
+unfolding IsDistinct
+new_by count ks past [] is h below apart = tt
+new_by count [] past (d ∷ ds) is h below apart = absurd cc
+new_by count (k ∷ ks) past (d ∷ ds) is h below apart =
+    let first : d.name ≡ name.Local k = cc in
+    let rest : names_declared ds ≡ map name.Local ks = cc in (
+      (k, first, All-head (λ k. k < count) k ks below, apart k (0, omega arith, refl)),
+      new_by count ks (past ++ name_seen d) ds rest h.1 (All-tail (λ k. k < count) k ks below)
+          (λ j c b. ⊎_elim (λ e. apart j (Contains-append_right (k ∷ []) ks j c) e)
+          (λ e. unlike_all ks k h.0 (subst (Contains ks) (sym (one_element k j (subst (λ n. Contains (local_in n) j) first e))) c))
+          (Contains-append_cases past (name_seen d) j b)),
+    )
+
+all_new : (ds : List NotedDecl) → AreAllLocals (names_declared ds) → AreNew (length ds) [] ds
+all_new ds numbers =
+    let long : length numbers.0 ≡ length ds = sym (length-map numbers.0 name.Local) ∙ ap length (sym numbers.1) ∙ length-map ds (λ (d : NotedDecl). d.name) in
+    new_by (length ds) numbers.0 [] ds numbers.1 (once numbers.0 numbers.2) (subst (λ n. All (λ k. k < n) numbers.0) long (all_below numbers.0 numbers.2)) (λ k c b. no_element k b)
 
 -- ---- the bounds of locals
 
-module _ (s : Setting) (frame : Frame) (h : NotedHead) (body : NotedStmt) (same : s.frame ≡ function_frame frame h body) (numbers : AreLocals 0 (names_declared (all_of h body))) where
+module _ (s : Setting) (frame : Frame) (h : NotedHead) (body : NotedStmt) (same : s.frame ≡ function_frame frame h body) (numbers : AreAllLocals (names_declared (all_of h body))) where
   abbrev ds : List NotedDecl
   ds = all_of h body
 
@@ -66,7 +77,7 @@ module _ (s : Setting) (frame : Frame) (h : NotedHead) (body : NotedStmt) (same 
     where
       declared : (l : Local) → slice_get (declared_in frame ds) k ≡ Some l → in_bounds j l.bounds ≡ true → HasLocal visible j
       declared l e g =
-          let made : slice_get (declared_in frame ds) k ≡ Some (local_made (types_in frame ds) true k d) = all_at (types_in frame ds) true ds k d (declared_at ds numbers d k c named) in
+          let made : slice_get (declared_in frame ds) k ≡ Some (local_made (types_in frame ds) true k d) = all_at (types_in frame ds) true ds k d numbers c named in
           let is : l ≡ local_made (types_in frame ds) true k d = same_local l (local_made (types_in frame ds) true k d) (sym e ∙ made) in
           declared_over (items_of s) visible (types_in frame ds) k there _ d.length d.bounds passes j (subst (λ (x : Local). in_bounds j x.bounds ≡ true) is g)
         where
@@ -112,6 +123,11 @@ below_all (d ∷ ds) n h k c =
     first : n ≡ k → k < n + suc (length ds)
     first e = omega (arith, e)
 
+-- the numbers that are declared are those that are seen
+declared_seen : (past : List ℕ) (ds : List NotedDecl) → with_declared past ds ≡ past ++ flat_map name_seen ds
+declared_seen past [] = sym (append-nil past)
+declared_seen past (d ∷ ds) = declared_seen (past ++ name_seen d) ds ∙ append_assoc past (name_seen d) (flat_map name_seen ds)
+
 -- what declares a local that is in scope
 record Declares (ds : List NotedDecl) (k : ℕ) : Type 0 where
   pub decl : NotedDecl
@@ -155,7 +171,7 @@ names_bare (d ∷ ds) = ap (λ ns. d.name ∷ ns) (names_bare ds)
 -- ---- a function
 
 module _ (p : Typed) (j : IsJudged p) (s : Setting) (frame : Frame) (h : NotedHead) (body : NotedStmt) (there : Contains j.typed.tree.items (item.Function h body)) (text : s.text ≡ p)
-    (same : s.frame ≡ function_frame frame h body) (many : length s.variables ≡ first_fresh h body) (numbers : AreLocals 0 (names_declared (all_of h body))) where
+    (same : s.frame ≡ function_frame frame h body) (many : length s.variables ≡ first_fresh h body) (params : AreLocals 0 (names_declared h.params)) (numbers : AreAllLocals (names_declared (all_of h body))) where
   abbrev t : Tests
   t = tests_of (items_of s)
 
@@ -193,36 +209,35 @@ module _ (p : Typed) (j : IsJudged p) (s : Setting) (frame : Frame) (h : NotedHe
       let i = init_passes t ns (bare_init d.init) in
       subst (λ ms. bounds_pass t ms (option_map bare_limits d.bounds) ≡ true) (names_bare h.params) ((and_cases b i (and_cases (type_passes t d.ctype) (b && i) all).1).0)
 
-  param_numbers : AreLocals 0 visible
-  param_numbers = front_locals s h.params (path body).declared 0 numbers
-
   zero_first : (n : ℕ) → 0 + n ≡ n
   zero_first n = omega arith
 
   below_params : (k : ℕ) → Contains (flat_map name_seen h.params) k → k < length h.params
-  below_params k c = subst (λ n. k < n) (zero_first (length h.params)) (below_all h.params 0 param_numbers k c)
+  below_params k c = subst (λ n. k < n) (zero_first (length h.params)) (below_all h.params 0 params k c)
 
-  params_scope : IsScope s visible (length h.params) (flat_map name_seen h.params)
+  params_few : length h.params ≤ length s.variables
+  params_few = let l : length (all_of h body) ≡ length h.params + length (path body).declared = length-append h.params (path body).declared in let m : length s.variables ≡ length (all_of h body) = many in omega (arith, l, m)
+
+  params_scope : IsScope s visible (with_declared [] h.params) (flat_map name_seen h.params)
   params_scope = record {
     sees = sees_names h.params;
-    below = below_params;
-    bounds = λ i k c l. by i k c l (in_bounds_of k (local_at s.frame i)) refl;
+    few = λ k c. (let l = below_params k c in let m = params_few in omega (arith, l, m));
+    declared = λ k c. subst (λ ks. Contains ks k) (sym (declared_seen [] h.params)) c;
+    bounds = λ i k c l. by i k c (λ b. l (subst (λ ks. Contains ks k) (sym (declared_seen [] h.params)) b)) (in_bounds_of k (local_at s.frame i)) refl;
   }
     where
-      by : (i k : ℕ) → Contains (flat_map name_seen h.params) i → length h.params ≤ k → (b : Bool) → in_bounds_of k (local_at s.frame i) ≡ b → in_bounds_of k (local_at s.frame i) ≡ false
+      by : (i k : ℕ) → Contains (flat_map name_seen h.params) i → (Contains (flat_map name_seen h.params) k → ⊥) → (b : Bool) → in_bounds_of k (local_at s.frame i) ≡ b → in_bounds_of k (local_at s.frame i) ≡ false
       by i k c l false e = e
       by i k c l true e =
-          let d : Declares h.params i = declares h.params 0 param_numbers i c in
+          let d : Declares h.params i = declares h.params 0 params i c in
           let found : HasLocal visible k =
           own_bounds s frame h body same numbers d.decl (Contains-append_left h.params (path body).declared d.decl d.there) i k visible d.named
           (any_named visible d.decl.name i (contains_name h.params d.decl d.there) d.named) (param_bounds d.decl d.there) e in
-          let less = below_params k (sees_names h.params k found) in
-          absurd (omega (arith, less, l))
+          absurd (l (sees_names h.params k found))
 
-  all_next : AreNext s 0 (all_of h body)
+  all_next : AreNext s [] (all_of h body)
   all_next = record {
-    numbers = numbers;
-    few = let e : 0 + length (all_of h body) ≡ length s.variables = zero_first (length (all_of h body)) ∙ sym many in omega (arith, e);
+    numbers = subst (λ n. AreNew n [] (all_of h body)) (sym many) (all_new (all_of h body) numbers);
     own = own_bounds s frame h body same numbers;
   }
 
@@ -230,8 +245,8 @@ module _ (p : Typed) (j : IsJudged p) (s : Setting) (frame : Frame) (h : NotedHe
   pub body_scoped : IsScoped s body (flat_map name_seen h.params)
   body_scoped = record {
     visible = visible;
-    next = length h.params;
+    past = with_declared [] h.params;
     scope = params_scope;
     passes = body_passes;
-    declares = subst (λ n. AreNext s n (path body).declared) (zero_first (length h.params)) (next_back s h.params (path body).declared 0 all_next);
+    declares = next_back s h.params (path body).declared [] all_next;
   }

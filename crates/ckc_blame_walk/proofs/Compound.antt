@@ -40,7 +40,7 @@ use Rattle.ckc_blame_walk.proofs.Rooms.{Grows, grows_none, grows_through, room_a
 use Rattle.ckc_blame_walk.proofs.Literals.{part_if, strings_if, if_strings}
 use Rattle.ckc_blame_walk.proofs.Codes.{goes_nowhere, goes_through, IsCode, closed_code}
 use Rattle.ckc_blame_walk.proofs.Exits.{may_first, may_second, may_adding}
-use Rattle.ckc_blame_walk.specs.Scopes.{tests_of, items_of}
+use Rattle.ckc_blame_walk.specs.Scopes.{tests_of, items_of, with_declared}
 use Rattle.ckc_blame_walk.proofs.Standing.{Scope, Fits, Stands, Leads, leads_quiet, next_front, next_back, leads_both}
 use Rattle.ckc_blame_walk.proofs.Steps.{test_stands}
 use Rattle.ckc_typed_fit.specs.Tests.{Walked, act_walked, expr_passes, left_by_part, part_passes}
@@ -147,8 +147,8 @@ module _ (s : Setting) (Claimed : Type 0) where
   is_false true e = absurd (cc)
   is_false false e = refl
 
-  same_fits : (v : Walked) (path : Path) (visible : List Name) (next : ℕ) → Fits s (own_if (Some v) (Some path)) visible next → Fits s (own_of v path) visible next
-  same_fits v path visible next f = record { passes = f.passes; declares = f.declares }
+  same_fits : (v : Walked) (path : Path) (visible : List Name) (past : List ℕ) → Fits s (own_if (Some v) (Some path)) visible past → Fits s (own_of v path) visible past
+  same_fits v path visible past f = record { passes = f.passes; declares = f.declares }
 
   pub whole_some : (path : Path) (nest : Nesting) (v : Walked) → Whole path nest v → WholeIf (Some path) (Some nest) (Some v)
   whole_some path nest v w = record {
@@ -160,9 +160,9 @@ module _ (s : Setting) (Claimed : Type 0) where
           same = λ e. n.same (is_false nest.declares (and_cases nest.fine (not nest.declares) e).1);
           onward = n.onward;
           stays = n.stays;
-          leads = λ visible next f. n.leads visible next (same_fits v path visible next f);
+          leads = λ visible past f. n.leads visible past (same_fits v path visible past f);
           grows = n.grows;
-          code = λ st. n.code (record { visible = st.visible; next = st.next; scope = st.scope; fits = same_fits v path st.visible st.next st.fits });
+          code = λ st. n.code (record { visible = st.visible; past = st.past; scope = st.scope; fits = same_fits v path st.visible st.past st.fits });
         }));
     plain = w.plain;
   }
@@ -208,19 +208,19 @@ module _ (s : Setting) (Claimed : Type 0) where
     abbrev if_own : Scope
     if_own = record { walked = act_walked (tests_of (items_of s)) (Act-F.If (bare_expr e) walk walk2); declared = path.declared ++ declared_if path2 }
 
-    record IfFits (visible : List Name) (next : ℕ) : Type 0 where
+    record IfFits (visible : List Name) (past : List ℕ) : Type 0 where
       pub test : expr_passes (tests_of (items_of s)) visible (bare_expr e) ≡ true
-      pub first : Fits s one_own visible next
-      pub second : Fits s two_own (visible ++ walk.leaves) (next + length path.declared)
+      pub first : Fits s one_own visible past
+      pub second : Fits s two_own (visible ++ walk.leaves) (with_declared past path.declared)
 
-    if_fits : (visible : List Name) (next : ℕ) → Fits s if_own visible next → IfFits visible next
-    if_fits visible next f =
+    if_fits : (visible : List Name) (past : List ℕ) → Fits s if_own visible past → IfFits visible past
+    if_fits visible past f =
         let p = and_cases (expr_passes (tests_of (items_of s)) visible (bare_expr e)) (walk.passes visible && part_passes walk2 (visible ++ walk.leaves)) f.passes in
         let q = and_cases (walk.passes visible) (part_passes walk2 (visible ++ walk.leaves)) p.1 in
         record {
           test = p.0;
-          first = record { passes = q.0; declares = next_front s path.declared (declared_if path2) next f.declares };
-          second = record { passes = q.1; declares = next_back s path.declared (declared_if path2) next f.declares };
+          first = record { passes = q.0; declares = next_front s path.declared (declared_if path2) past f.declares };
+          second = record { passes = q.1; declares = next_back s path.declared (declared_if path2) past f.declares };
         }
 
     module _ (v : NotedExpr × Here) (is : value_judged s.frame e here ≡ Ok v) where
@@ -240,7 +240,7 @@ module _ (s : Setting) (Claimed : Type 0) where
       if_condition : (k : ℕ) → Stands s if_own here.seen → IsOn s Claimed here → AreNamed s.frame here.at.facts → HasRoom s here.next (nodes_of v.0) → AreStrings s k (strings_of_expr v.0) → IsCondition s note.mode here (expr_elaborated s.text s.variables k v.0) yes no
       if_condition k st on named room strings = record {
         inside = inside on.claimed;
-        scope = test_stands s (Some e) st.visible st.next here.seen if_own.declared st.scope st.fits.declares (if_fits st.visible st.next st.fits).test;
+        scope = test_stands s (Some e) st.visible st.past here.seen if_own.declared st.scope st.fits.declares (if_fits st.visible st.past st.fits).test;
         fresh = on.fresh;
         counting = on.counts;
         named = named;
@@ -274,17 +274,17 @@ module _ (s : Setting) (Claimed : Type 0) where
           first_leads = subst (λ l. Leads s one_own l q.1.seen) moved.seen first.leads
 
           if_leads : Leads s if_own here.seen there.seen
-          if_leads visible next f w =
-              let g = if_fits visible next f in
-              leads_both s one_own two_own here.seen q.1.seen r.1.seen first_leads second.leads visible next g.first g.second w
+          if_leads visible past f w =
+              let g = if_fits visible past f in
+              leads_both s one_own two_own here.seen q.1.seen r.1.seen first_leads second.leads visible past g.first g.second w
 
           one_stands : Stands s if_own here.seen → Stands s one_own yes.seen
-          one_stands st = subst (Stands s one_own) (sym moved.seen) (record { visible = st.visible; next = st.next; scope = st.scope; fits = (if_fits st.visible st.next st.fits).first })
+          one_stands st = subst (Stands s one_own) (sym moved.seen) (record { visible = st.visible; past = st.past; scope = st.scope; fits = (if_fits st.visible st.past st.fits).first })
 
           two_stands : Stands s if_own here.seen → Stands s two_own other.seen
           two_stands st =
-              let g = if_fits st.visible st.next st.fits in
-              record { visible = st.visible ++ walk.leaves; next = st.next + length path.declared; scope = first_leads st.visible st.next g.first st.scope; fits = g.second }
+              let g = if_fits st.visible st.past st.fits in
+              record { visible = st.visible ++ walk.leaves; past = with_declared st.past path.declared; scope = first_leads st.visible st.past g.first st.scope; fits = g.second }
 
           if_stays : Stays s.frame (ks ++ js) here.at (joined q.1.at r.1.at)
           if_stays =

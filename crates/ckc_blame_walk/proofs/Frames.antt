@@ -1,10 +1,12 @@
 -- A judged function has the frame of the function before it was judged, so its code is judged from its first point.
-use Rattle.std.proofs.Common.{◌≡◌, refl, sym, ap, subst, ◌∙◌, ℕ, suc, ◌+◌, Bool, true, false, List, [], ◌∷◌, ◌++◌, map, length, arith}
-use Rattle.std.specs.Prelude.{◌<◌, ◌≤◌, ◌-◌, ◌^◌, if◌then◌else◌, Ok, Err}
+use Rattle.std.proofs.Common.{◌≡◌, refl, sym, ap, subst, ◌∙◌, ℕ, suc, ◌+◌, Bool, true, false, List, [], ◌∷◌, ◌++◌, map, length, replicate, arith}
+use Rattle.std.specs.Prelude.{◌<◌, ◌≤◌, ◌-◌, ◌^◌, if◌then◌else◌, slice_set, Ok, Err}
 use Rattle.std.proofs.lemmas.List.{length-map}
 use Rattle.std.proofs.lemmas.List.Sorted.{length_permutation}
 use Rattle.ckc_base.specs.Outcomes.{Outcome}
 use Rattle.ckc_base.proofs.Outcomes.{made_of}
+use Rattle.ckc_syntax.specs.declared.tree.Name.{Name}
+use Rattle.ckc_syntax.specs.declared.tree.Name.TheVariants as name
 use Rattle.ckc_typed.specs.declared.typed.Typed.{Typed}
 use Rattle.ckc_typed.specs.Environment.{variable_declared, variables_of}
 use Rattle.ckc_typed.specs.Statics.{strings_of_head, strings_of_stmt}
@@ -13,7 +15,7 @@ use Rattle.ckc_blame_sound.specs.ckc_bounds_points.specs.declared.frame.Local.{L
 use Rattle.ckc_blame_sound.specs.ckc_bounds_points.specs.declared.frame.HeadBounds.{HeadBounds}
 use Rattle.ckc_blame_sound.specs.ckc_bounds_points.specs.declared.frame.Frame.{Frame}
 use Rattle.ckc_blame_sound.specs.ckc_bounds_statements.specs.Paths.{Here, path}
-use Rattle.ckc_blame_sound.specs.ckc_bounds.specs.Declarations.{local_made, with_all, with_locals, types_in, declared_in, head_bounds}
+use Rattle.ckc_blame_sound.specs.ckc_bounds.specs.Declarations.{nameless, local_made, with_local, with_all, all_made, with_locals, types_in, declared_in, head_bounds}
 use Rattle.ckc_blame_sound.specs.ckc_bounds.specs.Frames.{name_seen, all_of, begin_in, begin_of, needed_from, fresh_needed, with_nameless, locals_frame, first_fresh, function_frame}
 use Rattle.ckc_blame_sound.specs.ckc_bounds.specs.Texts.{body_judged}
 use Rattle.ckc_source.specs.Code.{Code, Function}
@@ -40,8 +42,8 @@ use Rattle.ckc_blame_walk.proofs.Rooms.{statement_nodes}
 use Rattle.ckc_blame_walk.proofs.Functions.{function_goes}
 use Rattle.ckc_blame_walk.specs.Scopes.{IsScoped}
 use Rattle.ckc_blame_walk.proofs.Bodies.{body_scoped}
-use Rattle.ckc_blame_sound.specs.Numbered.{AreLocals}
-use Rattle.ckc_blame_sound.proofs.Functions.{numbered}
+use Rattle.ckc_blame_sound.specs.Numbered.{AreLocals, AreAllLocals}
+use Rattle.ckc_blame_sound.proofs.Functions.{params_numbered, numbered}
 use Rattle.std.specs.List.{flat_map}
 
 -- ---- a frame reads no initialiser
@@ -50,21 +52,34 @@ local_bare : (frame : Frame) (b : Bool) (k : ℕ) (d : NotedDecl) → local_made
 local_bare frame true k d = refl
 local_bare frame false k d = refl
 
-all_bare : (frame : Frame) (b : Bool) (ls : List Local) (ds : List NotedDecl) → with_all frame b ls (map bare ds) ≡ with_all frame b ls ds
-all_bare frame b ls [] = refl
-all_bare frame b ls (d ∷ ds) =
-    ap (λ l. with_all frame b (ls ++ l ∷ []) (map bare ds)) (local_bare frame b (length ls) d) ∙ all_bare frame b (ls ++ local_made frame b (length ls) d ∷ []) ds
+one_bare : (frame : Frame) (b : Bool) (ls : List Local) (n : Name) (d : NotedDecl) → with_local frame b ls n (bare d) ≡ with_local frame b ls n d
+one_bare frame b ls (name.Local k) d = ap (slice_set ls k) (local_bare frame b k d)
+one_bare frame b ls (name.Static k) d = refl
+one_bare frame b ls (name.Function k) d = refl
+one_bare frame b ls (name.Tag k) d = refl
+one_bare frame b ls (name.Member k) d = refl
+one_bare frame b ls name.Getchar d = refl
+one_bare frame b ls name.Putchar d = refl
 
-all_same : (frame : Frame) (b : Bool) (ds es : List NotedDecl) → map bare ds ≡ map bare es → with_all frame b [] ds ≡ with_all frame b [] es
-all_same frame b ds es e = sym (all_bare frame b [] ds) ∙ ap (with_all frame b []) e ∙ all_bare frame b [] es
-
-declared_same : (frame : Frame) (ds es : List NotedDecl) → map bare ds ≡ map bare es → declared_in frame ds ≡ declared_in frame es
-declared_same frame ds es e =
-    ap (λ ls. with_all (with_locals frame ls) true [] ds) (all_same frame false ds es e) ∙ all_same (types_in frame es) true ds es e
+each_bare : (frame : Frame) (b : Bool) (ls : List Local) (ds : List NotedDecl) → with_all frame b ls (map bare ds) ≡ with_all frame b ls ds
+each_bare frame b ls [] = refl
+each_bare frame b ls (d ∷ ds) =
+    ap (λ xs. with_all frame b xs (map bare ds)) (one_bare frame b ls d.name d) ∙ each_bare frame b (with_local frame b ls d.name d) ds
 
 as_many : (ds : List NotedDecl) → length (map bare ds) ≡ length ds
 as_many [] = refl
 as_many (d ∷ ds) = ap suc (as_many ds)
+
+all_bare : (frame : Frame) (b : Bool) (ds : List NotedDecl) → all_made frame b (map bare ds) ≡ all_made frame b ds
+all_bare frame b ds =
+    ap (λ n. with_all frame b (replicate n nameless) (map bare ds)) (as_many ds) ∙ each_bare frame b (replicate (length ds) nameless) ds
+
+all_same : (frame : Frame) (b : Bool) (ds es : List NotedDecl) → map bare ds ≡ map bare es → all_made frame b ds ≡ all_made frame b es
+all_same frame b ds es e = sym (all_bare frame b ds) ∙ ap (all_made frame b) e ∙ all_bare frame b es
+
+declared_same : (frame : Frame) (ds es : List NotedDecl) → map bare ds ≡ map bare es → declared_in frame ds ≡ declared_in frame es
+declared_same frame ds es e =
+    ap (λ ls. all_made (with_locals frame ls) true ds) (all_same frame false ds es e) ∙ all_same (types_in frame es) true ds es e
 
 needed_same : (n : ℕ) (o q : Outcome (NotedStmt × Here)) → Agree SameHere o q → needed_from n o ≡ needed_from n q
 needed_same n (Ok p) (Ok q) h = ap (λ (x : Here). x.next - n) h.0
@@ -118,16 +133,16 @@ variables_counted h body =
     let ds = all_of h body in
     sym (length-map ds (λ (d : NotedDecl). variable_declared d)) ∙ sym (length_permutation (variables_declared ds) (variables_of h body) (variables_moved h body))
 
-setting_inside : (p : Typed) (j : IsJudged p) (h : NotedHead) (body : NotedStmt) (b : IsBodyJudged (globals_in p) j.typed h body) → AreLocals 0 (names_declared (all_of h b.before)) → IsInBody (setting_of p h body) b.before
+setting_inside : (p : Typed) (j : IsJudged p) (h : NotedHead) (body : NotedStmt) (b : IsBodyJudged (globals_in p) j.typed h body) → AreLocals 0 (names_declared h.params) → AreAllLocals (names_declared (all_of h b.before)) → IsInBody (setting_of p h body) b.before
 unfolding setting_of
-setting_inside p j h body b numbers = record {
+setting_inside p j h body b params numbers = record {
   mode = b.mode;
   looped = false;
   typed = b.fits;
   known = declared_known (globals_in p) j.typed h body b;
   words = λ w. w j.typed h b.before j.has_bounds b.there;
   safe = λ w. w j.typed h b.before j.has_bounds b.there;
-  late = λ d k there named. subst (λ n. n ≤ k) (declared_counted (frame_of_text p) h.params) (locals_come_after h.params (path b.before).declared d k numbers there named);
+  late = λ d k there named. subst (λ n. n ≤ k) (declared_counted (frame_of_text p) h.params) (locals_come_after h.params (path b.before).declared d k params numbers there named);
   sized = λ w. w j.typed h b.before j.has_types.typed j.has_bounds b.there;
   given = λ g. g j.typed h b.before j.has_bounds b.there;
 }
@@ -167,12 +182,13 @@ text_goes p s f j fine is =
     let room : HasRoom s (first_fresh is.head b.before) (nodes_in b.before) = body_room p s f is b.before firsts judged in
     let frame_is : s.frame ≡ function_frame (frame_of_text p) is.head b.before =
     ap (λ (x : Setting). x.frame) is.judged ∙ frame_same (frame_of_text p) is.head is.body b.before twin in
-    let numbers : AreLocals 0 (names_declared (all_of is.head b.before)) =
-    subst (AreLocals 0) (names_same (all_of is.head is.body) (all_of is.head b.before) (declared_bare (frame_of_text p) is.head is.body b.before twin)) (numbered p is.head is.body j is.there) in
-    let inside : IsInBody s b.before = subst (λ x. IsInBody x b.before) (sym is.judged) (setting_inside p j is.head is.body b numbers) in
+    let params : AreLocals 0 (names_declared is.head.params) = params_numbered p is.head is.body j is.there in
+    let numbers : AreAllLocals (names_declared (all_of is.head b.before)) =
+    subst AreAllLocals (names_same (all_of is.head is.body) (all_of is.head b.before) (declared_bare (frame_of_text p) is.head is.body b.before twin)) (numbered p is.head is.body j is.there) in
+    let inside : IsInBody s b.before = subst (λ x. IsInBody x b.before) (sym is.judged) (setting_inside p j is.head is.body b params numbers) in
     let many : length s.variables ≡ first_fresh is.head b.before = ap (λ (x : Setting). length x.variables) is.judged ∙ sym (variables_counted is.head is.body) ∙ firsts in
     let text : s.text ≡ p = ap (λ (x : Setting). x.text) is.judged in
-    let scoped : IsScoped s b.before (flat_map name_seen is.head.params) = body_scoped p j s (frame_of_text p) is.head b.before b.there text frame_is many numbers in
+    let scoped : IsScoped s b.before (flat_map name_seen is.head.params) = body_scoped p j s (frame_of_text p) is.head b.before b.there text frame_is many params numbers in
     let head_is : s.head ≡ head_bounds (frame_of_text p) is.head = ap (λ (x : Setting). x.head) is.judged in
     let k : ℕ = is.literals + literals_of_head is.head in
     let code : alone (stmt_elaborated s.text s.variables s.result k is.body) ≡ f.body =

@@ -37,8 +37,8 @@ use Rattle.ckc_blame_walk.proofs.Literals.{part_if, strings_if, while_strings, f
 use Rattle.ckc_blame_walk.proofs.Codes.{goes_nowhere, goes_through, IsCode, both_code, closed_code}
 use Rattle.ckc_blame_walk.proofs.Exits.{known_before, left_back, exit_front, exit_after, exit_end, loop_left, may_not}
 use Rattle.ckc_blame_walk.proofs.Compound.{Extends, extends_none, extends_through, extended_has, extended_front, same_has, assigned_if, breaks_if, continues_if, fine_if, is_plain_if, declared_if, own_of, own_if, Next, NextIf, Whole, WholeIf, is_false, part_act, code_is}
-use Rattle.ckc_blame_walk.specs.Scopes.{tests_of, items_of, IsScope, AreNext}
-use Rattle.ckc_blame_walk.proofs.Standing.{Scope, Fits, Stands, Leads, scope_later, leads_quiet, next_front, next_back}
+use Rattle.ckc_blame_walk.specs.Scopes.{tests_of, items_of, IsScope, AreNext, with_declared}
+use Rattle.ckc_blame_walk.proofs.Standing.{Scope, Fits, Stands, Leads, scope_later, past_stays, leads_quiet, next_front, next_back}
 use Rattle.ckc_blame_walk.proofs.Steps.{test_stands}
 use Rattle.ckc_typed_fit.specs.Tests.{Walked, act_walked, expr_passes, value_passes, left_by_part, part_passes}
 use Rattle.ckc_typed_welltyped.specs.Noteless.{bare_expr}
@@ -89,11 +89,11 @@ module _ (s : Setting) (Claimed : Type 0) where
     abbrev while_own : Scope
     while_own = record { walked = act_walked (tests_of (items_of s)) (Act-F.While (bare_expr e) walk); declared = path.declared }
 
-    while_test : (visible : List Name) (next : ℕ) → Fits s while_own visible next → expr_passes (tests_of (items_of s)) visible (bare_expr e) ≡ true
-    while_test visible next f = (and_cases (expr_passes (tests_of (items_of s)) visible (bare_expr e)) (walk.passes visible) f.passes).0
+    while_test : (visible : List Name) (past : List ℕ) → Fits s while_own visible past → expr_passes (tests_of (items_of s)) visible (bare_expr e) ≡ true
+    while_test visible past f = (and_cases (expr_passes (tests_of (items_of s)) visible (bare_expr e)) (walk.passes visible) f.passes).0
 
-    while_fits : (visible : List Name) (next : ℕ) → Fits s while_own visible next → Fits s body_own visible next
-    while_fits visible next f = record {
+    while_fits : (visible : List Name) (past : List ℕ) → Fits s while_own visible past → Fits s body_own visible past
+    while_fits visible past f = record {
       passes = (and_cases (expr_passes (tests_of (items_of s)) visible (bare_expr e)) (walk.passes visible) f.passes).1;
       declares = f.declares;
     }
@@ -117,7 +117,7 @@ module _ (s : Setting) (Claimed : Type 0) where
       while_condition : (k : ℕ) → Stands s while_own here.seen → IsOn s Claimed here → AreNamed s.frame head.at.facts → HasRoom s here.next (nodes_of v.0) → AreStrings s k (strings_of_expr v.0) → IsCondition s note.mode head (expr_elaborated s.text s.variables k v.0) yes no
       while_condition k st on named room strings = record {
         inside = inside on.claimed;
-        scope = test_stands s (Some e) st.visible st.next here.seen while_own.declared st.scope st.fits.declares (while_test st.visible st.next st.fits);
+        scope = test_stands s (Some e) st.visible st.past here.seen while_own.declared st.scope st.fits.declares (while_test st.visible st.past st.fits);
         fresh = on.fresh;
         counting = on.counts;
         named = named;
@@ -151,10 +151,10 @@ module _ (s : Setting) (Claimed : Type 0) where
         seen_body = body.same (is_false s Claimed nest.declares (and_cases nest.fine (not nest.declares) branch).1)
 
         while_leads : Leads s while_own here.seen there.seen
-        while_leads visible next f w = (subst (λ l. Leads s body_own l q.1.seen) moved.seen body.leads) visible next (while_fits visible next f) w
+        while_leads visible past f w = (subst (λ l. Leads s body_own l q.1.seen) moved.seen body.leads) visible past (while_fits visible past f) w
 
         body_stands : Stands s while_own here.seen → Stands s body_own yes.seen
-        body_stands st = subst (Stands s body_own) (sym moved.seen) (record { visible = st.visible; next = st.next; scope = st.scope; fits = while_fits st.visible st.next st.fits })
+        body_stands st = subst (Stands s body_own) (sym moved.seen) (record { visible = st.visible; past = st.past; scope = st.scope; fits = while_fits st.visible st.past st.fits })
 
         few : nodes_of v.0 + nodes_in q.0 ≤ nodes_in (stated at note (act.While v.0 q.0))
         few = while_nodes at note (act.While v.0 q.0) v.0 q.0 (act.rolls-While v.0 q.0)
@@ -259,28 +259,28 @@ module _ (s : Setting) (Claimed : Type 0) where
     abbrev for_own : Scope
     for_own = record { walked = act_walked (tests_of (items_of s)) (Act-F.For init_walk (option_map bare_expr e) step_walk walk); declared = declared_if init ++ (ds ++ (path.declared ++ declared_if step)) }
 
-    record ForFits (visible : List Name) (next : ℕ) : Type 0 where
-      pub first : Fits s init_own visible next
+    record ForFits (visible : List Name) (past : List ℕ) : Type 0 where
+      pub first : Fits s init_own visible past
       pub test : value_passes (tests_of (items_of s)) (begun visible) (option_map bare_expr e) ≡ true
-      pub rest : AreNext s (next + length (declared_if init)) (ds ++ (path.declared ++ declared_if step))
-      pub body : Fits s inner_own (begun visible) (next + length (declared_if init) + length ds)
-      pub last : Fits s step_own (begun visible ++ walk.leaves) (next + length (declared_if init) + length ds + length path.declared)
+      pub rest : AreNext s (with_declared past (declared_if init)) (ds ++ (path.declared ++ declared_if step))
+      pub body : Fits s inner_own (begun visible) (with_declared (with_declared past (declared_if init)) ds)
+      pub last : Fits s step_own (begun visible ++ walk.leaves) (with_declared (with_declared (with_declared past (declared_if init)) ds) path.declared)
 
-    for_fits : (visible : List Name) (next : ℕ) → Fits s for_own visible next → ForFits visible next
-    for_fits visible next f =
+    for_fits : (visible : List Name) (past : List ℕ) → Fits s for_own visible past → ForFits visible past
+    for_fits visible past f =
         let tests = tests_of (items_of s) in
         let more = begun visible in
         let p = and_cases (part_passes init_walk visible) (value_passes tests more (option_map bare_expr e) && (walk.passes more && part_passes step_walk (more ++ walk.leaves))) f.passes in
         let q = and_cases (value_passes tests more (option_map bare_expr e)) (walk.passes more && part_passes step_walk (more ++ walk.leaves)) p.1 in
         let r = and_cases (walk.passes more) (part_passes step_walk (more ++ walk.leaves)) q.1 in
-        let rest : AreNext s (next + length (declared_if init)) (ds ++ (path.declared ++ declared_if step)) = next_back s (declared_if init) (ds ++ (path.declared ++ declared_if step)) next f.declares in
-        let inner : AreNext s (next + length (declared_if init) + length ds) (path.declared ++ declared_if step) = next_back s ds (path.declared ++ declared_if step) (next + length (declared_if init)) rest in
+        let rest : AreNext s (with_declared past (declared_if init)) (ds ++ (path.declared ++ declared_if step)) = next_back s (declared_if init) (ds ++ (path.declared ++ declared_if step)) past f.declares in
+        let inner : AreNext s (with_declared (with_declared past (declared_if init)) ds) (path.declared ++ declared_if step) = next_back s ds (path.declared ++ declared_if step) (with_declared past (declared_if init)) rest in
         record {
-          first = record { passes = p.0; declares = next_front s (declared_if init) (ds ++ (path.declared ++ declared_if step)) next f.declares };
+          first = record { passes = p.0; declares = next_front s (declared_if init) (ds ++ (path.declared ++ declared_if step)) past f.declares };
           test = q.0;
           rest = rest;
-          body = record { passes = r.0; declares = next_front s path.declared (declared_if step) (next + length (declared_if init) + length ds) inner };
-          last = record { passes = r.1; declares = next_back s path.declared (declared_if step) (next + length (declared_if init) + length ds) inner };
+          body = record { passes = r.0; declares = next_front s path.declared (declared_if step) (with_declared (with_declared past (declared_if init)) ds) inner };
+          last = record { passes = r.1; declares = next_back s path.declared (declared_if step) (with_declared (with_declared past (declared_if init)) ds) inner };
         }
 
     begins_plain : (n : Option Nesting) → begins n ≡ true → (fine_if n ≡ true) × (is_plain_if n ≡ true)
@@ -300,10 +300,10 @@ module _ (s : Setting) (Claimed : Type 0) where
       for_head = loop_head s.frame (us ++ ts) p.1
 
       first_stands : Stands s for_own here.seen → Stands s init_own here.seen
-      first_stands st = record { visible = st.visible; next = st.next; scope = st.scope; fits = (for_fits st.visible st.next st.fits).first }
+      first_stands st = record { visible = st.visible; past = st.past; scope = st.scope; fits = (for_fits st.visible st.past st.fits).first }
 
-      head_scope : (st : Stands s for_own here.seen) → IsScope s (begun st.visible) (st.next + length (declared_if init)) for_head.seen
-      head_scope st = first.leads st.visible st.next (for_fits st.visible st.next st.fits).first st.scope
+      head_scope : (st : Stands s for_own here.seen) → IsScope s (begun st.visible) (with_declared st.past (declared_if init)) for_head.seen
+      head_scope st = first.leads st.visible st.past (for_fits st.visible st.past st.fits).first st.scope
 
       module _ (v : Option NotedExpr × Here) (judged : maybe_judged s.frame e for_head ≡ Ok v) where
         for_moved : Moved for_head v.1
@@ -320,20 +320,20 @@ module _ (s : Setting) (Claimed : Type 0) where
 
         for_scope : Stands s for_own here.seen → IsTestInScope s e for_head.seen
         for_scope st =
-            let f = for_fits st.visible st.next st.fits in
-            test_stands s e (begun st.visible) (st.next + length (declared_if init)) for_head.seen (ds ++ (path.declared ++ declared_if step)) (head_scope st) f.rest f.test
+            let f = for_fits st.visible st.past st.fits in
+            test_stands s e (begun st.visible) (with_declared st.past (declared_if init)) for_head.seen (ds ++ (path.declared ++ declared_if step)) (head_scope st) f.rest f.test
 
-        yes_scope : (st : Stands s for_own here.seen) → IsScope s (begun st.visible) (st.next + length (declared_if init) + length ds) for_yes.seen
+        yes_scope : (st : Stands s for_own here.seen) → IsScope s (begun st.visible) (with_declared (with_declared st.past (declared_if init)) ds) for_yes.seen
         yes_scope st =
-            let n = st.next + length (declared_if init) in
-            subst (IsScope s (begun st.visible) (n + length ds)) (sym for_moved.seen) (scope_later s (begun st.visible) n (n + length ds) for_head.seen (omega arith) (head_scope st))
+            let n = with_declared st.past (declared_if init) in
+            subst (IsScope s (begun st.visible) (with_declared n ds)) (sym for_moved.seen) (scope_later s (begun st.visible) n (with_declared n ds) for_head.seen (past_stays s n ds) (head_scope st))
 
         inner_stands : Stands s for_own here.seen → Stands s inner_own for_yes.seen
         inner_stands st = record {
           visible = begun st.visible;
-          next = st.next + length (declared_if init) + length ds;
+          past = with_declared (with_declared st.past (declared_if init)) ds;
           scope = yes_scope st;
-          fits = (for_fits st.visible st.next st.fits).body;
+          fits = (for_fits st.visible st.past st.fits).body;
         }
 
         for_condition : (k : ℕ) → Stands s for_own here.seen → IsOn s Claimed for_head → AreNamed s.frame for_head.at.facts → HasRoom s p.1.next (nodes_of_value v.0) → AreStrings s k (strings_of_value v.0) → IsCondition s note.mode for_head (condition s.text s.variables k v.0) for_yes for_no
@@ -362,11 +362,11 @@ module _ (s : Setting) (Claimed : Type 0) where
 
           step_stands : (b : Bool) → Stands s for_own here.seen → Stands s step_own (step_at b).seen
           step_stands b st =
-              let f = for_fits st.visible st.next st.fits in
-              let n = st.next + length (declared_if init) + length ds in
+              let f = for_fits st.visible st.past st.fits in
+              let n = with_declared (with_declared st.past (declared_if init)) ds in
               subst (Stands s step_own) (sym (step_seen b)) (record {
                 visible = begun st.visible ++ walk.leaves;
-                next = n + length path.declared;
+                past = with_declared n path.declared;
                 scope = body.leads (begun st.visible) n f.body (yes_scope st);
                 fits = f.last;
               })

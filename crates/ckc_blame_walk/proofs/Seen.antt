@@ -42,7 +42,7 @@ module _ (s : Setting) (here there : Here) (step : Code → Code) (i : IsStep s 
       → IsUnnamed s here.seen k × (Contains here.seen k → ⊥) × (k < length s.variables)
   declared_unnamed d k is named =
       let new : IsNewLocal s here.seen k = i.scope.new d k (declares_itself i.before d is) named in
-      (new.unnamed, λ c. (let less = new.later k c in absurd (omega (arith, less))), new.there)
+      (new.unnamed, new.other, new.there)
 
 module _ (s : Setting) (mode : Mode) (here one other : Here) (x : Expr) (c : IsCondition s mode here x one other) where
   test_only : (e : NotedExpr) → c.before ≡ Some e → NamesOnly here.seen e

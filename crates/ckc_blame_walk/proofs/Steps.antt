@@ -146,14 +146,14 @@ module _ (s : Setting) where
   abbrev News : List ℕ → List NotedDecl → Type 0
   News seen ds = (d : NotedDecl) (k : ℕ) → Contains ds d → d.name ≡ name.Local k → IsNewLocal s seen k
 
-  one_new : (d : NotedDecl) (visible : List Name) (next : ℕ) (seen : List ℕ) → IsScope s visible next seen → AreNext s next (d ∷ []) → News seen (d ∷ [])
-  one_new d visible next seen w h e k c named =
-      let same : next ≡ k = local_number next k (sym h.numbers.0 ∙ ap (λ (x : NotedDecl). x.name) (one_element d e c) ∙ named) in
-      let few = h.few in
+  one_new : (d : NotedDecl) (visible : List Name) (past : List ℕ) (seen : List ℕ) → IsScope s visible past seen → AreNext s past (d ∷ []) → News seen (d ∷ [])
+  one_new d visible past seen w h e k c named =
+      let own = h.numbers.0 in
+      let same : own.0 ≡ k = local_number own.0 k (sym own.1 ∙ ap (λ (x : NotedDecl). x.name) (one_element d e c) ∙ named) in
       subst (IsNewLocal s seen) same (record {
-        there = omega (arith, few);
-        later = w.below;
-        unnamed = λ j b. w.bounds j next b (omega arith);
+        there = own.2;
+        other = λ b. own.3 (w.declared own.0 b);
+        unnamed = λ j b. w.bounds j own.0 b own.3;
       })
 
   nothing_new : (seen : List ℕ) (ds : List NotedDecl) → ds ≡ [] → News seen ds
@@ -163,40 +163,37 @@ module _ (s : Setting) where
   none_declared None = refl
   none_declared (Some e) = refl
 
-  layer_new : (x : Layer) → is_simple x ≡ true → HasAssignments x → (visible : List Name) (next : ℕ) (seen : List ℕ) → IsScope s visible next seen → AreNext s next (act_declared (act_paths x))
+  layer_new : (x : Layer) → is_simple x ≡ true → HasAssignments x → (visible : List Name) (past : List ℕ) (seen : List ℕ) → IsScope s visible past seen → AreNext s past (act_declared (act_paths x))
       → News seen (act_declared (act_paths x))
-  layer_new (Act-F.Local d) is a visible next seen w h = one_new d visible next seen w h
-  layer_new (Act-F.Assign e f) is a visible next seen w h = nothing_new seen [] refl
-  layer_new (Act-F.Call e) is a visible next seen w h = nothing_new seen [] refl
-  layer_new (Act-F.Return e) is a visible next seen w h = nothing_new seen _ (none_declared e)
-  layer_new (Act-F.Check e) is a visible next seen w h = nothing_new seen [] refl
-  layer_new (Act-F.Bundle ss) is a visible next seen w h = nothing_new seen _ (bundle_declares ss a)
-  layer_new (Act-F.Block m ss) is a visible next seen w h = absurd cc
-  layer_new Act-F.Empty is a visible next seen w h = absurd cc
-  layer_new (Act-F.If e u t) is a visible next seen w h = absurd cc
-  layer_new (Act-F.While e u) is a visible next seen w h = absurd cc
-  layer_new (Act-F.For u e t b) is a visible next seen w h = absurd cc
-  layer_new Act-F.Break is a visible next seen w h = absurd cc
-  layer_new Act-F.Continue is a visible next seen w h = absurd cc
-
-  all_known : (visible : List Name) (next : ℕ) (seen : List ℕ) (ds : List NotedDecl) → IsScope s visible next seen → AreNext s next ds → (k : ℕ) → Contains seen k → k + 1 ≤ length s.variables
-  all_known visible next seen ds w h k c = let b = w.below k c in let few = h.few in omega (arith, b, few)
+  layer_new (Act-F.Local d) is a visible past seen w h = one_new d visible past seen w h
+  layer_new (Act-F.Assign e f) is a visible past seen w h = nothing_new seen [] refl
+  layer_new (Act-F.Call e) is a visible past seen w h = nothing_new seen [] refl
+  layer_new (Act-F.Return e) is a visible past seen w h = nothing_new seen _ (none_declared e)
+  layer_new (Act-F.Check e) is a visible past seen w h = nothing_new seen [] refl
+  layer_new (Act-F.Bundle ss) is a visible past seen w h = nothing_new seen _ (bundle_declares ss a)
+  layer_new (Act-F.Block m ss) is a visible past seen w h = absurd cc
+  layer_new Act-F.Empty is a visible past seen w h = absurd cc
+  layer_new (Act-F.If e u t) is a visible past seen w h = absurd cc
+  layer_new (Act-F.While e u) is a visible past seen w h = absurd cc
+  layer_new (Act-F.For u e t b) is a visible past seen w h = absurd cc
+  layer_new Act-F.Break is a visible past seen w h = absurd cc
+  layer_new Act-F.Continue is a visible past seen w h = absurd cc
 
   -- A step stands in the scope of what is seen.
   pub step_stands : (st : NotedStmt) (x : Layer) → out-Act Name Note st.body ≡ x → is_simple x ≡ true → HasAssignments x → (seen : List ℕ) → Stands s (own_of_act x) seen
       → StandsInScope s st seen
   step_stands st x is simple a seen h = record {
     names = subst (Named seen) (sym (exprs_are st ∙ ap (λ y. exprs_of_act (exprs_inside y)) is)) (layer_named x simple a h.visible seen h.scope.sees h.fits.passes);
-    known = λ k c. let b = all_known h.visible h.next seen (act_declared (act_paths x)) h.scope h.fits.declares k c in omega (arith, b);
-    new = subst (News seen) (sym (declared_are st x is)) (layer_new x simple a h.visible h.next seen h.scope h.fits.declares);
+    known = h.scope.few;
+    new = subst (News seen) (sym (declared_are st x is)) (layer_new x simple a h.visible h.past seen h.scope h.fits.declares);
   }
 
   -- and so does a condition
-  pub test_stands : (e : Option NotedExpr) (visible : List Name) (next : ℕ) (seen : List ℕ) (ds : List NotedDecl) → IsScope s visible next seen → AreNext s next ds
+  pub test_stands : (e : Option NotedExpr) (visible : List Name) (past : List ℕ) (seen : List ℕ) (ds : List NotedDecl) → IsScope s visible past seen → AreNext s past ds
       → value_passes (tests_of items) visible (option_map bare_expr e) ≡ true → IsTestInScope s e seen
-  test_stands e visible next seen ds w h passes = record {
+  test_stands e visible past seen ds w h passes = record {
     names = by e passes;
-    known = λ k c. let b = all_known visible next seen ds w h k c in omega (arith, b);
+    known = w.few;
   }
     where
       by : (e : Option NotedExpr) → value_passes (tests_of items) visible (option_map bare_expr e) ≡ true → IfSome e (NamesOnly seen)
@@ -228,49 +225,50 @@ module _ (s : Setting) where
 
   -- After a declaration its local is visible too.
   pub local_leads : (d : NotedDecl) (seen : List ℕ) → Leads s (own_of_act (Act-F.Local d)) seen (seen ++ local_in d.name)
-  local_leads d seen visible next fits w =
-      subst (λ n. IsScope s (visible ++ n ∷ []) (next + 1) (seen ++ local_in n)) (sym named) (record {
-        sees = λ k h. elim (any_last (same_name (name.Local k)) visible (name.Local next) h) [
-          | inl a ↦ Contains-append_left seen (next ∷ []) k (w.sees k a)
-          | inr b ↦ subst (Contains (seen ++ next ∷ [])) (sym (same_number k next b)) (Contains-append_right seen (next ∷ []) next (itself next))
+  local_leads d seen visible past fits w =
+      subst (λ n. IsScope s (visible ++ n ∷ []) (past ++ local_in n) (seen ++ local_in n)) (sym named) (record {
+        sees = λ k h. elim (any_last (same_name (name.Local k)) visible (name.Local new) h) [
+          | inl a ↦ Contains-append_left seen (new ∷ []) k (w.sees k a)
+          | inr b ↦ subst (Contains (seen ++ new ∷ [])) (sym (same_number k new b)) (Contains-append_right seen (new ∷ []) new (itself new))
         ];
-        below = λ j c. elim (Contains-append_cases seen (next ∷ []) j c) [
-          | inl a ↦ before j a
-          | inr b ↦ last j (one_element next j b)
+        few = λ j c. elim (Contains-append_cases seen (new ∷ []) j c) [
+          | inl a ↦ w.few j a
+          | inr b ↦ subst (λ n. n < length s.variables) (one_element new j b) fits.declares.numbers.0.2
         ];
-        bounds = λ j k c l. elim (Contains-append_cases seen (next ∷ []) j c) [
-          | inl a ↦ w.bounds j k a (omega (arith, l))
-          | inr b ↦ subst (λ n. in_bounds_of k (local_at s.frame n) ≡ false) (one_element next j b) (unnamed k l)
+        declared = λ j c. elim (Contains-append_cases seen (new ∷ []) j c) [
+          | inl a ↦ Contains-append_left past (new ∷ []) j (w.declared j a)
+          | inr b ↦ Contains-append_right past (new ∷ []) j b
+        ];
+        bounds = λ j k c l. elim (Contains-append_cases seen (new ∷ []) j c) [
+          | inl a ↦ w.bounds j k a (λ b. l (Contains-append_left past (new ∷ []) k b))
+          | inr b ↦ subst (λ n. in_bounds_of k (local_at s.frame n) ≡ false) (one_element new j b) (unnamed k l)
         ];
       })
     where
-      named : d.name ≡ name.Local next
-      named = fits.declares.numbers.0
+      new : ℕ
+      new = fits.declares.numbers.0.0
 
-      before : (j : ℕ) → Contains seen j → j < next + 1
-      before j c = let b = w.below j c in omega (arith, b)
+      named : d.name ≡ name.Local new
+      named = fits.declares.numbers.0.1
 
-      last : (j : ℕ) → next ≡ j → j < next + 1
-      last j e = omega (arith, e)
-
-      bounded : bounds_pass (tests_of items) (visible ++ name.Local next ∷ []) (option_map bare_limits d.bounds) ≡ true
+      bounded : bounds_pass (tests_of items) (visible ++ name.Local new ∷ []) (option_map bare_limits d.bounds) ≡ true
       bounded =
           subst (λ n. bounds_pass (tests_of items) (visible ++ n ∷ []) (option_map bare_limits d.bounds) ≡ true) named
           (let b = bounds_pass (tests_of items) (visible ++ d.name ∷ []) (option_map bare_limits d.bounds) in
           let i = init_passes (tests_of items) visible (bare_init d.init) in
           (and_cases b i (and_cases (type_passes (tests_of items) d.ctype) (b && i) fits.passes).1).0)
 
-      unnamed : (k : ℕ) → next + 1 ≤ k → in_bounds_of k (local_at s.frame next) ≡ false
-      unnamed k l = by (in_bounds_of k (local_at s.frame next)) refl
+      unnamed : (k : ℕ) → (Contains (past ++ new ∷ []) k → ⊥) → in_bounds_of k (local_at s.frame new) ≡ false
+      unnamed k l = by (in_bounds_of k (local_at s.frame new)) refl
         where
-          found : HasLocal (visible ++ name.Local next ∷ []) k → ⊥
-          found h = elim (any_last (same_name (name.Local k)) visible (name.Local next) h) [
-            | inl a ↦ (let b = w.below k (w.sees k a) in absurd (omega (arith, b, l)))
-            | inr b ↦ (let e = same_number k next b in absurd (omega (arith, e, l)))
+          found : HasLocal (visible ++ name.Local new ∷ []) k → ⊥
+          found h = elim (any_last (same_name (name.Local k)) visible (name.Local new) h) [
+            | inl a ↦ l (Contains-append_left past (new ∷ []) k (w.declared k (w.sees k a)))
+            | inr b ↦ l (subst (Contains (past ++ new ∷ [])) (sym (same_number k new b)) (Contains-append_right past (new ∷ []) new (itself new)))
           ]
 
-          by : (b : Bool) → in_bounds_of k (local_at s.frame next) ≡ b → in_bounds_of k (local_at s.frame next) ≡ false
+          by : (b : Bool) → in_bounds_of k (local_at s.frame new) ≡ b → in_bounds_of k (local_at s.frame new) ≡ false
           by false e = e
           by true e =
-              absurd (found (fits.declares.own d (itself d) next k (visible ++ name.Local next ∷ []) named
-              (last_any (same_name (name.Local next)) visible (name.Local next) (number_same next)) bounded e))
+              absurd (found (fits.declares.own d (itself d) new k (visible ++ name.Local new ∷ []) named
+              (last_any (same_name (name.Local new)) visible (name.Local new) (number_same new)) bounded e))

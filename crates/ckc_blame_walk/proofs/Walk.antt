@@ -52,7 +52,7 @@ use Rattle.ckc_blame_walk.proofs.Codes.{goes_nowhere, IsWalk, IsCode, GoesOn, st
 use Rattle.ckc_blame_walk.proofs.Exits.{exit_goes, may_first, may_after}
 use Rattle.ckc_blame_walk.proofs.Compound.{Extends, extends_none, extends_through, extended_has, extended_front, same_has, own_of, Next, Whole, whole_none, whole_some, code_is, if_gives}
 use Rattle.ckc_blame_walk.proofs.Loops.{while_gives, for_gives}
-use Rattle.ckc_blame_walk.specs.Scopes.{items_of, scope_of}
+use Rattle.ckc_blame_walk.specs.Scopes.{items_of, scope_of, with_declared}
 use Rattle.ckc_blame_walk.proofs.Layers.{scope_of_act, act_scope, act_scope_rolled, scope_stated}
 use Rattle.ckc_blame_walk.proofs.Standing.{Scope, Fits, Stands, Leads, leads_quiet, next_front, next_back, leads_both}
 use Rattle.ckc_blame_walk.proofs.Steps.{IsAssignment, HasAssignments, own_of_act, step_stands, is_local, step_leaves, local_leads}
@@ -172,18 +172,18 @@ module _ (s : Setting) (Claimed : Type 0) where
   abbrev fine_in : List KeptStmt → Bool
   fine_in ks = inside_each all_have (λ (v : Nesting). v.fine) (map nesting_of (map (λ (k : KeptStmt). k.0) ks))
 
-  record ListFits (k : KeptStmt) (ks : List KeptStmt) (visible : List Name) (next : ℕ) : Type 0 where
-    pub first : Fits s (own_of (scope_of (items_of s) k.0) (path k.0)) visible next
-    pub rest : Fits s (own_in ks) (visible ++ (scope_of (items_of s) k.0).leaves) (next + length (path k.0).declared)
+  record ListFits (k : KeptStmt) (ks : List KeptStmt) (visible : List Name) (past : List ℕ) : Type 0 where
+    pub first : Fits s (own_of (scope_of (items_of s) k.0) (path k.0)) visible past
+    pub rest : Fits s (own_in ks) (visible ++ (scope_of (items_of s) k.0).leaves) (with_declared past (path k.0).declared)
 
-  list_fits : (k : KeptStmt) (ks : List KeptStmt) (visible : List Name) (next : ℕ) → Fits s (own_in (k ∷ ks)) visible next → ListFits k ks visible next
-  list_fits k ks visible next f =
+  list_fits : (k : KeptStmt) (ks : List KeptStmt) (visible : List Name) (past : List ℕ) → Fits s (own_in (k ∷ ks)) visible past → ListFits k ks visible past
+  list_fits k ks visible past f =
       let w : tests.Walked = scope_of (items_of s) k.0 in
       let ds : List NotedDecl = inside_each listed (λ (v : Path). v.declared) (paths_of ks) in
       let p = and_cases (w.passes visible) (pass_in_turn (scopes_in ks) (visible ++ w.leaves)) f.passes in
       record {
-        first = record { passes = p.0; declares = next_front s (path k.0).declared ds next f.declares };
-        rest = record { passes = p.1; declares = next_back s (path k.0).declared ds next f.declares };
+        first = record { passes = p.0; declares = next_front s (path k.0).declared ds past f.declares };
+        rest = record { passes = p.1; declares = next_back s (path k.0).declared ds past f.declares };
       }
 
   all_gives : (ks : List KeptStmt) → fine_in ks ≡ true → (Claimed → AllByRecursion (IsInBody s) (map (λ (k : KeptStmt). k.0) ks)) → (here : Here) → Gives (AllNext (assigned_in ks) (own_in ks) (breaks_in ks) (continues_in ks) here) (all_judged s.frame s.head (paths_of ks) here)
@@ -206,16 +206,16 @@ module _ (s : Setting) (Claimed : Type 0) where
         extends = extends_through here.seen p.1.seen q.1.seen one.extends rest.extends;
         onward = onward_through here p.1 q.1 one.onward rest.onward;
         stays = stays_through s.frame (path k.0).assigned (assigned_in ks) here.at p.1.at q.1.at one.stays rest.stays;
-        leads = λ visible next f w.
-            let g : ListFits k ks visible next = list_fits k ks visible next f in
-            leads_both s (own_of (scope_of (items_of s) k.0) (path k.0)) (own_in ks) here.seen p.1.seen q.1.seen one.leads rest.leads visible next g.first g.rest w;
+        leads = λ visible past f w.
+            let g : ListFits k ks visible past = list_fits k ks visible past f in
+            leads_both s (own_of (scope_of (items_of s) k.0) (path k.0)) (own_in ks) here.seen p.1.seen q.1.seen one.leads rest.leads visible past g.first g.rest w;
         grows = grows_through here.next p.1.next q.1.next (nodes_in p.0) (nodes_each q.0) (nodes_in p.0 + nodes_each q.0) (omega arith) one.grows rest.grows;
         code = λ st on tame room n exits strings may.
             let parts = two_strings s (strings_of_stmt p.0) (strings_each q.0) n (part_of p.0).literals (counted.stmt p.0) strings in
-            let g : ListFits k ks st.visible st.next = list_fits k ks st.visible st.next st.fits in
+            let g : ListFits k ks st.visible st.past = list_fits k ks st.visible st.past st.fits in
             both_code s (stmt_elaborated s.text s.variables s.result n p.0) (all_code (map part_of q.0) s.text s.variables s.result (n + (part_of p.0).literals)) exits here p.1 q.1
-            (one.code (record { visible = st.visible; next = st.next; scope = st.scope; fits = g.first }) on tame (room_less s here.next (nodes_in p.0) (nodes_in p.0 + nodes_each q.0) (omega arith) room) n exits parts.0 (may_first s.frame (path k.0).assigned (assigned_in ks) (path k.0).breaks (breaks_in ks) (path k.0).continues (continues_in ks) here exits may))
-            (rest.code (record { visible = st.visible ++ (scope_of (items_of s) k.0).leaves; next = st.next + length (path k.0).declared; scope = one.leads st.visible st.next g.first st.scope; fits = g.rest })
+            (one.code (record { visible = st.visible; past = st.past; scope = st.scope; fits = g.first }) on tame (room_less s here.next (nodes_in p.0) (nodes_in p.0 + nodes_each q.0) (omega arith) room) n exits parts.0 (may_first s.frame (path k.0).assigned (assigned_in ks) (path k.0).breaks (breaks_in ks) (path k.0).continues (continues_in ks) here exits may))
+            (rest.code (record { visible = st.visible ++ (scope_of (items_of s) k.0).leaves; past = with_declared st.past (path k.0).declared; scope = one.leads st.visible st.past g.first st.scope; fits = g.rest })
             (on_there s here p.1 one.onward on) (tame_there s.frame (path k.0).assigned here.at p.1.at one.stays tame)
             (room_after s here.next p.1.next (nodes_in p.0) (nodes_each q.0) (nodes_in p.0 + nodes_each q.0) (omega arith) one.grows room) (n + (part_of p.0).literals) exits parts.1
             (may_after s.frame (path k.0).assigned (assigned_in ks) (path k.0).breaks (breaks_in ks) (path k.0).continues (continues_in ks) here p.1 exits tame.0 one.stays
@@ -258,7 +258,7 @@ module _ (s : Setting) (Claimed : Type 0) where
             (further_code s (all_code (map part_of p.0) s.text s.variables s.result k) exits here p.1 there
             (record { known = (goes_nowhere p.1).known; seen = λ n c. extended_has here.seen p.1.seen all.extends n (same_has here.seen there.seen front n c) })
             (λ e. ap (λ (h : Here). record h { seen = take (length here.seen) h.seen }) e ∙ ap (λ x. record here { seen = x }) (extended_front here.seen here.seen (extends_none here.seen here.seen refl)))
-            (all.code (record { visible = st.visible; next = st.next; scope = st.scope; fits = record { passes = st.fits.passes; declares = st.fits.declares } }) on tame (room_less s here.next (nodes_each p.0) (nodes_in (stated at note (act.Block m p.0))) (block_nodes at note (act.Block m p.0) m p.0 (act.rolls-Block m p.0)) room) k exits (block_strings s at note (act.Block m p.0) m p.0 k (act.rolls-Block m p.0) strings) may));
+            (all.code (record { visible = st.visible; past = st.past; scope = st.scope; fits = record { passes = st.fits.passes; declares = st.fits.declares } }) on tame (room_less s here.next (nodes_each p.0) (nodes_in (stated at note (act.Block m p.0))) (block_nodes at note (act.Block m p.0) m p.0 (act.rolls-Block m p.0)) room) k exits (block_strings s at note (act.Block m p.0) m p.0 k (act.rolls-Block m p.0) strings) may));
       }))
 
   -- ---- statements that are a step

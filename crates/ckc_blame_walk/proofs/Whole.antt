@@ -31,7 +31,7 @@ pub statement_judged : (s : Setting) (st after : NotedStmt) (here there : Here) 
     → Judged s rest exits there → Judged s (chained (stmt_elaborated s.text s.variables s.result literals after) rest) exits here
 statement_judged s st after here there literals exits rest fine inside fresh count small named scoped room strings walk may behind =
     by ((statement_next s st after here there (Unit {0}) (λ u. inside) fine walk).code
-    (record { visible = scoped.visible; next = scoped.next; scope = scoped.scope; fits = record { passes = scoped.passes; declares = scoped.declares } })
+    (record { visible = scoped.visible; past = scoped.past; scope = scoped.scope; fits = record { passes = scoped.passes; declares = scoped.declares } })
     (record { claimed = tt; counts = count; fresh = fresh }) (small, named)
     (subst (HasRoom s here.next) (sym (statement_nodes s.frame s.head st here (after, there) walk)) room) literals exits strings may)
   where

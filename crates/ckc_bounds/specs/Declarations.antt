@@ -1,8 +1,9 @@
 -- What declarations say of bounds to the expressions of a text.
-use Rattle.std.specs.Prelude.{ℕ, zero, suc, ◌<◌, ◌≤◌, ◌==◌, Bool, true, false, if◌then◌else◌, List, [], ◌∷◌, ◌++◌, map, length, Option, None, Some, Ok, Err}
+use Rattle.std.specs.Prelude.{ℕ, zero, suc, ◌<◌, ◌≤◌, ◌==◌, Bool, true, false, if◌then◌else◌, List, [], ◌∷◌, ◌++◌, map, length, replicate, slice_set, Option, None, Some, Ok, Err}
 use Rattle.std.proofs.Common.{zero-le, suc-le-suc}
 use Rattle.ckc_base.specs.Outcomes.{Outcome, bind}
 use Rattle.ckc_types.specs.declared.types.CType.{CType}
+use Rattle.ckc_types.specs.declared.types.CType.TheVariants as ctype
 use Rattle.ckc_syntax.specs.declared.tree.Name.{Name}
 use Rattle.ckc_syntax.specs.declared.tree.Name.TheVariants as name
 use Rattle.ckc_syntax.specs.declared.tree.Length.TheVariants as lengths
@@ -51,10 +52,23 @@ abbrev pub local_made : Frame → Bool → ℕ → NotedDecl → Local
 local_made frame false k d = bare (type_written d.ctype)
 local_made frame true k d = record { ctype = type_written d.ctype; bounds = known_or_not (decl_bounds frame (holder.Local k) d) }
 
--- Locals are numbered in the order of their declarations, each by its place after those before it.
+-- a variable that has a number, and of which nothing else is known
+abbrev pub nameless : Local
+nameless = bare ctype.Void
+
+-- A declaration puts its local at the number that its name has.
+abbrev pub with_local : Frame → Bool → List Local → Name → NotedDecl → List Local
+with_local frame bounded ls (name.Local k) d = slice_set ls k (local_made frame bounded k d)
+with_local frame bounded ls _ d = ls
+
+-- some locals after those that are declared are put among them
 abbrev pub with_all : Frame → Bool → List Local → List NotedDecl → List Local
 with_all frame bounded ls [] = ls
-with_all frame bounded ls (d ∷ ds) = with_all frame bounded (ls ++ local_made frame bounded (length ls) d ∷ []) ds
+with_all frame bounded ls (d ∷ ds) = with_all frame bounded (with_local frame bounded ls d.name d) ds
+
+-- The locals that are declared, as many as there are declarations, each at its number, wherever it stands in the text.
+abbrev pub all_made : Frame → Bool → List NotedDecl → List Local
+all_made frame bounded ds = with_all frame bounded (replicate (length ds) nameless) ds
 
 -- the first of some locals, at most so many
 abbrev pub first_of : ℕ → List Local → List Local
@@ -84,11 +98,11 @@ with_locals frame ls = record frame { locals = few_of ls; few = few_of_few ls }
 
 -- the types of what is declared
 abbrev pub types_in : Frame → List NotedDecl → Frame
-types_in frame ds = with_locals frame (with_all frame false [] ds)
+types_in frame ds = with_locals frame (all_made frame false ds)
 
 -- The bounds of locals name one another, so that the types of all of them are known first.
 abbrev pub declared_in : Frame → List NotedDecl → List Local
-declared_in frame ds = with_all (types_in frame ds) true [] ds
+declared_in frame ds = all_made (types_in frame ds) true ds
 
 -- A head is judged with its parameters as the locals.
 abbrev pub head_bounds : Frame → NotedHead → HeadBounds

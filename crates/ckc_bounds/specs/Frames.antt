@@ -1,7 +1,6 @@
 -- The frames of the functions of a text.
 use Rattle.std.specs.Prelude.{ℕ, ◌-◌, Bool, true, false, if◌then◌else◌, List, [], ◌++◌, flat_map, length, replicate, Ok, Err}
 use Rattle.ckc_base.specs.Outcomes.{Outcome}
-use Rattle.ckc_types.specs.declared.types.CType.TheVariants as ctype
 use Rattle.ckc_types.specs.declared.types.Structs.{Structs}
 use Rattle.ckc_typed.specs.declared.typed.StaticObject.{StaticObject}
 use Rattle.ckc_typed.specs.Trees.{NotedDecl, NotedHead, NotedStmt, NotedItem}
@@ -9,7 +8,8 @@ use Rattle.ckc_bounds_points.specs.declared.frame.Local.{Local}
 use Rattle.ckc_bounds_points.specs.declared.frame.HeadBounds.{HeadBounds}
 use Rattle.ckc_bounds_points.specs.declared.frame.Frame.{Frame}
 use Rattle.ckc_bounds_points.specs.Flow.{entry}
-use Rattle.ckc_bounds.specs.Declarations.{bare, few_of, few_of_few, with_locals, declared_in, head_bounds, heads_from, objects_of}
+pub use Rattle.ckc_bounds.specs.Declarations.{nameless}
+use Rattle.ckc_bounds.specs.Declarations.{few_of, few_of_few, with_locals, declared_in, head_bounds, heads_from, objects_of}
 use Rattle.ckc_bounds_statements.specs.Paths.{Here, local_in, path}
 
 -- the structures and the objects alone
@@ -23,7 +23,7 @@ text_frame structs statics items = record (structs_frame structs statics) {
   heads = heads_from (structs_frame structs statics) [] items;
 }
 
--- the parameters and the locals of a function, as they are numbered
+-- the declarations of the parameters and of the other locals of a function
 abbrev pub all_of : NotedHead → NotedStmt → List NotedDecl
 all_of h body = h.params ++ (path body).declared
 
@@ -51,11 +51,8 @@ abbrev pub fresh_needed : Frame → HeadBounds → NotedHead → NotedStmt → �
 fresh_needed frame head h body n =
     if (path body).may_need frame then counted frame head h body n else 0
 
--- A fresh variable has a number; of its type something is known where its own expression is judged, and nowhere else.
-abbrev pub nameless : Local
-nameless = bare ctype.Void
-
--- a frame with n fresh variables after its locals
+-- A frame with n fresh variables after its locals. Of the type of one something is known where its own expression is
+-- judged, and nowhere else.
 abbrev pub with_nameless : ℕ → Frame → Frame
 with_nameless n frame = with_locals frame (frame.locals ++ replicate n nameless)
 

@@ -2,7 +2,7 @@
 
 ghost use Rattle.std.specs.Prelude.{◌≡◌, [], ◌++◌, flat_map, length, replicate, IfOk, OnOk};
 ghost use Rattle.ckc_base.specs.Outcomes.{AnswersOutcome};
-ghost use Rattle.ckc_bounds.specs.Declarations.{with_all};
+ghost use Rattle.ckc_bounds.specs.Declarations.{all_made};
 ghost use Rattle.ckc_bounds.specs.code.Declarations.{text_of};
 ghost use Rattle.ckc_bounds.specs.Frames.{all_of, name_seen, begin_in, counted, fresh_needed, nameless, with_nameless, locals_frame, first_fresh, frame_by};
 ghost use Rattle.ckc_bounds.specs.Texts.{body_judged};
@@ -10,7 +10,7 @@ ghost use Rattle.ckc_bounds_statements.specs.Walks.{here};
 
 use crate::declared::{clear, set_locals};
 use crate::heads::head_bounds;
-use crate::locals::{add_params, add_stmt};
+use crate::locals::{Turn, add_params, add_stmt};
 use ckc_base::{Fault, Seq};
 use ckc_bounds_points::{Bounds, Frame, HeadBounds, Local, Work, entry, fit_row};
 use ckc_bounds_statements::{Walk, add_name, judge_stmt, may_need};
@@ -28,11 +28,19 @@ fn variables(
     h: &Head<Name, Note>,
     body: &Stmt<Name, Note>,
 ) -> Result<Seq<Local>, AllocError>
-    ensures { IfOk result (λ r. r ≡ with_all frame.now bounded [] (all_of h.now body.now)) }
+    ensures { IfOk result (λ r. r ≡ all_made frame.now bounded (all_of h.now body.now)) }
 {
     let mut all = Seq::new(alloc);
-    add_params(alloc, frame, bounded, h.params.as_slice(), &mut all)?;
-    add_stmt(alloc, frame, bounded, body, &mut all)?;
+    add_params(alloc, frame, Turn::Counts, h.params.as_slice(), &mut all)?;
+    add_stmt(alloc, frame, Turn::Counts, body, &mut all)?;
+    add_params(
+        alloc,
+        frame,
+        Turn::Places(bounded),
+        h.params.as_slice(),
+        &mut all,
+    )?;
+    add_stmt(alloc, frame, Turn::Places(bounded), body, &mut all)?;
     Ok(all)
 }
 
@@ -48,7 +56,7 @@ fn count(all: &[Local]) -> Result<u32, AllocError>
 
 /// Makes the parameters and the locals of a function the locals of a frame, and gives the number of the first fresh
 /// variable.
-#[tactic(auto, using(crate::proofs::Lists::with_all_length))]
+#[tactic(auto, using(crate::proofs::Lists::all_made_length))]
 fn set_variables(
     alloc: Global,
     frame: &mut Frame,

@@ -1,18 +1,33 @@
 //! The heads of the functions and the objects of a text.
 
 ghost use Rattle.std.specs.Prelude.{◌≡◌, [], IfOk, OnOk};
-ghost use Rattle.ckc_bounds.specs.Declarations.{types_in, declared_in, head_bounds, is_function_at, with_head, with_item, heads_from, object_bounds, with_object, objects_of};
+ghost use Rattle.ckc_bounds.specs.Declarations.{all_made, types_in, declared_in, head_bounds, is_function_at, with_head, with_item, heads_from, object_bounds, with_object, objects_of};
 ghost use Rattle.ckc_bounds.specs.code.Declarations.{text_of};
 
 use crate::declared::{clear, known_bounds, known_result, set_locals};
-use crate::locals::add_params;
+use crate::locals::{Turn, add_params};
 use ckc_base::Seq;
 use ckc_bounds_declared::Holder;
-use ckc_bounds_points::{Bounds, Frame, HeadBounds};
+use ckc_bounds_points::{Bounds, Frame, HeadBounds, Local};
 use ckc_syntax::{Decl, Head, Item, Name};
 use ckc_typed::Note;
 use ckc_typed::types::type_written;
 use std::alloc::{AllocError, Global};
+
+/// The parameters of a function as its locals, by their types alone or with their bounds.
+fn params_made(
+    alloc: Global,
+    frame: &Frame,
+    bounded: bool,
+    ds: &[Decl<Name, Note>],
+) -> Result<Seq<Local>, AllocError>
+    ensures { IfOk result (λ r. r ≡ all_made frame.now bounded ds.now) }
+{
+    let mut all = Seq::new(alloc);
+    add_params(alloc, frame, Turn::Counts, ds, &mut all)?;
+    add_params(alloc, frame, Turn::Places(bounded), ds, &mut all)?;
+    Ok(all)
+}
 
 /// Makes the parameters of a function the locals of a frame, by their types alone.
 pub fn set_types(
@@ -23,8 +38,7 @@ pub fn set_types(
     ensures { OnOk result (frame.new ≡ types_in (text_of frame.old) ds.now) }
 {
     clear(alloc, frame);
-    let mut bare = Seq::new(alloc);
-    add_params(alloc, frame, false, ds, &mut bare)?;
+    let bare = params_made(alloc, frame, false, ds)?;
     set_locals(frame, bare)
 }
 
@@ -33,8 +47,7 @@ fn head_in(alloc: Global, frame: &Frame, h: &Head<Name, Note>) -> Result<HeadBou
     ensures { (text : Frame) → frame.now ≡ types_in text h.now.params
         → IfOk result (λ r. r ≡ head_bounds text h.now) }
 {
-    let mut params = Seq::new(alloc);
-    add_params(alloc, frame, true, h.params.as_slice(), &mut params)?;
+    let params = params_made(alloc, frame, true, h.params.as_slice())?;
     let t = type_written(alloc, &h.result)?;
     let bounds = known_result(alloc, frame, h)?;
     Ok(HeadBounds {

@@ -37,7 +37,7 @@ use Rattle.ckc_blame_steps.specs.ckc_blame_sound.specs.JudgedTexts.{IsJudged, Is
 use Rattle.ckc_blame_steps.specs.ckc_blame_sound.specs.Settings.{Setting, IsFunction, setting_of, frame_of_text}
 use Rattle.ckc_blame_steps.specs.ckc_blame_sound.specs.Words.{HaveWords, HasWords, exprs_in}
 use Rattle.ckc_blame_steps.specs.ckc_blame_sound.proofs.Bodies.{bodies_are_typed, declared_known}
-use Rattle.ckc_blame_steps.specs.ckc_blame_sound.proofs.Frames.{types_declared, variables_have, variables_moved, named_type, statics_named}
+use Rattle.ckc_blame_steps.specs.ckc_blame_sound.proofs.Frames.{types_numbered, types_length, variables_have, variables_moved, named_type, statics_named}
 use Rattle.ckc_blame_steps.specs.ckc_blame_sound.proofs.Functions.{all_made, numbered, tree_named}
 use Rattle.ckc_blame_steps.specs.ckc_blame_sound.proofs.Literals.{text_strings}
 use Rattle.ckc_blame_steps.specs.ckc_blame_sound.proofs.Strings.{NumbersStrings}
@@ -64,13 +64,13 @@ each P all f (x ∷ xs) there = All-cons P x xs (f x (All-head (Contains all) x 
 -- ---- the numbers of locals
 
 module _ (h : NotedHead) (body : NotedStmt) where
-  as_many : length (types_declared (all_of h body)) ≡ length (variables_of h body)
+  as_many : length (types_numbered (all_of h body)) ≡ length (variables_of h body)
   as_many =
-      length-map (all_of h body) (λ (d : NotedDecl). type_written d.ctype) ∙ sym (length-map (all_of h body) (λ (d : NotedDecl). variable_declared d))
+      types_length (all_of h body) ∙ sym (length-map (all_of h body) (λ (d : NotedDecl). variable_declared d))
       ∙ sym (length_permutation (map (λ (d : NotedDecl). variable_declared d) (all_of h body)) (variables_of h body) (variables_moved h body))
 
-  below : (k : ℕ) (t : CType) → slice_get (types_declared (all_of h body)) k ≡ Some t → k < length (variables_of h body)
-  below k t at = subst (λ n. k < n) as_many (slice_get_within (types_declared (all_of h body)) k t at)
+  below : (k : ℕ) (t : CType) → slice_get (types_numbered (all_of h body)) k ≡ Some t → k < length (variables_of h body)
+  below k t at = subst (λ n. k < n) as_many (slice_get_within (types_numbered (all_of h body)) k t at)
 
 -- ---- what the text was before its bounds were judged
 
@@ -144,7 +144,7 @@ module _ (p : Typed) (j : IsJudged p) where
         known =
             each (λ (d : NotedDecl). (m : ℕ) → d.name ≡ name.Local m → m < length s.variables) (path b.before).declared
             (λ d c m is. below h body m (variable_declared d).ctype
-            (All-contains (λ (v : Variable). (m : ℕ) → v.name ≡ name.Local m → slice_get (types_declared (all_of h body)) m ≡ Some v.ctype) (variables_of h body) (variable_declared d)
+            (All-contains (λ (v : Variable). (m : ℕ) → v.name ≡ name.Local m → slice_get (types_numbered (all_of h body)) m ≡ Some v.ctype) (variables_of h body) (variable_declared d)
             (variables_have h body (numbered p h body j there)) (declared_known (globals_in p) j.typed h body b d c) m is))
             (path b.before).declared (All-contains_itself (path b.before).declared)
 

@@ -42,7 +42,7 @@ unary op.Not at e = Binary operation.Eq true at e (Number 0)
 unary op.Flip at e = Binary operation.Xor true at e (Number 0xFFFFFFFF)
 unary _ at e = outside
 
--- ISO C11, 6.5.5 to 6.5.14; the unary operators are none of these
+-- ISO C11, 6.5.5 to 6.5.14; the unary operators and assignments are none of these
 abbrev pub binary : TreeOp → Bool → Pos → Expr → Expr → Expr
 binary op.OrElse is_signed at e f = Or e f
 binary op.AndThen is_signed at e f = And e f

@@ -92,6 +92,7 @@ fn binary(op: TreeOp, signed: bool, at: Pos, e: Boxed<ExprTree>, f: Boxed<ExprTr
         TreeOp::Rem => ExprTree::Binary(Operation::Rem, signed, at, e, f),
         TreeOp::Minus | TreeOp::Plus | TreeOp::Not => outside(),
         TreeOp::Flip | TreeOp::Deref | TreeOp::Address => outside(),
+        TreeOp::Set | TreeOp::PostInc | TreeOp::PostDec => outside(),
     }
 }
 

@@ -65,7 +65,7 @@ use Rattle.ckc_build_forms.specs.ckc_blame_steps.specs.Statics.{IsStatic, range_
 use Rattle.ckc_build_forms.specs.ckc_blame_steps.specs.Told.{IsTold}
 use Rattle.ckc_build_forms.specs.ckc_blame_steps.specs.ckc_blame_sound.specs.JudgedTexts.{IsJudged, globals_in}
 use Rattle.ckc_build_forms.specs.ckc_blame_steps.specs.ckc_blame_sound.specs.Settings.{Setting, AreStrings, IsFunction, setting_of}
-use Rattle.ckc_build_forms.specs.ckc_blame_steps.specs.ckc_blame_sound.proofs.Frames.{frames_agree, locals_are_there, named_type, statics_named, types_declared, variables_moved}
+use Rattle.ckc_build_forms.specs.ckc_blame_steps.specs.ckc_blame_sound.proofs.Frames.{frames_agree, locals_are_there, named_type, statics_named, types_numbered, types_length, variables_moved}
 use Rattle.ckc_build_forms.specs.ckc_blame_steps.specs.ckc_blame_sound.proofs.Functions.{numbered, tree_named}
 use Rattle.ckc_build_forms.specs.ckc_blame_steps.specs.ckc_blame_sound.proofs.Lists.{found}
 use Rattle.ckc_build_forms.specs.ckc_blame_steps.specs.ckc_blame_sound.proofs.Ranges.{contains_at}
@@ -305,17 +305,17 @@ module _ (p : Typed) (j : IsJudged p) (small : Small j.named.tree) (s : Setting)
   variables : s.variables ≡ variables_of is.head is.body
   variables = ap (λ (r : Setting). r.variables) is.judged ∙ variables_are p is.head is.body
 
-  as_many : length (types_declared (all_of is.head is.body)) ≡ length (variables_of is.head is.body)
+  as_many : length (types_numbered (all_of is.head is.body)) ≡ length (variables_of is.head is.body)
   as_many =
       let h = is.head in
       let body = is.body in
-      length-map (all_of h body) (λ (d : NotedDecl). type_written d.ctype) ∙ sym (length-map (all_of h body) (λ (d : NotedDecl). variable_declared d))
+      types_length (all_of h body) ∙ sym (length-map (all_of h body) (λ (d : NotedDecl). variable_declared d))
       ∙ sym (length_permutation (map (λ (d : NotedDecl). variable_declared d) (all_of h body)) (variables_of h body) (variables_moved h body))
 
   local_below : (k : ℕ) (t : CType) → type_of_name (globals_in p) s.variables (name.Local k) ≡ Some t → k < length s.variables
   local_below k t e =
       let there = named_type (globals_in p) is.head is.body k t (numbered p is.head is.body j is.there) (statics_named p j) (subst (λ vs. type_of_name (globals_in p) vs (name.Local k) ≡ Some t) variables e) in
-      subst (λ vs. k < length vs) (sym variables) (subst (λ n. k < n) as_many (slice_get_within (types_declared (all_of is.head is.body)) k t there))
+      subst (λ vs. k < length vs) (sym variables) (subst (λ n. k < n) as_many (slice_get_within (types_numbered (all_of is.head is.body)) k t there))
 
   one_there : (k : ℕ) (t : CType) → type_of_name (globals_in p) s.variables (name.Local k) ≡ Some t → kind_of t ≡ Some kind.One → (widened : List ℕ) → is_missing (range_of_local s.frame k widened) ≡ false
   one_there k t e one widened =

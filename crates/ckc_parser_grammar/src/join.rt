@@ -186,5 +186,8 @@ fn level(op: TreeOp) -> u32
         TreeOp::Flip => 0,
         TreeOp::Deref => 0,
         TreeOp::Address => 0,
+        TreeOp::Set => 0,
+        TreeOp::PostInc => 0,
+        TreeOp::PostDec => 0,
     }
 }

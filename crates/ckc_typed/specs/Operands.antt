@@ -115,7 +115,8 @@ is_raw_kind _ = false
 abbrev pub is_cast : CType → CType → Bool → Bool
 is_cast t u null_u = is_object_type t && ((is_integer t && is_integer u) || (is_raw_kind (kind_of t) && (is_pointer u || null_u)))
 
--- The rows by operator, with the type of each operand and whether it is null. A unary operator has no row here.
+-- The rows by operator, with the type of each operand and whether it is null. A unary operator has no row here, and
+-- neither has an assignment.
 abbrev pub binary_type : TreeOp → CType → Bool → CType → Bool → Option CType
 binary_type op.OrElse t m u n = both_type t u
 binary_type op.AndThen t m u n = both_type t u
@@ -137,7 +138,8 @@ binary_type op.Div t m u n = arithmetic_type t u
 binary_type op.Rem t m u n = arithmetic_type t u
 binary_type _ t m u n = None
 
--- A binary operator has no row here, and neither has `&`, which looks at more than the type of its operand.
+-- A binary operator has no row here, and neither have `++` and `--`, and `&`, which looks at more than the type of its
+-- operand.
 abbrev pub unary_type : TreeOp → CType → Option CType
 unary_type op.Minus t = sign_type t
 unary_type op.Plus t = sign_type t

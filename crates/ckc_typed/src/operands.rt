@@ -248,6 +248,7 @@ pub fn binary_type(
         TreeOp::Sub => difference_type(alloc, t, u),
         TreeOp::Minus | TreeOp::Plus | TreeOp::Not => Ok(None),
         TreeOp::Flip | TreeOp::Deref | TreeOp::Address => Ok(None),
+        TreeOp::Set | TreeOp::PostInc | TreeOp::PostDec => Ok(None),
     }
 }
 

@@ -7,6 +7,7 @@ pub mod NamedItems
 pub mod FormKept
 pub mod SmallKept
 pub mod Numbered
+pub mod EachOnce
 pub mod LocalsCounted
 pub mod MembersDiffer
 pub mod TestsPass

@@ -2,9 +2,11 @@
 use Rattle.std.proofs.Common.{◌≡◌, ℕ, suc, ◌+◌, sym, refl, subst, List, [], ◌∷◌, ◌++◌, length, length-append, map, arith}
 use Rattle.std.specs.Prelude.{Ok, All, Option}
 use Rattle.std.specs.List.{flat_map}
-use Rattle.std.proofs.lemmas.List.Elements.{All-nil, All-cons}
+use Rattle.std.proofs.lemmas.List.Elements.{All-nil, All-cons, All-head, All-tail}
+use Rattle.std.proofs.lemmas.List.Sorted.{IsPermutation-refl}
 use Rattle.ckc_syntax.specs.declared.tree.Name.{Name}
 use Rattle.ckc_syntax.specs.declared.tree.Name.TheVariants as name
+use Rattle.ckc_syntax.specs.declared.tree.Item.TheVariants as item
 use Rattle.ckc_syntax.specs.declared.tree.NamedText.{NamedText}
 use Rattle.ckc_syntax.specs.declared.tree.Act.{Act-F, map-Act, roll-Act, fold-Act, fold-roll-Act}
 use Rattle.ckc_syntax.specs.declared.tree.Stmt.{fold-roll-Stmt}
@@ -18,8 +20,8 @@ use Rattle.ckc_resolve.specs.Scoping.{no_names, names_of, no_scope, with_local, 
 use Rattle.ckc_resolve.specs.Declarations.{local_named}
 use Rattle.ckc_resolve.specs.Statements.{body_named}
 use Rattle.ckc_resolve.specs.Phase.{text_named}
-use Rattle.ckc_typed_fit.specs.Numbers.{CountsFrom}
-use Rattle.ckc_typed_fit.specs.Locals.{local_in, decl_local, act_locals, locals_in, stmt_locals, head_locals, item_locals}
+use Rattle.ckc_typed_fit.specs.Numbers.{CountsFrom, AreNumbered}
+use Rattle.ckc_typed_fit.specs.Locals.{local_in, decl_local, act_locals, locals_in, stmt_locals, head_locals, item_params, item_locals}
 use Rattle.ckc_base.proofs.Gives.{given_from}
 use Rattle.ckc_typed_fit.proofs.NamedActs as acts
 use Rattle.ckc_typed_fit.proofs.NamedActs.{ActOf, NamedActOf, StmtsNamed, ActNamed, BodyNamed}
@@ -150,3 +152,27 @@ module _ (names : Names) where
 -- the locals of each function have the numbers from 0 on
 pub locals_count : (tree : Tree) (n : NamedText) → text_named tree ≡ Ok n → All (λ i. CountsFrom 0 (item_locals i)) n.tree.items
 locals_count tree n e = items_counted (names_of tree) tree.items no_names tree.items n.tree.items (text_is tree n e).items
+
+-- so each has its own number, and the parameters have the first ones
+front_counts : (k : ℕ) (ns ms : List ℕ) → CountsFrom k (ns ++ ms) → CountsFrom k ns
+front_counts k [] ms h = tt
+front_counts k (n ∷ ns) ms h = (h.0, front_counts (k + 1) ns ms h.1)
+
+item_numbered : (i : NamedItem) → CountsFrom 0 (item_locals i) → CountsFrom 0 (item_params i) × AreNumbered (item_locals i)
+item_numbered i h = (params i h, (item_locals i, h, IsPermutation-refl (item_locals i)))
+  where
+    params : (i : NamedItem) → CountsFrom 0 (item_locals i) → CountsFrom 0 (item_params i)
+    params (item.Directive d) h = tt
+    params (item.Tag n at) h = tt
+    params (item.Struct n ms at) h = tt
+    params (item.Static d) h = tt
+    params (item.Proto g) h = h
+    params (item.Function g body) h = front_counts 0 (head_locals g) (stmt_locals body) h
+
+pub params_first : (is : List NamedItem) → All (λ i. CountsFrom 0 (item_locals i)) is → All (λ i. CountsFrom 0 (item_params i)) is
+params_first [] h = All-nil (λ i. CountsFrom 0 (item_params i))
+params_first (i ∷ is) h = All-cons (λ i. CountsFrom 0 (item_params i)) i is (item_numbered i (All-head (λ i. CountsFrom 0 (item_locals i)) i is h)).0 (params_first is (All-tail (λ i. CountsFrom 0 (item_locals i)) i is h))
+
+pub each_numbered : (is : List NamedItem) → All (λ i. CountsFrom 0 (item_locals i)) is → All (λ i. AreNumbered (item_locals i)) is
+each_numbered [] h = All-nil (λ i. AreNumbered (item_locals i))
+each_numbered (i ∷ is) h = All-cons (λ i. AreNumbered (item_locals i)) i is (item_numbered i (All-head (λ i. CountsFrom 0 (item_locals i)) i is h)).1 (each_numbered is (All-tail (λ i. CountsFrom 0 (item_locals i)) i is h))

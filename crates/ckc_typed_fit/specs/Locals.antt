@@ -34,3 +34,9 @@ abbrev pub item_locals : NamedItem → List ℕ
 item_locals (item.Proto h) = head_locals h
 item_locals (item.Function h body) = head_locals h ++ stmt_locals body
 item_locals i = []
+
+-- the numbers of the parameters alone
+abbrev pub item_params : NamedItem → List ℕ
+item_params (item.Proto h) = head_locals h
+item_params (item.Function h body) = head_locals h
+item_params i = []

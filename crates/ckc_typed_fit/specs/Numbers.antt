@@ -1,6 +1,7 @@
 -- How the objects, functions and tags of a tree whose names are resolved are numbered.
 use Rattle.std.specs.Prelude.{◌≡◌, ◌⊎◌, ℕ, ◌+◌, ◌<◌, List, [], ◌∷◌}
 use Rattle.std.specs.List.{flat_map}
+use Rattle.std.specs.List.Sorted.{IsPermutation}
 use Rattle.ckc_syntax.specs.declared.tree.Name.{Name}
 use Rattle.ckc_syntax.specs.declared.tree.Name.TheVariants as name
 use Rattle.ckc_syntax.specs.declared.tree.Item.TheVariants as item
@@ -23,6 +24,10 @@ static_numbers items = flat_map static_of items
 abbrev pub CountsFrom : ℕ → List ℕ → Type 0
 CountsFrom k [] = Unit {0}
 CountsFrom k (n ∷ ns) = (n ≡ k) × CountsFrom (k + 1) ns
+
+-- the numbers from 0 on, each once, in some order
+abbrev pub AreNumbered : List ℕ → Type 0
+AreNumbered ns = (ms : List ℕ) × CountsFrom 0 ms × IsPermutation ms ns
 
 abbrev pub function_in : Name → List ℕ
 function_in (name.Function n) = n ∷ []

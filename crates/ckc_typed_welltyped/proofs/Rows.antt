@@ -76,6 +76,9 @@ module _ (globals : Globals) (mode : Mode) (e : NotedExpr) (at : Pos) where
   unary_is op.Mul = by_row op.Mul
   unary_is op.Div = by_row op.Div
   unary_is op.Rem = by_row op.Rem
+  unary_is op.Set = by_row op.Set
+  unary_is op.PostInc = by_row op.PostInc
+  unary_is op.PostDec = by_row op.PostDec
 
 -- two rules, one after another
 pub two_rules : (fits holds : Bool) (at : Pos) (t : CType) → OkIf (unless (not fits) bad_operands at (unless (not holds) bad_conversion at (Ok t))) (λ u. (fits ≡ true) × (holds ≡ true) × (u ≡ t))

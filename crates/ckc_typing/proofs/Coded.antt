@@ -90,6 +90,9 @@ unary_coded globals mode op.Sub e at = row_coded (is_void e.note.ctype) at (unar
 unary_coded globals mode op.Mul e at = row_coded (is_void e.note.ctype) at (unary_type op.Mul e.note.ctype)
 unary_coded globals mode op.Div e at = row_coded (is_void e.note.ctype) at (unary_type op.Div e.note.ctype)
 unary_coded globals mode op.Rem e at = row_coded (is_void e.note.ctype) at (unary_type op.Rem e.note.ctype)
+unary_coded globals mode op.Set e at = row_coded (is_void e.note.ctype) at (unary_type op.Set e.note.ctype)
+unary_coded globals mode op.PostInc e at = row_coded (is_void e.note.ctype) at (unary_type op.PostInc e.note.ctype)
+unary_coded globals mode op.PostDec e at = row_coded (is_void e.note.ctype) at (unary_type op.PostDec e.note.ctype)
 
 binary_coded : (o : TreeOp) (e f : NotedExpr) (at : Pos) → Coded (binary_typed o e f at)
 binary_coded o e f at = row_coded (is_void e.note.ctype || is_void f.note.ctype) at (binary_type o e.note.ctype (is_null e) f.note.ctype (is_null f))

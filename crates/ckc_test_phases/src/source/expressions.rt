@@ -18,10 +18,7 @@ fn put_node<N: Written, A>(page: &mut Page, node: &Node<N, A>) {
         Node::Text(bytes) => put_text(page, bytes.as_slice()),
         Node::Null => page.put("NULL"),
         Node::Name(name) => name.put(page),
-        Node::Un(op, e) => {
-            page.put(sign(*op));
-            put_operand(page, e.get());
-        }
+        Node::Un(op, e) => put_unary(page, *op, e.get()),
         Node::Bin(op, e, f) => {
             put_operand(page, e.get());
             page.put(" ");
@@ -83,6 +80,19 @@ fn put_node<N: Written, A>(page: &mut Page, node: &Node<N, A>) {
             put_in_parentheses(page, size);
             page.put(")");
         }
+    }
+}
+
+/// Writes a unary operator with its operand, `++` and `--` after it.
+#[cycle(expr)]
+fn put_unary<N: Written, A>(page: &mut Page, op: TreeOp, e: &Expr<N, A>) {
+    let after = matches!(op, TreeOp::PostInc | TreeOp::PostDec);
+    if !after {
+        page.put(sign(op));
+    }
+    put_operand(page, e);
+    if after {
+        page.put(sign(op));
     }
 }
 
@@ -216,5 +226,8 @@ fn sign(op: TreeOp) -> &'static str {
         TreeOp::Shr => ">>",
         TreeOp::Div => "/",
         TreeOp::Rem => "%",
+        TreeOp::Set => "=",
+        TreeOp::PostInc => "++",
+        TreeOp::PostDec => "--",
     }
 }

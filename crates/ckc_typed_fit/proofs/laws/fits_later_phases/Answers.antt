@@ -2,7 +2,7 @@ use Rattle.std.proofs.Common.{◌∙◌}
 use Rattle.ckc_typed_fit.proofs.FormKept.{form_kept}
 use Rattle.ckc_typed_fit.proofs.SmallKept.{small_kept}
 use Rattle.ckc_typed_fit.proofs.Numbered.{statics_count, functions_count, tags_count}
-use Rattle.ckc_typed_fit.proofs.LocalsCounted.{locals_count}
+use Rattle.ckc_typed_fit.proofs.LocalsCounted.{locals_count, params_first, each_numbered}
 use Rattle.ckc_typed_fit.proofs.MembersDiffer.{members_differ as all_differ}
 use Rattle.ckc_typed_fit.proofs.Found.{names_visible, tags_have_bodies}
 use Rattle.ckc_typed_fit.proofs.BodiesKept.{bodies_kept, main_kept}
@@ -13,7 +13,8 @@ returns c = record {
   fit = λ t n given small made. record {
     given = form_kept t n made ∙ given;
     small = small_kept t n made small;
-    locals = locals_count t n made;
+    params = params_first n.tree.items (locals_count t n made);
+    locals = each_numbered n.tree.items (locals_count t n made);
     statics = statics_count t n made;
     functions = functions_count t n made;
     tags = tags_count t n made;
