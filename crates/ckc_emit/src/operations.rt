@@ -3,7 +3,7 @@ ghost use Rattle.std.specs.Prelude.{◌≡◌, ◌<◌, ◌^◌, OnOk};
 ghost use Rattle.ckc_frame.specs.WellFormed.{IsPlace};
 ghost use Rattle.ckc_emit.specs.code.Emitting.{Emits};
 ghost use Rattle.ckc_emit.specs.code.Operands.{IsOperand};
-ghost use Rattle.ckc_emit.specs.code.Lines.{const_lines, copy_lines, value_lines, bin_lines, form_lines, form_of, is_short as is_short_of, is_even as is_even_of, is_exchanged as is_exchanged_of, number_form as number_form_of, near_form as near_form_of, zeros_of, power_form as power_form_of, product_form as product_form_of, zero_lines, immediate_lines, register_lines, ending_lines, apply_lines, operation_of, high_lines, load_op, store_op, data_load_lines, data_store_lines, test_lines, get_lines, put_lines};
+ghost use Rattle.ckc_emit.specs.code.Lines.{const_lines, copy_lines, value_lines, bin_lines, form_lines, form_of, is_short as is_short_of, is_even as is_even_of, is_exchanged as is_exchanged_of, number_form as number_form_of, near_form as near_form_of, zeros_of, power_form as power_form_of, product_form as product_form_of, zero_lines, immediate_lines, register_lines, ending_lines, apply_lines, operation_of, high_lines, load_op, store_op, load_at as load_at_of, store_at as store_at_of, data_load_lines, data_store_lines, test_lines, get_lines, put_lines};
 
 use crate::places::{
     PlacedOperand, base, put_address, put_fetch, put_operand, put_settle, put_take, put_write,
@@ -377,9 +377,18 @@ pub fn put_data_load(
     ensures { OnOk result (Emits out.old.items out.new.items (data_load_lines width t a offset)) }
 {
     put_address(out, a, offset, 5)?;
-    let (rd, ra) = (source(t, 5), base(a, offset, 5));
-    put(out, Instr::Load(load_op(width), rd, ra, rest(a, offset)))?;
+    put(out, load_at(width, t, a, offset))?;
     put_write(out, t, 5)
+}
+
+/// The instruction that loads from an address with an offset.
+fn load_at(width: Width, t: Place, a: PlacedOperand, offset: u32) -> Instr
+    requires t { IsPlace t }
+    requires a { IsOperand a }
+    ensures { result ≡ load_at_of width t a offset }
+{
+    let (rd, ra) = (source(t, 5), base(a, offset, 5));
+    Instr::Load(load_op(width), rd, ra, rest(a, offset))
 }
 
 /// A value is stored at an address; two operands have both, but for an offset.
@@ -397,8 +406,17 @@ pub fn put_data_store(
 {
     put_address(out, a, offset, 5)?;
     put_operand(out, b, 6)?;
+    put(out, store_at(width, a, offset, b))
+}
+
+/// The instruction that stores at an address with an offset.
+fn store_at(width: Width, a: PlacedOperand, offset: u32, b: PlacedOperand) -> Instr
+    requires a { IsOperand a }
+    requires b { IsOperand b }
+    ensures { result ≡ store_at_of width a offset b }
+{
     let (ra, rb) = (base(a, offset, 5), register_of_operand(b, 6));
-    put(out, Instr::Store(store_op(width), ra, rb, rest(a, offset)))
+    Instr::Store(store_op(width), ra, rb, rest(a, offset))
 }
 
 /// The program stops at a check unless a comparison of two operands holds.
