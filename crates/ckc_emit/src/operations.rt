@@ -1,9 +1,10 @@
 //! The lines of operations without a call.
 ghost use Rattle.std.specs.Prelude.{◌≡◌, ◌<◌, ◌^◌, OnOk};
+ghost use Rattle.ckc_rv.specs.declared.instructions.Instr.TheVariants as instr;
 ghost use Rattle.ckc_frame.specs.WellFormed.{IsPlace};
 ghost use Rattle.ckc_emit.specs.code.Emitting.{Emits};
 ghost use Rattle.ckc_emit.specs.code.Operands.{IsOperand};
-ghost use Rattle.ckc_emit.specs.code.Lines.{const_lines, copy_lines, value_lines, bin_lines, form_lines, form_of, is_short as is_short_of, is_even as is_even_of, is_exchanged as is_exchanged_of, number_form as number_form_of, near_form as near_form_of, zeros_of, power_form as power_form_of, product_form as product_form_of, zero_lines, immediate_lines, register_lines, ending_lines, apply_lines, operation_of, high_lines, load_op, store_op, load_at as load_at_of, store_at as store_at_of, data_load_lines, data_store_lines, test_lines, get_lines, put_lines};
+ghost use Rattle.ckc_emit.specs.code.Lines.{const_lines, copy_lines, value_lines, bin_lines, form_lines, form_of, is_short as is_short_of, is_even as is_even_of, is_exchanged as is_exchanged_of, number_form as number_form_of, near_form as near_form_of, zeros_of, power_form as power_form_of, product_form as product_form_of, zero_lines, immediate_lines, register_lines, ending_lines, apply_lines, operation_of, high_lines, load_op, store_op, source_of, register_with, base_with, rest_of, data_load_lines, data_store_lines, test_lines, get_lines, put_lines};
 
 use crate::places::{
     PlacedOperand, base, put_address, put_fetch, put_operand, put_settle, put_take, put_write,
@@ -385,7 +386,8 @@ pub fn put_data_load(
 fn load_at(width: Width, t: Place, a: PlacedOperand, offset: u32) -> Instr
     requires t { IsPlace t }
     requires a { IsOperand a }
-    ensures { result ≡ load_at_of width t a offset }
+    ensures { result
+        ≡ instr.Load (load_op width) (source_of t 5) (base_with a offset 5) (rest_of a offset) }
 {
     let (rd, ra) = (source(t, 5), base(a, offset, 5));
     Instr::Load(load_op(width), rd, ra, rest(a, offset))
@@ -413,7 +415,8 @@ pub fn put_data_store(
 fn store_at(width: Width, a: PlacedOperand, offset: u32, b: PlacedOperand) -> Instr
     requires a { IsOperand a }
     requires b { IsOperand b }
-    ensures { result ≡ store_at_of width a offset b }
+    ensures { result
+        ≡ instr.Store (store_op width) (base_with a offset 5) (register_with b 6) (rest_of a offset) }
 {
     let (ra, rb) = (base(a, offset, 5), register_of_operand(b, 6));
     Instr::Store(store_op(width), ra, rb, rest(a, offset))

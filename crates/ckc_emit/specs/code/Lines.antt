@@ -286,23 +286,19 @@ abbrev pub rest_of : PlacedOperand → (offset : ℕ) → ℤ
 rest_of (At p) offset = lower_of offset
 rest_of (Number n) offset = lower_of (at_offset n offset)
 
--- the instructions that load and store there
-abbrev pub load_at : Width → Place → PlacedOperand → (offset : ℕ) → Instr
-load_at width t a offset =
-    Load (load_op width) (source_of t 5) (base_with a offset 5) (rest_of a offset)
-
-abbrev pub store_at : Width → PlacedOperand → (offset : ℕ) → PlacedOperand → Instr
-store_at width a offset b =
-    Store (store_op width) (base_with a offset 5) (register_with b 6) (rest_of a offset)
-
 abbrev pub data_load_lines : Width → Place → PlacedOperand → (offset : ℕ) → List Line → List Line
 data_load_lines width t a offset rest =
-    address_lines a offset 5 (Plain (load_at width t a offset) ∷ write_lines t 5 rest)
+    address_lines a offset 5
+    (Plain (Load (load_op width) (source_of t 5) (base_with a offset 5) (rest_of a offset)) ∷
+    write_lines t 5 rest)
 
 abbrev pub data_store_lines : Width → PlacedOperand → (offset : ℕ) → PlacedOperand → List Line
     → List Line
 data_store_lines width a offset b rest =
-    address_lines a offset 5 (operand_lines b 6 (Plain (store_at width a offset b) ∷ rest))
+    address_lines a offset 5
+    (operand_lines b 6
+    (Plain (Store (store_op width) (base_with a offset 5) (register_with b 6) (rest_of a offset)) ∷
+    rest))
 
 abbrev pub test_lines : Check → Pos → Comparison → PlacedOperand → PlacedOperand → List Line
     → List Line
