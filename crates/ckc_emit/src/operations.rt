@@ -416,7 +416,8 @@ fn store_at(width: Width, a: PlacedOperand, offset: u32, b: PlacedOperand) -> In
     requires a { IsOperand a }
     requires b { IsOperand b }
     ensures { result
-        ≡ instr.Store (store_op width) (base_with a offset 5) (register_with b 6) (rest_of a offset) }
+        ≡ instr.Store (store_op width) (base_with a offset 5) (register_with b 6)
+        (rest_of a offset) }
 {
     let (ra, rb) = (base(a, offset, 5), register_of_operand(b, 6));
     Instr::Store(store_op(width), ra, rb, rest(a, offset))
