@@ -3,6 +3,7 @@ pub mod PlaceAt
 pub mod Looping
 pub mod CallsEmitted
 pub mod FunctionEmitted
+pub mod Plain
 pub mod ProgramEmitted
 pub mod Turning
 pub mod Pieces
