@@ -232,9 +232,9 @@ fn is_plain(op: &TacOp) -> bool
         | TacOp::Copy(_, _)
         | TacOp::Bin(_, _, _, _)
         | TacOp::High(_, _, _, _)
-        | TacOp::Load(_, _, _)
+        | TacOp::Load(_, _, _, _)
         | TacOp::Check(_, _, _, _, _) => true,
-        TacOp::Store(_, _, _)
+        TacOp::Store(_, _, _, _)
         | TacOp::Call(_, _, _, _)
         | TacOp::Get(_)
         | TacOp::Put(_)
@@ -624,8 +624,8 @@ fn op_room(op: &TacOp) -> u32
         | TacOp::Copy(_, _)
         | TacOp::Bin(_, _, _, _)
         | TacOp::High(_, _, _, _)
-        | TacOp::Load(_, _, _)
-        | TacOp::Store(_, _, _)
+        | TacOp::Load(_, _, _, _)
+        | TacOp::Store(_, _, _, _)
         | TacOp::Get(_)
         | TacOp::Put(_) => 20,
     }

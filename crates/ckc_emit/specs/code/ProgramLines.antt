@@ -144,7 +144,7 @@ is_plain (Const t v) = true
 is_plain (Copy t a) = true
 is_plain (Bin op t a b) = true
 is_plain (High is_signed t a b) = true
-is_plain (Load width t a) = true
+is_plain (Load width t a offset) = true
 is_plain (Check check at c a b) = true
 is_plain op = false
 
