@@ -21,7 +21,7 @@ use Rattle.ckc_typed_fit.proofs.Found as found
 use Rattle.ckc_typed_welltyped.specs.Productions.{placed_head, placed_body, placed_item, placed_stmt, with_calls, spoken_tree}
 use Rattle.ckc_typed_plain.specs.Resolved.{IsResolved}
 use Rattle.ckc_typed_plain.proofs.Items.{resolved_of, flat_items}
-use Rattle.ckc_typed_plain.proofs.GivenExprs.{both, parts_of}
+use Rattle.ckc_typed_plain.proofs.GivenLevels.{both, parts_of}
 use Rattle.ckc_typed_plain.proofs.VisibleExprs.{Has, Sub, AreTame}
 use Rattle.ckc_typed_plain.proofs.VisibleStmts.{body_passes}
 

@@ -17,7 +17,7 @@ use Rattle.ckc_typed_fit.proofs.FormKept.{form_kept}
 use Rattle.ckc_typed_welltyped.specs.Productions.{callless_init, callless_expr, expr_form, placed_bounds, placed_init, placed_decl, placed_stmt, placed_body, placed_head, placed_item, with_calls, spoken_tree, given_decl, given_head, given_item, given_tree}
 use Rattle.ckc_typed_plain.specs.Resolved.{IsResolved}
 use Rattle.ckc_typed_plain.proofs.Items.{resolved_of}
-use Rattle.ckc_typed_plain.proofs.GivenExprs.{both, parts_of, empty_parts}
+use Rattle.ckc_typed_plain.proofs.GivenLevels.{both, parts_of, empty_parts}
 use Rattle.ckc_typed_plain.proofs.GivenStmts.{bounds_callless, expr_callless as callless_where_barred, body_given}
 
 module _ (known : Integers) where

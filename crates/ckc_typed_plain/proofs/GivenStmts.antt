@@ -20,7 +20,8 @@ use Rattle.ckc_plain.specs.Taken.{stmt_at, number_at, none_pending}
 use Rattle.ckc_plain.specs.Expressions.{expr_plain, whole_plain, right_plain, maybe_plain}
 use Rattle.ckc_plain.specs.Statements.{joined, placed_by, placed, OfAct, OfStmt, alone, part_alone, in_block, part_before, loop_condition, loop_body, for_condition, for_body, init_plain, local_plain, act_parts, stmt_parts, act_plain, stmt_plain}
 use Rattle.ckc_typed_welltyped.specs.Productions.{callless_bounds, callless_value, is_right, right_init, is_branch, begins, steps, Given, given_act, given_in, given_stmt, expr_form, limits_form, placed_bounds, placed_value, placed_start, placed_local, placed_act, placed_stmt, with_calls}
-use Rattle.ckc_typed_plain.proofs.GivenExprs.{ActLayer, given_of, given_inside, Callless, IsRight, is_good, AllGood, both, parts_of, empty_parts, given_at, good_at, good_of, number_without, right_callless, added, one_more, is_not, neither, all_are, Made, limits_hold, plain_made, whole_made, call_statement, right_made}
+use Rattle.ckc_typed_plain.proofs.GivenLevels.{ActLayer, given_of, given_inside, Callless, IsRight, is_good, AllGood, both, parts_of, empty_parts, given_at, good_at, good_of, number_without, right_callless, added, one_more, is_not, neither, all_are, Made}
+use Rattle.ckc_typed_plain.proofs.GivenExprs.{limits_hold, plain_made, whole_made, call_statement, right_made}
 use Rattle.ckc_typed_plain.proofs.Untouched.{limits_stay, plain_stays, right_stays}
 
 abbrev ValueCallless : Option NamedExpr → Type 0

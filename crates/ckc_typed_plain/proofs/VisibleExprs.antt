@@ -34,7 +34,7 @@ use Rattle.ckc_plain.specs.Expressions.{OfLimits, OfNode, OfExpr, rest, each_res
 use Rattle.ckc_typed.specs.Environment.{same_name}
 use Rattle.ckc_typed_fit.specs.Tests as tests
 use Rattle.ckc_typed_fit.specs.Tests.{Tests, type_passes, type_parts, limits_pass, node_passes, expr_passes, Walked, left_by, pass_in_turn, act_walked, stmt_walked, walked_act, walked}
-use Rattle.ckc_typed_plain.proofs.GivenExprs.{both, parts_of}
+use Rattle.ckc_typed_plain.proofs.GivenLevels.{both, parts_of}
 
 abbrev pub Layer : Type 0
 Layer = Node-F Name (Unit {0}) NamedLimits NamedNode NamedExpr

@@ -16,7 +16,7 @@ use Rattle.ckc_plain.specs.Expressions.{expr_plain, exprs_plain, whole_plain, ri
 use Rattle.ckc_plain.specs.Statements.{joined, placed_by, placed, OfAct, OfStmt, alone, part_alone, in_block, part_before, loop_condition, loop_body, for_condition, for_body, init_plain, local_plain, act_parts, stmt_parts, act_plain, stmt_plain}
 use Rattle.ckc_typed_welltyped.specs.Productions.{Given, is_branch, placed_act, given_in, placed_stmt, with_calls}
 use Rattle.ckc_typed_fit.specs.Tests.{Tests, type_passes, bounds_pass, init_passes, expr_passes, value_passes, decl_passes, Walked, left_by, pass_in_turn, act_walked, stmt_walked, walked_act, walked}
-use Rattle.ckc_typed_plain.proofs.GivenExprs.{both, parts_of, is_not}
+use Rattle.ckc_typed_plain.proofs.GivenLevels.{both, parts_of, is_not}
 use Rattle.ckc_typed_plain.proofs.VisibleExprs.{ActLayer, Has, Sub, sub_front, sub_back, sub_both, left_append, map_append, AreTame, bounds_more, W, At, Pass, at_append, grown, pass_more, one_pass, PE, walked_inside, walked_at, stmt_pass, number_pass, Goes, plain_goes, whole_goes, right_goes}
 
 act_out : (x : ActLayer) → out-Act Name (Unit {0}) (roll-Act Name (Unit {0}) x) ≡ x
