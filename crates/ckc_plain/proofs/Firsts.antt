@@ -35,3 +35,7 @@ turn_ends f xs i p h kept = kept ∙ ap (λ ys. first (inside_each listed f ys))
 pub first_both : (xs ys : List Pos) → first (xs ++ ys) ≡ either (first xs) (first ys)
 first_both [] ys = refl
 first_both (x ∷ xs) ys = refl
+
+-- the first of two parts, each of which gives the first of its own
+pub both_are : (r a b : Option Pos) (xs ys : List Pos) → r ≡ either a b → a ≡ first xs → b ≡ first ys → r ≡ first (xs ++ ys)
+both_are r a b xs ys e p q = e ∙ ap (λ z. either z b) p ∙ ap (λ z. either (first xs) z) q ∙ sym (first_both xs ys)
