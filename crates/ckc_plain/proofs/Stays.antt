@@ -1,6 +1,7 @@
 -- Which expressions stay as they are once their parts are plain.
 use Rattle.std.proofs.Common.{rules, ◌≡◌, refl, sym, ap, ◌∙◌, subst, Bool, true, false, if◌then◌else◌}
-use Rattle.std.specs.Prelude.{List, [], ◌∷◌, None, Some}
+use Rattle.std.specs.Prelude.{List, [], ◌∷◌, None, Some, Result, Ok, Err, IfOk}
+use Rattle.ckc_plain.specs.code.Steps.{Steps}
 use Rattle.ckc_syntax.specs.declared.tree.Name.{Name}
 use Rattle.ckc_syntax.specs.declared.tree.TreeOp.{TreeOp}
 use Rattle.ckc_syntax.specs.declared.tree.Node.{Node-F, out-Node, roll-Node, the_lemmas}
@@ -18,7 +19,7 @@ use Rattle.ckc_plain.specs.Expressions.{if_none, node_parts, binary_parts, expr_
 use Rattle.ckc_plain.specs.code.Parts.{binary_kept, right_by}
 use Rattle.ckc_plain.specs.declared.forms.Form.TheVariants as form
 use Rattle.ckc_plain.proofs.Kept.{Layer, kept_layer, kept_by}
-use Rattle.ckc_plain.proofs.KeptNodes.{unary_kept, binary_kept as binary_is}
+use Rattle.ckc_plain.proofs.KeptNodes.{unary_kept, two_kept}
 
 out_unary : (o : TreeOp) (a : NamedExpr) → out-Node Name (Unit {0}) (node.Un o a) ≡ Node-F.Un o a
 out_unary o a = search (rules, the_lemmas)
@@ -31,36 +32,36 @@ out_name n = search (rules, the_lemmas)
 
 module _ (known : Integers) where
   unary_idle : (w : Work) (a whole : NamedExpr) (p : Pending) → ((by : TreeOp) → ¬ (w ≡ work.Steps by)) → unary_taken known w a whole p ≡ (whole, p)
-  unary_idle work.Sets a whole p no = refl
-  unary_idle (work.Steps by) a whole p no = absurd (no by refl)
-  unary_idle work.IfTrue a whole p no = refl
-  unary_idle work.IfFalse a whole p no = refl
-  unary_idle work.Computes a whole p no = refl
+  unary_idle work.Sets a whole p isnt = refl
+  unary_idle (work.Steps by) a whole p isnt = absurd (isnt by refl)
+  unary_idle work.IfTrue a whole p isnt = refl
+  unary_idle work.IfFalse a whole p isnt = refl
+  unary_idle work.Computes a whole p isnt = refl
 
   binary_idle : (w : Work) (a b whole : NamedExpr) (p : Pending) → ¬ (w ≡ work.Sets) → binary_taken known w a b whole p ≡ (whole, p)
-  binary_idle work.Sets a b whole p no = absurd (no refl)
-  binary_idle (work.Steps by) a b whole p no = refl
-  binary_idle work.IfTrue a b whole p no = refl
-  binary_idle work.IfFalse a b whole p no = refl
-  binary_idle work.Computes a b whole p no = refl
+  binary_idle work.Sets a b whole p isnt = absurd (isnt refl)
+  binary_idle (work.Steps by) a b whole p isnt = refl
+  binary_idle work.IfTrue a b whole p isnt = refl
+  binary_idle work.IfFalse a b whole p isnt = refl
+  binary_idle work.Computes a b whole p isnt = refl
 
   abbrev idle : NamedExpr × Pending → Type 0
   idle m = taken known m ≡ m
 
   unary_made : (o : TreeOp) (a : NamedExpr) (pos : Pos) (p : Pending) → ((by : TreeOp) → ¬ (work_of o ≡ work.Steps by)) → idle (expr_at (node.Un o a) pos, p)
-  unary_made o a pos p no = ap (λ n. node_taken known n (expr_at (node.Un o a) pos) p) (out_unary o a) ∙ unary_idle (work_of o) a (expr_at (node.Un o a) pos) p no
+  unary_made o a pos p isnt = ap (λ n. node_taken known n (expr_at (node.Un o a) pos) p) (out_unary o a) ∙ unary_idle (work_of o) a (expr_at (node.Un o a) pos) p isnt
 
   binary_made : (o : TreeOp) (a b : NamedExpr) (pos : Pos) (p : Pending) → ¬ (work_of o ≡ work.Sets) → idle (expr_at (node.Bin o a b) pos, p)
-  binary_made o a b pos p no = ap (λ n. node_taken known n (expr_at (node.Bin o a b) pos) p) (out_binary o a b) ∙ binary_idle (work_of o) a b (expr_at (node.Bin o a b) pos) p no
+  binary_made o a b pos p isnt = ap (λ n. node_taken known n (expr_at (node.Bin o a b) pos) p) (out_binary o a b) ∙ binary_idle (work_of o) a b (expr_at (node.Bin o a b) pos) p isnt
 
   name_made : (n : Name) (pos : Pos) (p : Pending) → idle (expr_at (node.Name n) pos, p)
   name_made n pos p = ap (λ m. node_taken known m (expr_at (node.Name n) pos) p) (out_name n)
 
   -- an operator that is no step
   pub unary_stays : (e : NamedExpr) (p : Pending) (o : TreeOp) (x : NamedExpr) → e.node ≡ node.Un o x → ((by : TreeOp) → ¬ (work_of o ≡ work.Steps by)) → expr_plain known e p ≡ expr_kept known e p
-  unary_stays e p o x is no =
+  unary_stays e p o x is isnt =
       let m = expr_plain known x p in
-      ap (taken known) (unary_kept known e p o x is) ∙ unary_made o m.0 e.pos m.1 no ∙ sym (unary_kept known e p o x is)
+      ap (taken known) (unary_kept known e p o x is) ∙ unary_made o m.0 e.pos m.1 isnt ∙ sym (unary_kept known e p o x is)
 
   choose : (ss : List NamedStmt) (m k : NamedNode × Pending) (pos : Pos) → idle (expr_at m.0 pos, m.1) → idle (expr_at k.0 pos, k.1) → idle (after (if_none ss m k) (λ n q. (expr_at n pos, q)))
   choose [] m k pos a b = a
@@ -70,18 +71,18 @@ module _ (known : Integers) where
   binary_with w o x f pos p = after (binary_parts known w o (expr_kept known x) (expr_kept known f) pos p) (λ n q. (expr_at n pos, q))
 
   not_sets : (o : TreeOp) (w : Work) → w ≡ work_of o → ¬ (w ≡ work.Sets) → ¬ (work_of o ≡ work.Sets)
-  not_sets o w is no e = no (is ∙ e)
+  not_sets o w is isnt e = isnt (is ∙ e)
 
   binary_all : (w : Work) (o : TreeOp) (x f : NamedExpr) (pos : Pos) (p : Pending) → w ≡ work_of o → ¬ (w ≡ work.Sets) → idle (binary_with w o x f pos p)
-  binary_all work.Sets o x f pos p is no = absurd (no refl)
-  binary_all (work.Steps by) o x f pos p is no = binary_made o _ _ pos _ (not_sets o (work.Steps by) is no)
-  binary_all work.IfTrue o x f pos p is no = choose _ _ _ pos (binary_made o _ _ pos _ (not_sets o work.IfTrue is no)) (name_made _ pos _)
-  binary_all work.IfFalse o x f pos p is no = choose _ _ _ pos (binary_made o _ _ pos _ (not_sets o work.IfFalse is no)) (name_made _ pos _)
-  binary_all work.Computes o x f pos p is no = binary_made o _ _ pos _ (not_sets o work.Computes is no)
+  binary_all work.Sets o x f pos p is isnt = absurd (isnt refl)
+  binary_all (work.Steps by) o x f pos p is isnt = binary_made o _ _ pos _ (not_sets o (work.Steps by) is isnt)
+  binary_all work.IfTrue o x f pos p is isnt = choose _ _ _ pos (binary_made o _ _ pos _ (not_sets o work.IfTrue is isnt)) (name_made _ pos _)
+  binary_all work.IfFalse o x f pos p is isnt = choose _ _ _ pos (binary_made o _ _ pos _ (not_sets o work.IfFalse is isnt)) (name_made _ pos _)
+  binary_all work.Computes o x f pos p is isnt = binary_made o _ _ pos _ (not_sets o work.Computes is isnt)
 
   -- an operator that is no assignment
   pub binary_stays : (e : NamedExpr) (p : Pending) (o : TreeOp) (x f : NamedExpr) → e.node ≡ node.Bin o x f → ¬ (work_of o ≡ work.Sets) → expr_plain known e p ≡ expr_kept known e p
-  binary_stays e p o x f is no = ap (taken known) (binary_is known e p o x f is) ∙ binary_all (work_of o) o x f e.pos p refl no ∙ sym (binary_is known e p o x f is)
+  binary_stays e p o x f is isnt = ap (taken known) (two_kept known e p o x f is) ∙ binary_all (work_of o) o x f e.pos p refl isnt ∙ sym (two_kept known e p o x f is)
 
   -- ---- an expression is a call once its parts are plain, if it was one
 
@@ -103,25 +104,25 @@ module _ (known : Integers) where
     binary_asked work.IfFalse = other
     binary_asked work.Computes = other
 
-    abbrev no_call : NamedExpr × Pending → Type 0
-    no_call m = ask (form_of m.0) ≡ false
+    abbrev no_call : NamedExpr → Type 0
+    no_call e = ask (form_of e) ≡ false
 
-    pick_no : (ss : List NamedStmt) (m k : NamedNode × Pending) (pos : Pos) → no_call (expr_at m.0 pos, m.1) → no_call (expr_at k.0 pos, k.1) → no_call (after (if_none ss m k) (λ n q. (expr_at n pos, q)))
+    pick_no : (ss : List NamedStmt) (m k : NamedNode × Pending) (pos : Pos) → no_call (expr_at m.0 pos) → no_call (expr_at k.0 pos) → no_call (expr_at (if_none ss m k).0 pos)
     pick_no [] m k pos a b = a
     pick_no (s ∷ ss) m k pos a b = b
 
-    binary_no : (o : TreeOp) (a b : NamedExpr) (pos : Pos) (p : Pending) → no_call (expr_at (node.Bin o a b) pos, p)
-    binary_no o a b pos p = ap ask (form_at (node.Bin o a b) pos (Node-F.Bin o a b) (sym (node.rolls-Bin o a b))) ∙ binary_asked (work_of o)
+    binary_no : (o : TreeOp) (a b : NamedExpr) (pos : Pos) → no_call (expr_at (node.Bin o a b) pos)
+    binary_no o a b pos = ap ask (form_at (node.Bin o a b) pos (Node-F.Bin o a b) (sym (node.rolls-Bin o a b))) ∙ binary_asked (work_of o)
 
-    name_no : (n : Name) (pos : Pos) (p : Pending) → no_call (expr_at (node.Name n) pos, p)
-    name_no n pos p = ap ask (form_at (node.Name n) pos (Node-F.Name n) (sym (node.rolls-Name n))) ∙ named n
+    name_no : (n : Name) (pos : Pos) → no_call (expr_at (node.Name n) pos)
+    name_no n pos = ap ask (form_at (node.Name n) pos (Node-F.Name n) (sym (node.rolls-Name n))) ∙ named n
 
-    binary_none : (w : Work) (o : TreeOp) (x f : NamedExpr) (pos : Pos) (p : Pending) → no_call (binary_with w o x f pos p)
-    binary_none work.Sets o x f pos p = binary_no o _ _ pos _
-    binary_none (work.Steps by) o x f pos p = binary_no o _ _ pos _
-    binary_none work.IfTrue o x f pos p = pick_no _ _ _ pos (binary_no o _ _ pos _) (name_no _ pos _)
-    binary_none work.IfFalse o x f pos p = pick_no _ _ _ pos (binary_no o _ _ pos _) (name_no _ pos _)
-    binary_none work.Computes o x f pos p = binary_no o _ _ pos _
+    binary_none : (w : Work) (o : TreeOp) (x f : NamedExpr) (pos : Pos) (p : Pending) → no_call (binary_with w o x f pos p).0
+    binary_none work.Sets o x f pos p = binary_no o _ _ pos
+    binary_none (work.Steps by) o x f pos p = binary_no o _ _ pos
+    binary_none work.IfTrue o x f pos p = pick_no _ _ _ pos (binary_no o _ _ pos) (name_no _ pos)
+    binary_none work.IfFalse o x f pos p = pick_no _ _ _ pos (binary_no o _ _ pos) (name_no _ pos)
+    binary_none work.Computes o x f pos p = binary_no o _ _ pos
 
     abbrev kept_with : Layer → Pos → Pending → NamedExpr × Pending
     kept_with x pos p = after (node_parts known (kept_layer known x) pos p) (λ n q. (expr_at n pos, q))
@@ -156,3 +157,14 @@ module _ (known : Integers) where
 
   pub whole_is : (e : NamedExpr) (p : Pending) → whole_plain known e p ≡ (if is_call (form_of e) then expr_kept known e p else expr_plain known e p)
   whole_is e p = ap (λ b. if b then expr_kept known e p else expr_plain known e p) (asked is_call refl refl (λ n. refl) e p)
+
+  pub right_else : (target : Form) (e : NamedExpr) (p : Pending) → stays target (form_of e) ≡ false → expr_plain known e p ≡ right_by known target e p
+  right_else target e p b = sym (right_is target e p ∙ ap (λ z. if z then expr_kept known e p else expr_plain known e p) b)
+
+-- what an answer is and leaves pending, said of something equal
+pub steps_along : {A S F : Type 0} (r : Result A F) (s : S) (m k : A × S) → m ≡ k → Steps r s m → Steps r s k
+steps_along r s m k e h = subst (λ z. Steps r s z) e h
+
+pub steps_of : {A S F : Type 0} (r : Result A F) (s : S) (x : A) (m : A × S) → IfOk r (λ a. a ≡ x) → m ≡ (x, s) → Steps r s m
+steps_of {A} {S} (Ok a) s x m is e = e ∙ ap (λ (z : A). (z, s)) (sym is)
+steps_of (Err f) s x m is e = tt

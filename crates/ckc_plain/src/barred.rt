@@ -36,7 +36,6 @@ fn first_in_local(known: &Integers, d: &Decl<Name, ()>, barred: bool) -> Option<
 }
 
 /// The first effect that is refused in what a statement does.
-#[tactic(auto, using(crate::proofs::Firsts::first_both, crate::proofs::FoundNodes::right_found))]
 #[cycle(barred)]
 fn first_in_act(known: &Integers, act: &Act<Name, ()>, barred: bool) -> Option<Pos>
     ensures { result ≡ first (in_act known.now act.now barred) }

@@ -72,7 +72,6 @@ pub fn first_of(a: Option<Pos>, b: Option<Pos>) -> Option<Pos>
 }
 
 /// The first effect that is refused in the parts of an expression.
-#[tactic(auto, using(crate::proofs::Firsts::first_both, crate::proofs::FoundNodes::right_found))]
 #[cycle(effects)]
 fn first_inside(known: &Integers, e: &Expr<Name, ()>, barred: bool) -> Option<Pos>
     ensures { result ≡ first ((found_in known.now e.now).inside barred) }
@@ -176,7 +175,6 @@ pub fn first_in_bounds(known: &Integers, bounds: &Option<Boxed<Limits<Name, ()>>
     }
 }
 
-#[tactic(auto, using(crate::proofs::Firsts::first_both))]
 #[cycle(effects)]
 fn first_in_limits(known: &Integers, limits: &Limits<Name, ()>) -> Option<Pos>
     ensures { result ≡ first (in_limits known.now limits.now) }

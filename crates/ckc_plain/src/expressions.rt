@@ -277,7 +277,6 @@ fn kept(
 }
 
 /// An expression without any effect.
-#[tactic(auto, using(crate::proofs::Stays::unary_stays, crate::proofs::Stays::binary_stays))]
 #[cycle(plain)]
 pub fn plain_expr(
     alloc: Global,
@@ -312,7 +311,6 @@ pub fn plain_expr(
 }
 
 /// The right side of an assignment to a target.
-#[tactic(auto, using(crate::proofs::Stays::right_is))]
 #[cycle(plain)]
 pub fn right_expr(
     alloc: Global,

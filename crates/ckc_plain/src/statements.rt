@@ -206,7 +206,6 @@ fn plain_assign(
 }
 
 /// What a statement does.
-#[tactic(auto, using(crate::proofs::KeptActs::for_made))]
 #[cycle(plain)]
 fn plain_act(
     alloc: Global,
