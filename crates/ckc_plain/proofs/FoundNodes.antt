@@ -91,7 +91,7 @@ module _ (known : Integers) where
       ap (λ f. f.itself b) (found_out e)
       ∙ ap (λ r. if r then e.pos ∷ [] else []) (refused_layer (out-Node Name (Unit {0}) e.node) b)
 
-  -- the right side of an assignment, and what is isnt effect if it is a call
+  -- the right side of an assignment, and what is no effect if it is a call
   pub right_found : (x e : NamedExpr) (b : Bool) → in_right known x e b ≡ right_by known (form_of x) e b
   right_found x e b =
       ap (λ f. if stays f (found_in known e).form then (found_in known e).inside b else in_expr known e b) (form_found x)
@@ -101,11 +101,11 @@ module _ (known : Integers) where
   whole_found e b = ap (λ f. if is_call f then (found_in known e).inside b else in_expr known e b) (form_found e)
 
   others_inside : (w : Work) (x e : NamedExpr) (b : Bool) → ¬ (w ≡ work.Sets) → binary_inside w (found_in known x) (found_in known e) b ≡ in_expr known x b ++ in_expr known e b
-  others_inside work.Sets x e b isnt = absurd (isnt refl)
-  others_inside (work.Steps by) x e b isnt = refl
-  others_inside work.IfTrue x e b isnt = refl
-  others_inside work.IfFalse x e b isnt = refl
-  others_inside work.Computes x e b isnt = refl
+  others_inside work.Sets x e b differs = absurd (differs refl)
+  others_inside (work.Steps by) x e b differs = refl
+  others_inside work.IfTrue x e b differs = refl
+  others_inside work.IfFalse x e b differs = refl
+  others_inside work.Computes x e b differs = refl
 
   module _ (e : NamedExpr) (b : Bool) where
     abbrev inside : List Pos
@@ -156,7 +156,7 @@ module _ (known : Integers) where
         ∙ ap (λ r. in_expr known x true ++ r) (right_found x f b)
 
     pub others_found : (o : TreeOp) (x f : NamedExpr) → e.node ≡ node.Bin o x f → ¬ (work_of o ≡ work.Sets) → inside ≡ in_expr known x b ++ in_expr known f b
-    others_found o x f is isnt = by (Node-F.Bin o x f) (is ∙ sym (node.rolls-Bin o x f)) ∙ others_inside (work_of o) x f b isnt
+    others_found o x f is differs = by (Node-F.Bin o x f) (is ∙ sym (node.rolls-Bin o x f)) ∙ others_inside (work_of o) x f b differs
 
     pub call_inside : (n : Name) (es : List NamedExpr) → e.node ≡ node.Call n es → inside ≡ in_exprs known es b
     call_inside n es is = by (Node-F.Call n es) (is ∙ sym (node.rolls-Call n es)) ∙ each_found listed (λ f. all_in f b) (found_in known) es

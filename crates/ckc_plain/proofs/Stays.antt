@@ -15,7 +15,7 @@ use Rattle.ckc_plain.specs.declared.forms.Work.TheVariants as work
 use Rattle.ckc_plain.specs.declared.forms.Form.{Form}
 use Rattle.ckc_plain.specs.Forms.{work_of, form_of, form_of_layer, binary_form, unary_form, is_call, stays}
 use Rattle.ckc_plain.specs.Taken.{expr_at, after, taken, node_taken, unary_taken, binary_taken}
-use Rattle.ckc_plain.specs.Expressions.{if_none, node_parts, binary_parts, expr_kept, expr_plain, whole_plain}
+use Rattle.ckc_plain.specs.Expressions.{if_none, node_parts, binary_parts, limits_plain, expr_kept, expr_plain, whole_plain}
 use Rattle.ckc_plain.specs.code.Parts.{binary_kept, right_by}
 use Rattle.ckc_plain.specs.declared.forms.Form.TheVariants as form
 use Rattle.ckc_plain.proofs.Kept.{Layer, kept_layer, kept_by}
@@ -32,36 +32,36 @@ out_name n = search (rules, the_lemmas)
 
 module _ (known : Integers) where
   unary_idle : (w : Work) (a whole : NamedExpr) (p : Pending) → ((by : TreeOp) → ¬ (w ≡ work.Steps by)) → unary_taken known w a whole p ≡ (whole, p)
-  unary_idle work.Sets a whole p isnt = refl
-  unary_idle (work.Steps by) a whole p isnt = absurd (isnt by refl)
-  unary_idle work.IfTrue a whole p isnt = refl
-  unary_idle work.IfFalse a whole p isnt = refl
-  unary_idle work.Computes a whole p isnt = refl
+  unary_idle work.Sets a whole p differs = refl
+  unary_idle (work.Steps by) a whole p differs = absurd (differs by refl)
+  unary_idle work.IfTrue a whole p differs = refl
+  unary_idle work.IfFalse a whole p differs = refl
+  unary_idle work.Computes a whole p differs = refl
 
   binary_idle : (w : Work) (a b whole : NamedExpr) (p : Pending) → ¬ (w ≡ work.Sets) → binary_taken known w a b whole p ≡ (whole, p)
-  binary_idle work.Sets a b whole p isnt = absurd (isnt refl)
-  binary_idle (work.Steps by) a b whole p isnt = refl
-  binary_idle work.IfTrue a b whole p isnt = refl
-  binary_idle work.IfFalse a b whole p isnt = refl
-  binary_idle work.Computes a b whole p isnt = refl
+  binary_idle work.Sets a b whole p differs = absurd (differs refl)
+  binary_idle (work.Steps by) a b whole p differs = refl
+  binary_idle work.IfTrue a b whole p differs = refl
+  binary_idle work.IfFalse a b whole p differs = refl
+  binary_idle work.Computes a b whole p differs = refl
 
   abbrev idle : NamedExpr × Pending → Type 0
   idle m = taken known m ≡ m
 
   unary_made : (o : TreeOp) (a : NamedExpr) (pos : Pos) (p : Pending) → ((by : TreeOp) → ¬ (work_of o ≡ work.Steps by)) → idle (expr_at (node.Un o a) pos, p)
-  unary_made o a pos p isnt = ap (λ n. node_taken known n (expr_at (node.Un o a) pos) p) (out_unary o a) ∙ unary_idle (work_of o) a (expr_at (node.Un o a) pos) p isnt
+  unary_made o a pos p differs = ap (λ n. node_taken known n (expr_at (node.Un o a) pos) p) (out_unary o a) ∙ unary_idle (work_of o) a (expr_at (node.Un o a) pos) p differs
 
   binary_made : (o : TreeOp) (a b : NamedExpr) (pos : Pos) (p : Pending) → ¬ (work_of o ≡ work.Sets) → idle (expr_at (node.Bin o a b) pos, p)
-  binary_made o a b pos p isnt = ap (λ n. node_taken known n (expr_at (node.Bin o a b) pos) p) (out_binary o a b) ∙ binary_idle (work_of o) a b (expr_at (node.Bin o a b) pos) p isnt
+  binary_made o a b pos p differs = ap (λ n. node_taken known n (expr_at (node.Bin o a b) pos) p) (out_binary o a b) ∙ binary_idle (work_of o) a b (expr_at (node.Bin o a b) pos) p differs
 
   name_made : (n : Name) (pos : Pos) (p : Pending) → idle (expr_at (node.Name n) pos, p)
   name_made n pos p = ap (λ m. node_taken known m (expr_at (node.Name n) pos) p) (out_name n)
 
   -- an operator that is no step
   pub unary_stays : (e : NamedExpr) (p : Pending) (o : TreeOp) (x : NamedExpr) → e.node ≡ node.Un o x → ((by : TreeOp) → ¬ (work_of o ≡ work.Steps by)) → expr_plain known e p ≡ expr_kept known e p
-  unary_stays e p o x is isnt =
+  unary_stays e p o x is differs =
       let m = expr_plain known x p in
-      ap (taken known) (unary_kept known e p o x is) ∙ unary_made o m.0 e.pos m.1 isnt ∙ sym (unary_kept known e p o x is)
+      ap (taken known) (unary_kept known e p o x is) ∙ unary_made o m.0 e.pos m.1 differs ∙ sym (unary_kept known e p o x is)
 
   choose : (ss : List NamedStmt) (m k : NamedNode × Pending) (pos : Pos) → idle (expr_at m.0 pos, m.1) → idle (expr_at k.0 pos, k.1) → idle (after (if_none ss m k) (λ n q. (expr_at n pos, q)))
   choose [] m k pos a b = a
@@ -71,18 +71,18 @@ module _ (known : Integers) where
   binary_with w o x f pos p = after (binary_parts known w o (expr_kept known x) (expr_kept known f) pos p) (λ n q. (expr_at n pos, q))
 
   not_sets : (o : TreeOp) (w : Work) → w ≡ work_of o → ¬ (w ≡ work.Sets) → ¬ (work_of o ≡ work.Sets)
-  not_sets o w is isnt e = isnt (is ∙ e)
+  not_sets o w is differs e = differs (is ∙ e)
 
   binary_all : (w : Work) (o : TreeOp) (x f : NamedExpr) (pos : Pos) (p : Pending) → w ≡ work_of o → ¬ (w ≡ work.Sets) → idle (binary_with w o x f pos p)
-  binary_all work.Sets o x f pos p is isnt = absurd (isnt refl)
-  binary_all (work.Steps by) o x f pos p is isnt = binary_made o _ _ pos _ (not_sets o (work.Steps by) is isnt)
-  binary_all work.IfTrue o x f pos p is isnt = choose _ _ _ pos (binary_made o _ _ pos _ (not_sets o work.IfTrue is isnt)) (name_made _ pos _)
-  binary_all work.IfFalse o x f pos p is isnt = choose _ _ _ pos (binary_made o _ _ pos _ (not_sets o work.IfFalse is isnt)) (name_made _ pos _)
-  binary_all work.Computes o x f pos p is isnt = binary_made o _ _ pos _ (not_sets o work.Computes is isnt)
+  binary_all work.Sets o x f pos p is differs = absurd (differs refl)
+  binary_all (work.Steps by) o x f pos p is differs = binary_made o _ _ pos _ (not_sets o (work.Steps by) is differs)
+  binary_all work.IfTrue o x f pos p is differs = choose _ _ _ pos (binary_made o _ _ pos _ (not_sets o work.IfTrue is differs)) (name_made _ pos _)
+  binary_all work.IfFalse o x f pos p is differs = choose _ _ _ pos (binary_made o _ _ pos _ (not_sets o work.IfFalse is differs)) (name_made _ pos _)
+  binary_all work.Computes o x f pos p is differs = binary_made o _ _ pos _ (not_sets o work.Computes is differs)
 
   -- an operator that is no assignment
   pub binary_stays : (e : NamedExpr) (p : Pending) (o : TreeOp) (x f : NamedExpr) → e.node ≡ node.Bin o x f → ¬ (work_of o ≡ work.Sets) → expr_plain known e p ≡ expr_kept known e p
-  binary_stays e p o x f is isnt = ap (taken known) (two_kept known e p o x f is) ∙ binary_all (work_of o) o x f e.pos p refl isnt ∙ sym (two_kept known e p o x f is)
+  binary_stays e p o x f is differs = ap (taken known) (two_kept known e p o x f is) ∙ binary_all (work_of o) o x f e.pos p refl differs ∙ sym (two_kept known e p o x f is)
 
   -- ---- an expression is a call once its parts are plain, if it was one
 
@@ -141,10 +141,16 @@ module _ (known : Integers) where
     layer_asked (Node-F.Size t) pos p = ap ask (form_at _ pos (Node-F.Size _) (sym (node.rolls-Size _)))
     layer_asked (Node-F.Call n es) pos p = ap ask (form_at _ pos (Node-F.Call _ _) (sym (node.rolls-Call _ _)))
     layer_asked (Node-F.Calloc t x u) pos p = ap ask (form_at _ pos (Node-F.Calloc _ _ _) (sym (node.rolls-Calloc _ _ _)))
-    layer_asked (Node-F.Trusted t x None) pos p = ap ask (form_at _ pos (Node-F.Trusted _ _ _) (sym (node.rolls-Trusted _ _ _)))
-    layer_asked (Node-F.Trusted t x (Some l)) pos p = ap ask (form_at _ pos (Node-F.Trusted _ _ _) (sym (node.rolls-Trusted _ _ _)))
-    layer_asked (Node-F.Tested t x None) pos p = ap ask (form_at _ pos (Node-F.Tested _ _ _) (sym (node.rolls-Tested _ _ _)))
-    layer_asked (Node-F.Tested t x (Some l)) pos p = ap ask (form_at _ pos (Node-F.Tested _ _ _) (sym (node.rolls-Tested _ _ _)))
+    layer_asked (Node-F.Trusted t x None) pos p = ap ask (form_at _ pos (Node-F.Trusted t (expr_plain known x p).0 None) (sym (node.rolls-Trusted t (expr_plain known x p).0 None)))
+    layer_asked (Node-F.Trusted t x (Some l)) pos p =
+        let q = expr_plain known x p in
+        let k = (limits_plain known l q.1).0 in
+        ap ask (form_at _ pos (Node-F.Trusted t q.0 (Some k)) (sym (node.rolls-Trusted t q.0 (Some k))))
+    layer_asked (Node-F.Tested t x None) pos p = ap ask (form_at _ pos (Node-F.Tested t (expr_plain known x p).0 None) (sym (node.rolls-Tested t (expr_plain known x p).0 None)))
+    layer_asked (Node-F.Tested t x (Some l)) pos p =
+        let q = expr_plain known x p in
+        let k = (limits_plain known l q.1).0 in
+        ap ask (form_at _ pos (Node-F.Tested t q.0 (Some k)) (sym (node.rolls-Tested t q.0 (Some k))))
     layer_asked (Node-F.Bin o x f) pos p = binary_none (work_of o) o x f pos p ∙ sym (binary_asked (work_of o))
 
     asked : (e : NamedExpr) (p : Pending) → ask (form_of (expr_kept known e p).0) ≡ ask (form_of e)
