@@ -190,8 +190,8 @@ set_of op.Set e = refl
 set_of _ e = absurd cc
 
 not_set : (o : TreeOp) (w : Work) → work_of o ≡ w → w ≢ work.Sets → is_set o ≡ false
-not_set op.Set w is no = absurd (no (sym is))
-not_set _ w is no = refl
+not_set op.Set w is differs = absurd (differs (sym is))
+not_set _ w is differs = refl
 
 none_there : {X : Type 0} (o : Option X) → o ≡ None → is_none o ≡ true
 none_there None e = refl
@@ -286,8 +286,8 @@ module _ (known : Integers) where
   second_or false b false e f = f
 
   built_stay : (t u c : Kind) → is_name t ≡ false → stays t c ≡ true → stays u c ≡ true
-  built_stay t u (form.Call n) no s = second_or (is_name t) (is_built_in n) (is_name u) no s
-  built_stay t u _ no s = absurd cc
+  built_stay t u (form.Call n) un s = second_or (is_name t) (is_built_in n) (is_name u) un s
+  built_stay t u _ un s = absurd cc
 
   module _ (f : Form) (d : Found) (k : OfExpr) (h : Holds f d k) where
     -- without its effect, or as a `calloc`
@@ -363,7 +363,7 @@ module _ (known : Integers) where
 
   -- ---- by parts
 
-  record MadeLimits (r : NamedLimits × Pending) : Type 0 where
+  pub record MadeLimits (r : NamedLimits × Pending) : Type 0 where
     is : callless_limits r.0 ≡ true
     pending : AllGood r.1.stmts
 
@@ -534,6 +534,9 @@ module _ (known : Integers) where
       (without (Node-F.Bin op.Ne b.0 (number_at 0 pos)) _ pos (node.rolls-Bin op.Ne b.0 (number_at 0 pos)) (both _ _ m.is (number_without 0 pos)))))))
       (block_declares _ pos))))
 
+  local_same : (n : ℕ) (pos : Pos) (q : Pending) → taken known (local_at n pos, q) ≡ (local_at n pos, q)
+  local_same n pos q = ap (λ z. node_taken known z (local_at n pos) q) (layer_of (Node-F.Name (name.Local n)) _ (node.rolls-Name (name.Local n)))
+
   -- what `&&` and `||` become is no call, and no effect
   choice_plain : (o : TreeOp) (w : Work) → work_of o ≡ w → forms.binary_form w ≡ form.Other → ((x e whole : NamedExpr) (q : Pending) → binary_taken known w x e whole q ≡ (whole, q))
       → (start : ℕ) (chosen : NamedExpr → NamedStmt → Pos → NamedStmt) (pos : Pos) (a : NamedExpr) (b : NamedExpr × Pending) (p : Pending)
@@ -547,7 +550,7 @@ module _ (known : Integers) where
       )
       (
         ap forms.is_call (local_form p.next pos),
-        ap (λ z. node_taken known z (local_at p.next pos) _) (layer_of (Node-F.Name (name.Local p.next)) _ (node.rolls-Name (name.Local p.next))),
+        local_same p.next pos _,
       )
 
   module _ (o : TreeOp) (k j : KeptExpr) (pos : Pos) where
@@ -575,8 +578,8 @@ module _ (known : Integers) where
     inside_is : (w : Work) → work_of o ≡ w → (b : Bool) → found.inside b ≡ effects.binary_inside w (found_in known k.0) (found_in known j.0) b
     inside_is w is b = ap (λ v. effects.binary_inside v (found_in known k.0) (found_in known j.0) b) is
 
-    form_is : (w : Work) → work_of o ≡ w → found.form ≡ forms.binary_form w
-    form_is w is = ap forms.binary_form is
+    found_is : (w : Work) → work_of o ≡ w → found.form ≡ forms.binary_form w
+    found_is w is = ap forms.binary_form is
 
     computed : (w : Work) → work_of o ≡ w → forms.binary_form w ≡ form.Other
         → ((p : Pending) → binary_parts known w o (expr_kept known k.0) (expr_kept known j.0) pos p ≡ (node.Bin o (first p).0 (second p).0, (second p).1))
@@ -584,7 +587,7 @@ module _ (known : Integers) where
         → ((b : Bool) → effects.binary_inside w (found_in known k.0) (found_in known j.0) b ≡ all_in (found_in known k.0) b ++ all_in (found_in known j.0) b)
         → Says_as false w
     computed w is other parts same inside =
-        ordinary ((expr_form k.0).inner && (expr_form j.0).inner) found (λ p. at_place (binary_parts known w o (expr_kept known k.0) (expr_kept known j.0) pos p) pos) (form_is w is ∙ other)
+        ordinary ((expr_form k.0).inner && (expr_form j.0).inner) found (λ p. at_place (binary_parts known w o (expr_kept known k.0) (expr_kept known j.0) pos p) pos) (found_is w is ∙ other)
         (λ p. subst (λ r. Plainly (at_place r pos)) (sym (parts p))
         (plainly (Node-F.Bin o (first p).0 (second p).0) _ pos (second p).1 (node.rolls-Bin o (first p).0 (second p).0) (ap forms.binary_form is ∙ other)
         (ap (λ v. binary_taken known v (first p).0 (second p).0 (expr_at (node.Bin o (first p).0 (second p).0) pos) (second p).1) is ∙ same _ _ _ _)))
@@ -602,7 +605,7 @@ module _ (known : Integers) where
         → Says_as false w
     chosen_holds w is other start chosen good parts same inside =
         other_holds ((expr_form k.0).inner && (expr_form j.0).inner) found (λ p. at_place (binary_parts known w o (expr_kept known k.0) (expr_kept known j.0) pos p) pos)
-        (subst IsOther (sym (form_is w is ∙ other)) other_is)
+        (subst IsOther (sym (found_is w is ∙ other)) other_is)
         (λ p. subst (λ r. forms.is_call (form_of (at_place r pos).0) ≡ false) (sym (parts p)) (choice_plain o w is other same start chosen pos _ _ _).0)
         (λ b f e p g.
         let hs = parts_of (expr_form k.0).inner (expr_form j.0).inner f in
@@ -622,7 +625,7 @@ module _ (known : Integers) where
 
     sets : work_of o ≡ work.Sets → Says_as true work.Sets
     sets is =
-        other_holds ((expr_form k.0).inner && (expr_form j.0).right) found (λ p. (assigned p, (value p).1)) (subst IsOther (sym (form_is work.Sets is)) set_is)
+        other_holds ((expr_form k.0).inner && (expr_form j.0).right) found (λ p. (assigned p, (value p).1)) (subst IsOther (sym (found_is work.Sets is)) set_is)
         (λ p. ap (λ z. forms.is_call (form_of_layer z)) (layer_of (Node-F.Bin o (first p).0 (value p).0) _ (node.rolls-Bin o (first p).0 (value p).0)) ∙ ap (λ v. forms.is_call (forms.binary_form v)) is)
         (λ b f e p g.
         let hs = parts_of (expr_form k.0).inner (expr_form j.0).right f in

@@ -1,6 +1,6 @@
 -- Statements without effects in their expressions have calls as a whole alone, and stand where they may, if those with
 -- effects have the form that the grammar gives and no effect in them is refused.
-use Rattle.std.proofs.Common.{◌≡◌, ◌∙◌, sym, ap, refl, subst, Bool, true, false, ◌&&◌, ◌||◌, nat_le, ℕ, ◌+◌, List, [], ◌∷◌, ◌++◌, map, length}
+use Rattle.std.proofs.Common.{◌≡◌, ◌∙◌, sym, ap, refl, subst, Bool, true, false, ◌&&◌, ◌||◌, nat_le, ℕ, suc, ◌+◌, List, [], ◌∷◌, ◌++◌, map, length}
 use Rattle.std.specs.Prelude.{Option, Some, None, not, if◌then◌else◌}
 use Rattle.std.specs.List.{list_all}
 use Rattle.ckc_base.specs.declared.places.Pos.{Pos}
@@ -304,7 +304,7 @@ module _ (known : Integers) where
       let one : placed r.1.stmts r.0 ≡ r.0 ∷ [] = ap (λ ss. placed ss r.0) (k.1.quiet gs.1 es.0 (none_pending n)) ∙ placed_none r.0 in
       let branch = (like_alone (spoken k) (given_stmt r.0) m.like).branch (is_not (spoken k).declares (parts_of (spoken k).nested (not (spoken k).declares) ws.0).1) in
       subst (λ ts. BundleMade (k ∷ ks) (ts ++ rest)) (sym one) (record {
-        many = ap (λ n. n + 1) more.many;
+        many = ap suc more.many;
         assign = both _ _ (both _ _ m.like.fine (m.like.assigns ∙ gs.1)) more.assign;
         branch = both _ _ branch more.branch;
         jumps = ap (λ b. b || inside_each one_has (λ (g : Given). g.jumps) (map given_stmt rest)) m.like.jumps ∙ ap (λ b. (spoken k).jumps || b) more.jumps;
@@ -361,7 +361,7 @@ module _ (known : Integers) where
   act_says (Act-F.Block m ks) = record {
     made = λ b f w none p g.
         let l = block_made ks b f w none p.next in
-        act_made (Act-F.Block m (in_block (map (stmt_plain known) (firsts ks)) p.next).0) _ _ _ (act.rolls-Block m _) (record { fine = l.fine; nested = l.nested; declares = refl; assigns = refl; jumps = l.jumps }) g;
+        act_made (Act-F.Block m _) _ _ _ (act.rolls-Block m _) (record { fine = l.fine; nested = l.nested; declares = refl; assigns = refl; jumps = l.jumps }) g;
     quiet = λ a none p. absurd (cc);
   }
   act_says Act-F.Empty = record {
@@ -531,7 +531,7 @@ module _ (known : Integers) where
     made = λ b f w none p g.
         let fs = parts_of (nat_le 2 (length (map (placed_stmt with_calls) (firsts ks)))) (list_all (λ (x : Given). x.fine && x.assigns) (map (placed_stmt with_calls) (firsts ks))) f in
         let m = bundle_made ks fs.1 w none p.next in
-        act_made (Act-F.Bundle (in_block (map (stmt_plain known) (firsts ks)) p.next).0) _ _ _ (act.rolls-Bundle _)
+        act_made (Act-F.Bundle _) _ _ _ (act.rolls-Bundle _)
         (record { fine = both _ _ (ap (nat_le 2) m.many ∙ fs.0) m.assign; nested = m.branch; declares = refl; assigns = refl; jumps = m.jumps }) g;
     quiet = λ a none p. absurd (cc);
   }

@@ -357,14 +357,14 @@ module _ (T : Tests) (tame : AreTame T) where
     bundle_says : (ks : List KeptStmt) (vs ws : List Name) (p : Pending) → pass_in_turn (map V (firsts ks)) vs ≡ true → inside_each all_have is_branch (map (placed_stmt with_calls) (firsts ks)) ≡ true → Sub vs (A ws p.stmts) → P ws p.stmts
         → GoesAct ws p (act_walked T (walked_inside T tame (Act-F.Bundle (firsts ks)))) (placed_act with_calls (given_inside (Act-F.Bundle (firsts ks)))) (act_parts known (act_inside (Act-F.Bundle (firsts ks))) p)
     bundle_says ks vs ws p h w s g =
-        made ws p p _ _ (Act-F.Bundle (in_block (map (stmt_plain known) (firsts ks)) p.next).0) _ (act.rolls-Bundle _) refl
+        made ws p p _ _ (Act-F.Bundle _) _ (act.rolls-Bundle _) refl
         (λ us f. block_goes ks vs us h (branch_each ks w) (through vs (A ws p.stmts) us s f) p.next)
         (bundle_made_leaves ks vs (A ws p.stmts) h w s p.next ∙ sym (bundle_leaves ks w)) g (λ n k. k)
 
     act_says : (y : Act-F Name (Unit {0}) KeptAct KeptStmt) → Says (inner_act y)
     act_says (Act-F.Block m ks) = record {
       goes = λ vs ws p h w s g.
-          made ws p p _ _ (Act-F.Block m (in_block (map (stmt_plain known) (firsts ks)) p.next).0) _ (act.rolls-Block m _) refl (λ us f. block_goes ks vs us h w (through vs (A ws p.stmts) us s f) p.next) refl g (λ n k. k);
+          made ws p p _ _ (Act-F.Block m _) _ (act.rolls-Block m _) refl (λ us f. block_goes ks vs us h w (through vs (A ws p.stmts) us s f) p.next) refl g (λ n k. k);
       none = λ w d. refl;
     }
     act_says Act-F.Empty = record { goes = λ vs ws p h w s g. made ws p p _ _ Act-F.Empty _ act.rolls-Empty refl (λ us f. refl) refl g (λ n k. k); none = λ w d. refl }
