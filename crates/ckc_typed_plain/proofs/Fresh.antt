@@ -1,5 +1,5 @@
 -- Lists of numbers, by how often each number is in them, and numbers that are made one after another.
-use Rattle.std.proofs.Common.{◌≡◌, ◌∙◌, sym, ap, refl, subst, Bool, true, false, ℕ, ◌+◌, ◌≤◌, List, [], ◌∷◌, ◌++◌, length, length-append, eqb, arith}
+use Rattle.std.proofs.Common.{◌≡◌, ◌∙◌, sym, ap, refl, subst, Bool, true, false, ℕ, zero, suc, ◌+◌, ◌≤◌, List, [], ◌∷◌, ◌++◌, length, length-append, eqb, arith}
 use Rattle.std.specs.Prelude.{if◌then◌else◌}
 use Rattle.std.specs.List.Sorted.{IsPermutation}
 use Rattle.std.proofs.lemmas.Bool.{eqb-true, eq-eqb}
@@ -87,19 +87,32 @@ behind_another k l m ns ms p q =
 
 -- ---- what is added
 
--- Each number is so much more often in what there is then as it is in those that go from one on, up to another one.
+-- How often something is in a list of numbers: 0 stands for what is no number, and the next of a number for the number.
+abbrev pub hits : ℕ → List ℕ → ℕ
+hits zero ns = 0
+hits (suc n) ns = times n ns
+
+hits_none : (i : ℕ) → hits i [] ≡ 0
+hits_none zero = refl
+hits_none (suc n) = refl
+
+pub hits_append : (i : ℕ) (xs ys : List ℕ) → hits i (xs ++ ys) ≡ hits i xs + hits i ys
+hits_append zero xs ys = refl
+hits_append (suc n) xs ys = times_append n xs ys
+
+-- Each is so much more often in what there is then as it is in the numbers that go from one on, up to another one.
 pub record Adds (from to : ℕ) (before then : ℕ → ℕ) : Type 0 where
   pub new : List ℕ
   pub counted : Counted from new to
-  pub is : (n : ℕ) → then n ≡ before n + times n new
+  pub is : (n : ℕ) → then n ≡ before n + hits n new
 
 pub adds_none : (k : ℕ) (f g : ℕ → ℕ) → ((n : ℕ) → g n ≡ f n) → Adds k k f g
-adds_none k f g h = record { new = []; counted = nothing k; is = λ n. put (f n) (g n) (h n) }
+adds_none k f g h = record { new = []; counted = nothing k; is = λ n. put (f n) (g n) (hits n []) (h n) (hits_none n) }
   where
-    put : (a b : ℕ) → b ≡ a → b ≡ a + 0
-    put a b e = omega (arith, e)
+    put : (a b c : ℕ) → b ≡ a → c ≡ 0 → b ≡ a + c
+    put a b c e d = omega (arith, e, d)
 
-pub adds_one : (k : ℕ) (f g : ℕ → ℕ) → ((n : ℕ) → g n ≡ f n + times n (k ∷ [])) → Adds k (k + 1) f g
+pub adds_one : (k : ℕ) (f g : ℕ → ℕ) → ((n : ℕ) → g n ≡ f n + hits n (k ∷ [])) → Adds k (k + 1) f g
 adds_one k f g h = record { new = k ∷ []; counted = record { counts = (refl, tt); many = refl }; is = h }
 
 -- first the one and then the other
@@ -107,7 +120,7 @@ pub adds_both : (a b c : ℕ) (f g h k before then : ℕ → ℕ) → Adds a b f
 adds_both a b c f g h k before then p q joins = record {
   new = p.new ++ q.new;
   counted = behind_another a b c p.new q.new p.counted q.counted;
-  is = λ n. put (f n) (g n) (h n) (k n) (before n) (then n) (times n p.new) (times n q.new) (times n (p.new ++ q.new)) (p.is n) (q.is n) (joins n) (times_append n p.new q.new);
+  is = λ n. put (f n) (g n) (h n) (k n) (before n) (then n) (hits n p.new) (hits n q.new) (hits n (p.new ++ q.new)) (p.is n) (q.is n) (joins n) (hits_append n p.new q.new);
 }
   where
     put : (f g h k x y s t u : ℕ) → g ≡ f + s → k ≡ h + t → y + (f + h) ≡ x + (g + k) → u ≡ s + t → y ≡ x + u
@@ -118,14 +131,8 @@ pub adds_as : (a b : ℕ) (f g before then : ℕ → ℕ) → Adds a b f g → (
 adds_as a b f g before then p joins = record {
   new = p.new;
   counted = p.counted;
-  is = λ n. put (f n) (g n) (before n) (then n) (times n p.new) (p.is n) (joins n);
+  is = λ n. put (f n) (g n) (before n) (then n) (hits n p.new) (p.is n) (joins n);
 }
   where
     put : (f g x y s : ℕ) → g ≡ f + s → y + f ≡ x + g → y ≡ x + s
     put f g x y s c e = omega (arith, c, e)
-
--- the numbers from 0 on and those that go on from there are those from 0 on
-pub numbered_on : (m k : ℕ) (own all : List ℕ) → CountsFrom 0 own → m ≡ length own → Adds m k (λ n. times n own) (λ n. times n all) → AreNumbered all
-numbered_on m k own all h e a =
-    let c : m ≡ 0 + length own = omega (arith, e) in
-    (own ++ a.new, counts_append 0 own a.new h (subst (λ n. CountsFrom n a.new) c a.counted.counts), as_often (own ++ a.new) all (λ n. times_append n own a.new ∙ sym (a.is n)))

@@ -1,9 +1,9 @@
 -- What is pending after an expression declares the locals that were pending before, and fresh ones, each once: those from
 -- the next number on.
-use Rattle.std.proofs.Common.{◌≡◌, ◌∙◌, sym, ap, refl, subst, Bool, true, false, ℕ, ◌+◌, List, [], ◌∷◌, ◌++◌, map, append-nil, arith}
+use Rattle.std.proofs.Common.{◌≡◌, ◌∙◌, sym, ap, refl, subst, Bool, true, false, ℕ, zero, suc, ◌+◌, List, [], ◌∷◌, ◌++◌, map, append-nil, arith}
 use Rattle.std.specs.Prelude.{Option, Some, None, if◌then◌else◌}
 use Rattle.ckc_base.specs.declared.places.Pos.{Pos}
-use Rattle.ckc_syntax.specs.Inside.{listed, inside_each}
+use Rattle.ckc_syntax.specs.Inside.{listed, inside_each, inside_run}
 use Rattle.ckc_syntax.specs.declared.tree.Name.{Name}
 use Rattle.ckc_syntax.specs.declared.tree.Name.TheVariants as name
 use Rattle.ckc_syntax.specs.declared.tree.TreeOp.{TreeOp}
@@ -12,10 +12,10 @@ use Rattle.ckc_syntax.specs.declared.tree.Limits.{Limits-F, map-Limits, ind-Limi
 use Rattle.ckc_syntax.specs.declared.tree.Node.{Node-F, map-Node, out-Node, roll-Node, fold-roll-Node}
 use Rattle.ckc_syntax.specs.declared.tree.Node.TheVariants as node
 use Rattle.ckc_syntax.specs.declared.tree.Expr.{Expr-F, map-Expr, ind-Expr, roll-Expr, fold-roll-Expr}
-use Rattle.ckc_syntax.specs.declared.tree.Act.{Act-F, map-Act, roll-Act, fold-Act, fold-roll-Act}
+use Rattle.ckc_syntax.specs.declared.tree.Act.{Act-F, map-Act, roll-Act, fold-roll-Act}
 use Rattle.ckc_syntax.specs.declared.tree.Act.TheVariants as act
 use Rattle.ckc_syntax.specs.declared.tree.Stmt.{fold-roll-Stmt}
-use Rattle.ckc_syntax.specs.Trees.{NamedLimits, NamedNode, NamedExpr, NamedStmt, NamedAct}
+use Rattle.ckc_syntax.specs.Trees.{NamedDecl, NamedLimits, NamedNode, NamedExpr, NamedStmt, NamedAct}
 use Rattle.ckc_plain.specs.declared.integers.Integer.{Integer}
 use Rattle.ckc_plain.specs.declared.integers.Integer.TheVariants as integer
 use Rattle.ckc_plain.specs.declared.integers.Integers.{Integers}
@@ -27,8 +27,8 @@ use Rattle.ckc_plain.specs.Forms.{work_of, form_of, is_call, stays}
 use Rattle.ckc_plain.specs.Effects.{integer_local}
 use Rattle.ckc_plain.specs.Taken.{expr_at, stmt_at, local_at, number_at, block_at, assign_at, declare_at, none_pending, with_stmt, with_fresh, call_taken, set_taken, step_taken, binary_taken, unary_taken, node_taken, taken}
 use Rattle.ckc_plain.specs.Expressions.{OfLimits, OfNode, OfExpr, rest, each_rest, truth_at, if_true, if_false, if_none, choice, binary_parts, node_parts, expr_parts, limits_parts, limits_plain, node_kept, expr_kept, expr_plain, exprs_plain, whole_plain, right_plain, bounds_plain, maybe_plain}
-use Rattle.ckc_typed_fit.specs.Locals.{act_locals, locals_in, stmt_locals}
-use Rattle.ckc_typed_plain.proofs.Fresh.{times, times_append, Counted, behind_another, Adds, adds_none, adds_one, adds_both}
+use Rattle.ckc_plain.specs.Integers.{locals_of_stmt_parts, locals_of_stmt, locals_of_act}
+use Rattle.ckc_typed_plain.proofs.Fresh.{one, hits, hits_append, Counted, behind_another, Adds, adds_none, adds_one, adds_both}
 
 abbrev pub ActLayer : Type 0
 ActLayer = Act-F Name (Unit {0}) NamedAct NamedStmt
@@ -41,50 +41,74 @@ LimitsLayer = Limits-F Name (Unit {0}) NamedLimits NamedNode NamedExpr
 
 -- ---- the locals that statements declare
 
-abbrev pub all_locals : List NamedStmt → List ℕ
-all_locals ss = inside_each listed (λ (ns : List ℕ). ns) (map stmt_locals ss)
+-- what stands for a name: the next of its number for a local, 0 for another
+abbrev pub code : Name → ℕ
+code (name.Local k) = suc k
+code n = 0
 
-abbrev pub locals_of : NamedAct → List ℕ
-locals_of = fold-Act Name (Unit {0}) (List ℕ) (List ℕ) act_locals locals_in
+-- how often a local is declared
+abbrev pub occurs : ℕ → List NamedDecl → ℕ
+occurs i [] = 0
+occurs i (d ∷ ds) = one i (code d.name) + occurs i ds
 
-abbrev pub locals_inside : ActLayer → Act-F Name (Unit {0}) (List ℕ) (List ℕ)
-locals_inside = map-Act Name (Unit {0}) NamedAct NamedStmt (List ℕ) (List ℕ) locals_of stmt_locals
+pub occurs_append : (i : ℕ) (xs ys : List NamedDecl) → occurs i (xs ++ ys) ≡ occurs i xs + occurs i ys
+occurs_append i [] ys = refl
+occurs_append i (d ∷ ds) ys = put (one i (code d.name)) (occurs i (ds ++ ys)) (occurs i ds) (occurs i ys) (occurs_append i ds ys)
+  where
+    put : (a b c d : ℕ) → b ≡ c + d → a + b ≡ a + c + d
+    put a b c d e = omega (arith, e)
 
-pub act_declares : (x : ActLayer) (a : NamedAct) → roll-Act Name (Unit {0}) x ≡ a → locals_of a ≡ act_locals (locals_inside x)
-act_declares x a is = ap locals_of (sym is) ∙ fold-roll-Act Name (Unit {0}) (List ℕ) (List ℕ) act_locals locals_in x
+abbrev pub rows : Act-F Name (Unit {0}) (List NamedDecl) (List NamedDecl) → List NamedDecl
+rows = inside_run listed (λ e. []) (λ d. d ∷ []) (λ s. s)
 
-pub body_declares : (a : NamedAct) (pos : Pos) → stmt_locals (stmt_at a pos) ≡ locals_of a
-body_declares a pos = fold-roll-Stmt Name (Unit {0}) (List ℕ) (List ℕ) act_locals locals_in (record { body = a; pos = pos; note = tt })
+abbrev pub all_locals : List NamedStmt → List NamedDecl
+all_locals ss = inside_each listed (λ (ns : List NamedDecl). ns) (map locals_of_stmt ss)
 
-pub stmt_declares : (x : ActLayer) (a : NamedAct) (pos : Pos) → roll-Act Name (Unit {0}) x ≡ a → stmt_locals (stmt_at a pos) ≡ act_locals (locals_inside x)
+abbrev pub locals_of_act : NamedAct → List NamedDecl
+locals_of_act = fold-Act Name (Unit {0}) (List NamedDecl) (List NamedDecl) rows locals_in
+
+abbrev pub locals_inside : ActLayer → Act-F Name (Unit {0}) (List NamedDecl) (List NamedDecl)
+locals_inside = map-Act Name (Unit {0}) NamedAct NamedStmt (List NamedDecl) (List NamedDecl) locals_of_act locals_of_stmt
+
+pub act_declares : (x : ActLayer) (a : NamedAct) → roll-Act Name (Unit {0}) x ≡ a → locals_of_act a ≡ rows (locals_inside x)
+act_declares x a is = ap locals_of_act (sym is) ∙ fold-roll-Act Name (Unit {0}) (List NamedDecl) (List NamedDecl) rows locals_of_stmt_parts x
+
+pub body_declares : (a : NamedAct) (pos : Pos) → locals_of_stmt (stmt_at a pos) ≡ locals_of_act a
+body_declares a pos = fold-roll-Stmt Name (Unit {0}) (List NamedDecl) (List NamedDecl) rows locals_of_stmt_parts (record { body = a; pos = pos; note = tt })
+
+pub stmt_declares : (x : ActLayer) (a : NamedAct) (pos : Pos) → roll-Act Name (Unit {0}) x ≡ a → locals_of_stmt (stmt_at a pos) ≡ rows (locals_inside x)
 stmt_declares x a pos is = body_declares a pos ∙ act_declares x a is
 
 
-pub often_append : (n : ℕ) (ss ts : List NamedStmt) → times n (all_locals (ss ++ ts)) ≡ times n (all_locals ss) + times n (all_locals ts)
+pub often_append : (n : ℕ) (ss ts : List NamedStmt) → occurs n (all_locals (ss ++ ts)) ≡ occurs n (all_locals ss) + occurs n (all_locals ts)
 often_append n [] ts = refl
 often_append n (s ∷ ss) ts =
-    times_append n (stmt_locals s) (all_locals (ss ++ ts))
-    ∙ put (times n (stmt_locals s)) (times n (all_locals (ss ++ ts))) (times n (all_locals ss)) (times n (all_locals ts)) (times n (all_locals (s ∷ ss))) (often_append n ss ts) (times_append n (stmt_locals s) (all_locals ss))
+    occurs_append n (locals_of_stmt s) (all_locals (ss ++ ts))
+    ∙ put (occurs n (locals_of_stmt s)) (occurs n (all_locals (ss ++ ts))) (occurs n (all_locals ss)) (occurs n (all_locals ts)) (occurs n (all_locals (s ∷ ss))) (often_append n ss ts) (occurs_append n (locals_of_stmt s) (all_locals ss))
   where
     put : (a b c d e : ℕ) → b ≡ c + d → e ≡ a + c → a + b ≡ e + d
     put a b c d e f g = omega (arith, f, g)
 
-pub often_last : (n : ℕ) (ss : List NamedStmt) (s : NamedStmt) → times n (all_locals (ss ++ s ∷ [])) ≡ times n (all_locals ss) + times n (stmt_locals s)
-often_last n ss s = often_append n ss (s ∷ []) ∙ ap (λ l. times n (all_locals ss) + times n l) (append-nil (stmt_locals s))
+pub often_last : (n : ℕ) (ss : List NamedStmt) (s : NamedStmt) → occurs n (all_locals (ss ++ s ∷ [])) ≡ occurs n (all_locals ss) + occurs n (locals_of_stmt s)
+often_last n ss s = often_append n ss (s ∷ []) ∙ ap (λ l. occurs n (all_locals ss) + occurs n l) (append-nil (locals_of_stmt s))
 
-pub block_declares : (ss : List NamedStmt) (pos : Pos) → stmt_locals (block_at ss pos) ≡ all_locals ss
+pub block_declares : (ss : List NamedStmt) (pos : Pos) → locals_of_stmt (block_at ss pos) ≡ all_locals ss
 block_declares ss pos = stmt_declares (Act-F.Block None ss) _ pos (act.rolls-Block None ss)
 
-assign_declares : (x e : NamedExpr) (pos : Pos) → stmt_locals (assign_at x e pos) ≡ []
+assign_declares : (x e : NamedExpr) (pos : Pos) → locals_of_stmt (assign_at x e pos) ≡ []
 assign_declares x e pos = stmt_declares (Act-F.Assign x e) _ pos (act.rolls-Assign x e)
 
-fresh_declares : (t : Integer) (k : ℕ) (e : NamedExpr) (pos : Pos) → stmt_locals (declare_at t k e pos) ≡ k ∷ []
-fresh_declares t k e pos = stmt_declares (Act-F.Local _) _ pos (act.rolls-Local _)
+fresh_count : (n : ℕ) (t : Integer) (k : ℕ) (e : NamedExpr) (pos : Pos) → occurs n (locals_of_stmt (declare_at t k e pos)) ≡ hits n (k ∷ [])
+fresh_count n t k e pos = ap (occurs n) (stmt_declares (Act-F.Local _) _ pos (act.rolls-Local _)) ∙ by n
+  where
+    by : (i : ℕ) → one i (suc k) + 0 ≡ hits i (k ∷ [])
+    by zero = refl
+    by (suc i) = refl
 
 -- ---- what is pending
 
 abbrev pub declared : Pending → ℕ → ℕ
-declared p n = times n (all_locals p.stmts)
+declared p n = occurs n (all_locals p.stmts)
 
 abbrev pub Grown : Pending → Pending → Type 0
 Grown p q = Adds p.next q.next (declared p) (declared q)
@@ -98,8 +122,8 @@ grown_both p q r g h = adds_both p.next q.next r.next (declared p) (declared q) 
     put : (a b c : ℕ) → c + (a + b) ≡ a + (b + c)
     put a b c = omega arith
 
-stmt_grown : (p : Pending) (s : NamedStmt) → stmt_locals s ≡ [] → Grown p (with_stmt p s)
-stmt_grown p s none = adds_none p.next (declared p) (declared (with_stmt p s)) (λ n. often_last n p.stmts s ∙ put (times n (all_locals p.stmts)) (times n (stmt_locals s)) (ap (times n) none))
+stmt_grown : (p : Pending) (s : NamedStmt) → locals_of_stmt s ≡ [] → Grown p (with_stmt p s)
+stmt_grown p s none = adds_none p.next (declared p) (declared (with_stmt p s)) (λ n. often_last n p.stmts s ∙ put (occurs n (all_locals p.stmts)) (occurs n (locals_of_stmt s)) (ap (occurs n) none))
   where
     put : (a b : ℕ) → b ≡ 0 → a + b ≡ a
     put a b e = omega (arith, e)
@@ -107,7 +131,7 @@ stmt_grown p s none = adds_none p.next (declared p) (declared (with_stmt p s)) (
 fresh_grown : (t : Integer) (e : NamedExpr) (pos : Pos) (p : Pending) → Grown p (with_fresh t e pos p)
 fresh_grown t e pos p =
     adds_one p.next (declared p) (declared (with_fresh t e pos p)) (λ n.
-    often_last n p.stmts (declare_at t p.next e pos) ∙ ap (λ l. times n (all_locals p.stmts) + times n l) (fresh_declares t p.next e pos))
+    often_last n p.stmts (declare_at t p.next e pos) ∙ ap (λ c. occurs n (all_locals p.stmts) + c) (fresh_count n t p.next e pos))
 
 module _ (known : Integers) where
   call_grown : (t : Option Integer) (e : NamedExpr) (p : Pending) → Grown p (call_taken t e p).1
@@ -156,15 +180,15 @@ module _ (known : Integers) where
   -- ---- `&&` and `||`
 
   abbrev Chosen : (NamedExpr → NamedStmt → Pos → NamedStmt) → Type 0
-  Chosen chosen = (n : ℕ) (a : NamedExpr) (s : NamedStmt) (pos : Pos) → times n (stmt_locals (chosen a s pos)) ≡ times n (stmt_locals s)
+  Chosen chosen = (n : ℕ) (a : NamedExpr) (s : NamedStmt) (pos : Pos) → occurs n (locals_of_stmt (chosen a s pos)) ≡ occurs n (locals_of_stmt s)
 
   true_chosen : Chosen if_true
-  true_chosen n a s pos = ap (times n) (stmt_declares (Act-F.If a s None) _ pos (act.rolls-If a s None) ∙ append-nil (stmt_locals s))
+  true_chosen n a s pos = ap (occurs n) (stmt_declares (Act-F.If a s None) _ pos (act.rolls-If a s None) ∙ append-nil (locals_of_stmt s))
 
   false_chosen : Chosen if_false
   false_chosen n a s pos =
-      let empty : stmt_locals (stmt_at act.Empty pos) ≡ [] = stmt_declares Act-F.Empty _ pos act.rolls-Empty in
-      ap (times n) (stmt_declares (Act-F.If a (stmt_at act.Empty pos) (Some s)) _ pos (act.rolls-If a (stmt_at act.Empty pos) (Some s)) ∙ ap (λ l. l ++ stmt_locals s) empty)
+      let empty : locals_of_stmt (stmt_at act.Empty pos) ≡ [] = stmt_declares Act-F.Empty _ pos act.rolls-Empty in
+      ap (occurs n) (stmt_declares (Act-F.If a (stmt_at act.Empty pos) (Some s)) _ pos (act.rolls-If a (stmt_at act.Empty pos) (Some s)) ∙ ap (λ l. l ++ locals_of_stmt s) empty)
 
   if_none_grown : (ss : List NamedStmt) (p : Pending) (a b : NamedNode × Pending) → Grown p a.1 → Grown p b.1 → Grown p (if_none ss a b).1
   if_none_grown [] p a b g h = g
@@ -181,11 +205,11 @@ module _ (known : Integers) where
         new = p.next ∷ k.new;
         counted = behind_another p.next (p.next + 1) b.1.next (p.next ∷ []) k.new (record { counts = (refl, tt); many = refl }) k.counted;
         is = λ n.
-            put (declared p n) (times n (all_locals (p.stmts ++ first ∷ []))) (times n (stmt_locals first)) (times n (all_locals ((p.stmts ++ first ∷ []) ++ chosen a inner pos ∷ []))) (times n (stmt_locals (chosen a inner pos)))
-            (times n (stmt_locals inner)) (times n (all_locals (b.1.stmts ++ truth ∷ []))) (times n (all_locals b.1.stmts)) (times n (stmt_locals truth)) (times n k.new) (times n (p.next ∷ []))
-            (often_last n p.stmts first) (often_last n (p.stmts ++ first ∷ []) (chosen a inner pos)) (ap (times n) (fresh_declares integer.Int p.next (number_at start pos) pos)) (good n a inner pos)
-            (ap (times n) (block_declares (b.1.stmts ++ truth ∷ []) pos)) (often_last n b.1.stmts truth) (ap (times n) (assign_declares (local_at p.next pos) _ pos)) (k.is n)
-            ∙ ap (λ c. declared p n + c) (sym (times_append n (p.next ∷ []) k.new));
+            put (declared p n) (occurs n (all_locals (p.stmts ++ first ∷ []))) (occurs n (locals_of_stmt first)) (occurs n (all_locals ((p.stmts ++ first ∷ []) ++ chosen a inner pos ∷ []))) (occurs n (locals_of_stmt (chosen a inner pos)))
+            (occurs n (locals_of_stmt inner)) (occurs n (all_locals (b.1.stmts ++ truth ∷ []))) (occurs n (all_locals b.1.stmts)) (occurs n (locals_of_stmt truth)) (hits n k.new) (hits n (p.next ∷ []))
+            (often_last n p.stmts first) (often_last n (p.stmts ++ first ∷ []) (chosen a inner pos)) (fresh_count n integer.Int p.next (number_at start pos) pos) (good n a inner pos)
+            (ap (occurs n) (block_declares (b.1.stmts ++ truth ∷ []) pos)) (often_last n b.1.stmts truth) (ap (occurs n) (assign_declares (local_at p.next pos) _ pos)) (k.is n)
+            ∙ ap (λ c. declared p n + c) (sym (hits_append n (p.next ∷ []) k.new));
       })
     where
       put : (p started first whole chosen inner within pending truth new next : ℕ) → started ≡ p + first → whole ≡ started + chosen → first ≡ next → chosen ≡ inner → inner ≡ within → within ≡ pending + truth → truth ≡ 0

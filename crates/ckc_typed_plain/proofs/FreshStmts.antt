@@ -16,69 +16,69 @@ use Rattle.ckc_plain.specs.declared.pending.Pending.{Pending}
 use Rattle.ckc_plain.specs.Taken.{stmt_at, block_at, none_pending}
 use Rattle.ckc_plain.specs.Expressions.{expr_plain, whole_plain, right_plain, bounds_plain, maybe_plain}
 use Rattle.ckc_plain.specs.Statements.{joined, placed_by, placed, OfAct, OfStmt, alone, in_block, loop_condition, loop_body, for_condition, for_body, init_plain, local_plain, with_next, act_parts, stmt_parts, act_plain, stmt_plain}
-use Rattle.ckc_typed_fit.specs.Locals.{act_locals, locals_in, decl_local, stmt_locals}
-use Rattle.ckc_typed_plain.proofs.Fresh.{times, times_append, Adds, adds_none, adds_both, adds_as}
-use Rattle.ckc_typed_plain.proofs.FreshExprs.{ActLayer, all_locals, locals_of, locals_inside, act_declares, body_declares, stmt_declares, often_append, often_last, block_declares, declared, Grown, grown_none, grown_both, plain_grown, whole_grown, right_grown, exprs_grown, bounds_grown, maybe_grown}
+use Rattle.ckc_plain.specs.Integers.{locals_of_stmt_parts, locals_of_stmt, locals_of_act}
+use Rattle.ckc_typed_plain.proofs.Fresh.{Adds, adds_none, adds_both, adds_as}
+use Rattle.ckc_typed_plain.proofs.FreshExprs.{ActLayer, rows, occurs, occurs_append, all_locals, locals_inside, act_declares, body_declares, stmt_declares, often_append, often_last, block_declares, declared, Grown, grown_none, grown_both, plain_grown, whole_grown, right_grown, exprs_grown, bounds_grown, maybe_grown}
 
 -- ---- how often a local is declared
 
 abbrev count : ℕ → NamedStmt → ℕ
-count n s = times n (stmt_locals s)
+count n s = occurs n (locals_of_stmt s)
 
 abbrev count_act : ℕ → NamedAct → ℕ
-count_act n a = times n (locals_of a)
+count_act n a = occurs n (locals_of_act a)
 
 
-joined_count : (n : ℕ) (ss : List NamedStmt) (s : NamedStmt) → count n (joined ss s) ≡ times n (all_locals ss) + count n s
+joined_count : (n : ℕ) (ss : List NamedStmt) (s : NamedStmt) → count n (joined ss s) ≡ occurs n (all_locals ss) + count n s
 joined_count n [] s = refl
-joined_count n (b ∷ bs) s = ap (times n) (block_declares ((b ∷ bs) ++ s ∷ []) b.pos) ∙ often_last n (b ∷ bs) s
+joined_count n (b ∷ bs) s = ap (occurs n) (block_declares ((b ∷ bs) ++ s ∷ []) b.pos) ∙ often_last n (b ∷ bs) s
 
-single : (n : ℕ) (s : NamedStmt) → times n (all_locals (s ∷ [])) ≡ count n s
-single n s = ap (times n) (append-nil (stmt_locals s))
+single : (n : ℕ) (s : NamedStmt) → occurs n (all_locals (s ∷ [])) ≡ count n s
+single n s = ap (occurs n) (append-nil (locals_of_stmt s))
 
-placed_count : (n : ℕ) (ss : List NamedStmt) (s : NamedStmt) → times n (all_locals (placed ss s)) ≡ times n (all_locals ss) + count n s
+placed_count : (n : ℕ) (ss : List NamedStmt) (s : NamedStmt) → occurs n (all_locals (placed ss s)) ≡ occurs n (all_locals ss) + count n s
 placed_count n ss s = by (out-Act Name (Unit {0}) s.body)
   where
-    by : (x : ActLayer) → times n (all_locals (placed_by x ss s)) ≡ times n (all_locals ss) + count n s
+    by : (x : ActLayer) → occurs n (all_locals (placed_by x ss s)) ≡ occurs n (all_locals ss) + count n s
     by (Act-F.Local d) = often_last n ss s
     by _ = single n (joined ss s) ∙ joined_count n ss s
 
 -- the locals of the parts of a statement, by how often each is there
-if_count : (n : ℕ) (e : NamedExpr) (s : NamedStmt) → times n (act_locals (locals_inside (Act-F.If e s None))) ≡ count n s
-if_count n e s = ap (times n) (append-nil (stmt_locals s))
+if_count : (n : ℕ) (e : NamedExpr) (s : NamedStmt) → occurs n (rows (locals_inside (Act-F.If e s None))) ≡ count n s
+if_count n e s = ap (occurs n) (append-nil (locals_of_stmt s))
 
-else_count : (n : ℕ) (e : NamedExpr) (s t : NamedStmt) → times n (act_locals (locals_inside (Act-F.If e s (Some t)))) ≡ count n s + count n t
-else_count n e s t = times_append n (stmt_locals s) (stmt_locals t)
+else_count : (n : ℕ) (e : NamedExpr) (s t : NamedStmt) → occurs n (rows (locals_inside (Act-F.If e s (Some t)))) ≡ count n s + count n t
+else_count n e s t = occurs_append n (locals_of_stmt s) (locals_of_stmt t)
 
 part_count : ℕ → Option NamedStmt → ℕ
 part_count n None = 0
 part_count n (Some s) = count n s
 
-for_lists : (n : ℕ) (xs ys zs : List ℕ) (e : Option NamedExpr) → times n (xs ++ (inside_if listed (λ (e : NamedExpr). []) e ++ (ys ++ zs))) ≡ times n xs + (times n ys + times n zs)
+for_lists : (n : ℕ) (xs ys zs : List NamedDecl) (e : Option NamedExpr) → occurs n (xs ++ (inside_if listed (λ (e : NamedExpr). []) e ++ (ys ++ zs))) ≡ occurs n xs + (occurs n ys + occurs n zs)
 for_lists n xs ys zs e =
-    ap (λ (l : List ℕ). times n (xs ++ (l ++ (ys ++ zs)))) (none_found listed e) ∙ times_append n xs (ys ++ zs) ∙ ap (λ c. times n xs + c) (times_append n ys zs)
+    ap (λ (l : List NamedDecl). occurs n (xs ++ (l ++ (ys ++ zs)))) (none_found listed e) ∙ occurs_append n xs (ys ++ zs) ∙ ap (λ c. occurs n xs + c) (occurs_append n ys zs)
 
-for_count : (n : ℕ) (f : Option NamedStmt) (e : Option NamedExpr) (u : Option NamedStmt) (s : NamedStmt) → times n (act_locals (locals_inside (Act-F.For f e u s))) ≡ part_count n f + (count n s + part_count n u)
-for_count n None e None s = for_lists n [] (stmt_locals s) [] e
-for_count n None e (Some u) s = for_lists n [] (stmt_locals s) (stmt_locals u) e
-for_count n (Some f) e None s = for_lists n (stmt_locals f) (stmt_locals s) [] e
-for_count n (Some f) e (Some u) s = for_lists n (stmt_locals f) (stmt_locals s) (stmt_locals u) e
+for_count : (n : ℕ) (f : Option NamedStmt) (e : Option NamedExpr) (u : Option NamedStmt) (s : NamedStmt) → occurs n (rows (locals_inside (Act-F.For f e u s))) ≡ part_count n f + (count n s + part_count n u)
+for_count n None e None s = for_lists n [] (locals_of_stmt s) [] e
+for_count n None e (Some u) s = for_lists n [] (locals_of_stmt s) (locals_of_stmt u) e
+for_count n (Some f) e None s = for_lists n (locals_of_stmt f) (locals_of_stmt s) [] e
+for_count n (Some f) e (Some u) s = for_lists n (locals_of_stmt f) (locals_of_stmt s) (locals_of_stmt u) e
 
 -- the body of a loop before whose condition statements run
-loop_count : (n : ℕ) (ss : List NamedStmt) (c : NamedExpr) (s : NamedStmt) → count n (loop_body ss c s) ≡ times n (all_locals ss) + count n s
+loop_count : (n : ℕ) (ss : List NamedStmt) (c : NamedExpr) (s : NamedStmt) → count n (loop_body ss c s) ≡ occurs n (all_locals ss) + count n s
 loop_count n [] c s = refl
 loop_count n (b ∷ bs) c s =
     let leave : NamedStmt = stmt_at act.Break b.pos in
     let choice : NamedStmt = stmt_at (act.If c s (Some leave)) b.pos in
-    put (count n (block_at ((b ∷ bs) ++ choice ∷ []) b.pos)) (times n (all_locals ((b ∷ bs) ++ choice ∷ []))) (times n (all_locals (b ∷ bs))) (count n choice) (count n s) (count n leave)
-    (ap (times n) (block_declares ((b ∷ bs) ++ choice ∷ []) b.pos)) (often_last n (b ∷ bs) choice)
-    (ap (times n) (stmt_declares (Act-F.If c s (Some leave)) _ b.pos (act.rolls-If c s (Some leave))) ∙ else_count n c s leave) (ap (times n) (stmt_declares Act-F.Break _ b.pos act.rolls-Break))
+    put (count n (block_at ((b ∷ bs) ++ choice ∷ []) b.pos)) (occurs n (all_locals ((b ∷ bs) ++ choice ∷ []))) (occurs n (all_locals (b ∷ bs))) (count n choice) (count n s) (count n leave)
+    (ap (occurs n) (block_declares ((b ∷ bs) ++ choice ∷ []) b.pos)) (often_last n (b ∷ bs) choice)
+    (ap (occurs n) (stmt_declares (Act-F.If c s (Some leave)) _ b.pos (act.rolls-If c s (Some leave))) ∙ else_count n c s leave) (ap (occurs n) (stmt_declares Act-F.Break _ b.pos act.rolls-Break))
   where
     put : (a b c d e f : ℕ) → a ≡ b → b ≡ c + d → d ≡ e + f → f ≡ 0 → a ≡ c + e
     put a b c d e f g h i j = omega (arith, g, h, i, j)
 
-for_body_count : (n : ℕ) (ss : List NamedStmt) (c : Option NamedExpr) (s : NamedStmt) → (c ≡ None → ss ≡ []) → count n (for_body ss c s) ≡ times n (all_locals ss) + count n s
-for_body_count n ss None s none = ap (λ l. times n (all_locals l) + count n s) (sym (none refl))
+for_body_count : (n : ℕ) (ss : List NamedStmt) (c : Option NamedExpr) (s : NamedStmt) → (c ≡ None → ss ≡ []) → count n (for_body ss c s) ≡ occurs n (all_locals ss) + count n s
+for_body_count n ss None s none = ap (λ l. occurs n (all_locals l) + count n s) (sym (none refl))
 for_body_count n ss (Some c) s none = loop_count n ss c s
 
 -- ---- what is said of a statement
@@ -139,17 +139,17 @@ module _ (known : Integers) where
 
   -- ---- blocks
 
-  block_adds : (ks : List KeptStmt) (m : ℕ) → Adds m (block_of ks m).1 (λ n. times n (all_locals (firsts ks))) (λ n. times n (all_locals (block_of ks m).0))
+  block_adds : (ks : List KeptStmt) (m : ℕ) → Adds m (block_of ks m).1 (λ n. occurs n (all_locals (firsts ks))) (λ n. occurs n (all_locals (block_of ks m).0))
   block_adds [] m = adds_none m (λ n. 0) (λ n. 0) (λ n. refl)
   block_adds (k ∷ ks) m =
       let p = none_pending m in
       let r = stmt_plain known k.0 p in
       let rest = block_of ks r.1.next in
-      adds_both m r.1.next rest.1 (λ n. declared p n + count n k.0) (λ n. declared r.1 n + count n r.0) (λ n. times n (all_locals (firsts ks))) (λ n. times n (all_locals rest.0))
-      (λ n. times n (all_locals (firsts (k ∷ ks)))) (λ n. times n (all_locals (placed r.1.stmts r.0 ++ rest.0))) (k.1 p) (block_adds ks r.1.next)
-      (λ n. put (times n (all_locals (placed r.1.stmts r.0 ++ rest.0))) (times n (all_locals (placed r.1.stmts r.0))) (times n (all_locals rest.0)) (declared r.1 n) (count n r.0)
-      (times n (all_locals (firsts (k ∷ ks)))) (count n k.0) (times n (all_locals (firsts ks)))
-      (often_append n (placed r.1.stmts r.0) rest.0) (placed_count n r.1.stmts r.0) (times_append n (stmt_locals k.0) (all_locals (firsts ks))))
+      adds_both m r.1.next rest.1 (λ n. declared p n + count n k.0) (λ n. declared r.1 n + count n r.0) (λ n. occurs n (all_locals (firsts ks))) (λ n. occurs n (all_locals rest.0))
+      (λ n. occurs n (all_locals (firsts (k ∷ ks)))) (λ n. occurs n (all_locals (placed r.1.stmts r.0 ++ rest.0))) (k.1 p) (block_adds ks r.1.next)
+      (λ n. put (occurs n (all_locals (placed r.1.stmts r.0 ++ rest.0))) (occurs n (all_locals (placed r.1.stmts r.0))) (occurs n (all_locals rest.0)) (declared r.1 n) (count n r.0)
+      (occurs n (all_locals (firsts (k ∷ ks)))) (count n k.0) (occurs n (all_locals (firsts ks)))
+      (often_append n (placed r.1.stmts r.0) rest.0) (placed_count n r.1.stmts r.0) (occurs_append n (locals_of_stmt k.0) (all_locals (firsts ks))))
     where
       put : (whole front rest pending made old first olds : ℕ) → whole ≡ front + rest → front ≡ pending + made → old ≡ first + olds → whole + ((0 + first) + olds) ≡ old + ((pending + made) + rest)
       put whole front rest pending made old first olds a b c = omega (arith, a, b, c)
@@ -169,36 +169,36 @@ module _ (known : Integers) where
   -- ---- every statement
 
   abbrev Says : ActLayer → Type 0
-  Says x = (p : Pending) → Adds p.next (act_parts known (act_inside x) p).1.next (λ n. declared p n + times n (act_locals (locals_inside x)))
+  Says x = (p : Pending) → Adds p.next (act_parts known (act_inside x) p).1.next (λ n. declared p n + occurs n (rows (locals_inside x)))
       (λ n. declared (act_parts known (act_inside x) p).1 n + count_act n (act_parts known (act_inside x) p).0)
 
   -- a statement that declares what the one before it declares
-  kept : (p q : Pending) (x y : ActLayer) (a : NamedAct) → roll-Act Name (Unit {0}) y ≡ a → ((n : ℕ) → times n (act_locals (locals_inside y)) ≡ times n (act_locals (locals_inside x))) → Grown p q
-      → Adds p.next q.next (λ n. declared p n + times n (act_locals (locals_inside x))) (λ n. declared q n + count_act n a)
+  kept : (p q : Pending) (x y : ActLayer) (a : NamedAct) → roll-Act Name (Unit {0}) y ≡ a → ((n : ℕ) → occurs n (rows (locals_inside y)) ≡ occurs n (rows (locals_inside x))) → Grown p q
+      → Adds p.next q.next (λ n. declared p n + occurs n (rows (locals_inside x))) (λ n. declared q n + count_act n a)
   kept p q x y a rolls same g =
-      adds_as p.next q.next (declared p) (declared q) (λ n. declared p n + times n (act_locals (locals_inside x))) (λ n. declared q n + count_act n a) g
-      (λ n. put (declared p n) (declared q n) (count_act n a) (times n (act_locals (locals_inside x))) (ap (times n) (act_declares y a rolls) ∙ same n))
+      adds_as p.next q.next (declared p) (declared q) (λ n. declared p n + occurs n (rows (locals_inside x))) (λ n. declared q n + count_act n a) g
+      (λ n. put (declared p n) (declared q n) (count_act n a) (occurs n (rows (locals_inside x))) (ap (occurs n) (act_declares y a rolls) ∙ same n))
     where
       put : (a b c d : ℕ) → c ≡ d → (b + c) + a ≡ (a + d) + b
       put a b c d e = omega (arith, e)
 
   -- a statement whose parts declare more, while nothing more is pending
-  within : (p : Pending) (to : ℕ) (x y : ActLayer) (a : NamedAct) → roll-Act Name (Unit {0}) y ≡ a → Adds p.next to (λ n. times n (act_locals (locals_inside x))) (λ n. times n (act_locals (locals_inside y)))
-      → Adds p.next to (λ n. declared p n + times n (act_locals (locals_inside x))) (λ n. declared p n + count_act n a)
+  within : (p : Pending) (to : ℕ) (x y : ActLayer) (a : NamedAct) → roll-Act Name (Unit {0}) y ≡ a → Adds p.next to (λ n. occurs n (rows (locals_inside x))) (λ n. occurs n (rows (locals_inside y)))
+      → Adds p.next to (λ n. declared p n + occurs n (rows (locals_inside x))) (λ n. declared p n + count_act n a)
   within p to x y a rolls g =
-      adds_as p.next to (λ n. times n (act_locals (locals_inside x))) (λ n. times n (act_locals (locals_inside y))) (λ n. declared p n + times n (act_locals (locals_inside x))) (λ n. declared p n + count_act n a) g
-      (λ n. put (declared p n) (count_act n a) (times n (act_locals (locals_inside x))) (times n (act_locals (locals_inside y))) (ap (times n) (act_declares y a rolls)))
+      adds_as p.next to (λ n. occurs n (rows (locals_inside x))) (λ n. occurs n (rows (locals_inside y))) (λ n. declared p n + occurs n (rows (locals_inside x))) (λ n. declared p n + count_act n a) g
+      (λ n. put (declared p n) (count_act n a) (occurs n (rows (locals_inside x))) (occurs n (rows (locals_inside y))) (ap (occurs n) (act_declares y a rolls)))
     where
       put : (p a x y : ℕ) → a ≡ y → (p + a) + x ≡ (p + x) + y
       put p a x y e = omega (arith, e)
 
   -- the same, behind an expression
-  behind : (p q : Pending) (to : ℕ) (x y : ActLayer) (a : NamedAct) → roll-Act Name (Unit {0}) y ≡ a → Grown p q → Adds q.next to (λ n. times n (act_locals (locals_inside x))) (λ n. times n (act_locals (locals_inside y)))
-      → Adds p.next to (λ n. declared p n + times n (act_locals (locals_inside x))) (λ n. declared q n + count_act n a)
+  behind : (p q : Pending) (to : ℕ) (x y : ActLayer) (a : NamedAct) → roll-Act Name (Unit {0}) y ≡ a → Grown p q → Adds q.next to (λ n. occurs n (rows (locals_inside x))) (λ n. occurs n (rows (locals_inside y)))
+      → Adds p.next to (λ n. declared p n + occurs n (rows (locals_inside x))) (λ n. declared q n + count_act n a)
   behind p q to x y a rolls g h =
-      adds_both p.next q.next to (declared p) (declared q) (λ n. times n (act_locals (locals_inside x))) (λ n. times n (act_locals (locals_inside y)))
-      (λ n. declared p n + times n (act_locals (locals_inside x))) (λ n. declared q n + count_act n a) g h
-      (λ n. put (declared p n) (declared q n) (count_act n a) (times n (act_locals (locals_inside x))) (times n (act_locals (locals_inside y))) (ap (times n) (act_declares y a rolls)))
+      adds_both p.next q.next to (declared p) (declared q) (λ n. occurs n (rows (locals_inside x))) (λ n. occurs n (rows (locals_inside y)))
+      (λ n. declared p n + occurs n (rows (locals_inside x))) (λ n. declared q n + count_act n a) g h
+      (λ n. put (declared p n) (declared q n) (count_act n a) (occurs n (rows (locals_inside x))) (occurs n (rows (locals_inside y))) (ap (occurs n) (act_declares y a rolls)))
     where
       put : (p q a x y : ℕ) → a ≡ y → (q + a) + (p + x) ≡ (p + x) + (q + y)
       put p q a x y e = omega (arith, e)
@@ -255,15 +255,15 @@ module _ (known : Integers) where
   for_adds : (p q : Pending) (before first : Option NamedStmt) (e : Option NamedExpr) (c : Option NamedExpr) (k : KeptStmt) (j : Option KeptStmt) (a : NamedAct)
       → Adds p.next q.next (λ n. declared p n + part_count n before) (λ n. declared q n + part_count n first)
       → roll-Act Name (Unit {0}) (Act-F.For first c (step_of j (alone_of k (condition_of e q.next).1.next).1).0 (body_of e k q.next)) ≡ a
-      → Adds p.next (step_of j (alone_of k (condition_of e q.next).1.next).1).1 (λ n. declared p n + times n (act_locals (locals_inside (Act-F.For before e (step_before j) k.0)))) (λ n. declared q n + count_act n a)
+      → Adds p.next (step_of j (alone_of k (condition_of e q.next).1.next).1).1 (λ n. declared p n + occurs n (rows (locals_inside (Act-F.For before e (step_before j) k.0)))) (λ n. declared q n + count_act n a)
   for_adds p q before first e c k j a g rolls =
       let step = step_of j (alone_of k (condition_of e q.next).1.next).1 in
       let body = body_of e k q.next in
       adds_both p.next q.next step.1 (λ n. declared p n + part_count n before) (λ n. declared q n + part_count n first) (λ n. count n k.0 + part_count n (step_before j)) (λ n. count n body + part_count n step.0)
-      (λ n. declared p n + times n (act_locals (locals_inside (Act-F.For before e (step_before j) k.0)))) (λ n. declared q n + count_act n a) g (inner_adds e k j q.next)
+      (λ n. declared p n + occurs n (rows (locals_inside (Act-F.For before e (step_before j) k.0)))) (λ n. declared q n + count_act n a) g (inner_adds e k j q.next)
       (λ n. put (declared p n) (declared q n) (part_count n before) (part_count n first) (count n k.0) (count n body) (part_count n (step_before j)) (part_count n step.0)
-      (times n (act_locals (locals_inside (Act-F.For before e (step_before j) k.0)))) (count_act n a)
-      (for_count n before e (step_before j) k.0) (ap (times n) (act_declares (Act-F.For first c step.0 body) a rolls) ∙ for_count n first c step.0 body))
+      (occurs n (rows (locals_inside (Act-F.For before e (step_before j) k.0)))) (count_act n a)
+      (for_count n before e (step_before j) k.0) (ap (occurs n) (act_declares (Act-F.For first c step.0 body) a rolls) ∙ for_count n first c step.0 body))
     where
       put : (p q before first body made step stepped old new : ℕ) → old ≡ before + (body + step) → new ≡ first + (made + stepped)
           → (q + new) + ((p + before) + (body + step)) ≡ (p + old) + ((q + first) + (made + stepped))
@@ -276,7 +276,7 @@ module _ (known : Integers) where
   return_says : (e : Option NamedExpr) → Says (Act-F.Return e)
   return_says e p =
       let r = maybe_plain known e p in
-      kept p r.1 (Act-F.Return e) (Act-F.Return r.0) _ (act.rolls-Return r.0) (λ n. ap (times n) (none_found listed r.0 ∙ sym (none_found listed e))) (maybe_grown known e p)
+      kept p r.1 (Act-F.Return e) (Act-F.Return r.0) _ (act.rolls-Return r.0) (λ n. ap (occurs n) (none_found listed r.0 ∙ sym (none_found listed e))) (maybe_grown known e p)
 
   act_says : (y : Act-F Name (Unit {0}) KeptAct KeptStmt) → Says (inner_act y)
   act_says (Act-F.Block m ks) p = within p (block_of ks p.next).1 (Act-F.Block m (firsts ks)) (Act-F.Block m (block_of ks p.next).0) _ (act.rolls-Block m _) (block_adds ks p.next)
@@ -298,8 +298,8 @@ module _ (known : Integers) where
       let x : ActLayer = Act-F.If e k.0 None in
       let y : ActLayer = Act-F.If c.0 t.0 None in
       behind p c.1 t.1 x y _ (act.rolls-If c.0 t.0 None) (plain_grown known e p)
-      (adds_as c.1.next t.1 (λ n. count n k.0) (λ n. count n t.0) (λ n. times n (act_locals (locals_inside x))) (λ n. times n (act_locals (locals_inside y))) (alone_holds k c.1.next)
-      (λ n. put (count n k.0) (count n t.0) (times n (act_locals (locals_inside x))) (times n (act_locals (locals_inside y))) (if_count n e k.0) (if_count n c.0 t.0)))
+      (adds_as c.1.next t.1 (λ n. count n k.0) (λ n. count n t.0) (λ n. occurs n (rows (locals_inside x))) (λ n. occurs n (rows (locals_inside y))) (alone_holds k c.1.next)
+      (λ n. put (count n k.0) (count n t.0) (occurs n (rows (locals_inside x))) (occurs n (rows (locals_inside y))) (if_count n e k.0) (if_count n c.0 t.0)))
     where
       put : (a b x y : ℕ) → x ≡ a → y ≡ b → y + a ≡ x + b
       put a b x y e f = omega (arith, e, f)
@@ -310,9 +310,9 @@ module _ (known : Integers) where
       let x : ActLayer = Act-F.If e k.0 (Some j.0) in
       let y : ActLayer = Act-F.If c.0 t.0 (Some u.0) in
       behind p c.1 u.1 x y _ (act.rolls-If c.0 t.0 (Some u.0)) (plain_grown known e p)
-      (adds_both c.1.next t.1 u.1 (λ n. count n k.0) (λ n. count n t.0) (λ n. count n j.0) (λ n. count n u.0) (λ n. times n (act_locals (locals_inside x))) (λ n. times n (act_locals (locals_inside y)))
+      (adds_both c.1.next t.1 u.1 (λ n. count n k.0) (λ n. count n t.0) (λ n. count n j.0) (λ n. count n u.0) (λ n. occurs n (rows (locals_inside x))) (λ n. occurs n (rows (locals_inside y)))
       (alone_holds k c.1.next) (alone_holds j t.1)
-      (λ n. put (count n k.0) (count n t.0) (count n j.0) (count n u.0) (times n (act_locals (locals_inside x))) (times n (act_locals (locals_inside y))) (else_count n e k.0 j.0) (else_count n c.0 t.0 u.0)))
+      (λ n. put (count n k.0) (count n t.0) (count n j.0) (count n u.0) (occurs n (rows (locals_inside x))) (occurs n (rows (locals_inside y))) (else_count n e k.0 j.0) (else_count n c.0 t.0 u.0)))
     where
       put : (a b c d x y : ℕ) → x ≡ a + c → y ≡ b + d → y + (a + c) ≡ x + (b + d)
       put a b c d x y e f = omega (arith, e, f)
@@ -338,11 +338,11 @@ module _ (known : Integers) where
 
   act_by : (x : ActLayer) (y : Act-F Name (Unit {0}) KeptAct KeptStmt) → inner_act y ≡ x → ActHolds (roll-Act Name (Unit {0}) x)
   act_by x y is p =
-      subst (λ (l : List ℕ). Adds p.next (act_plain known (roll-Act Name (Unit {0}) x) p).1.next (λ n. declared p n + times n l)
-      (λ n. declared (act_plain known (roll-Act Name (Unit {0}) x) p).1 n + count_act n (act_plain known (roll-Act Name (Unit {0}) x) p).0)) (sym (fold-roll-Act Name (Unit {0}) (List ℕ) (List ℕ) act_locals locals_in x))
-      (subst (λ (r : NamedAct × Pending). Adds p.next r.1.next (λ n. declared p n + times n (act_locals (locals_inside x))) (λ n. declared r.1 n + count_act n r.0))
+      subst (λ (l : List NamedDecl). Adds p.next (act_plain known (roll-Act Name (Unit {0}) x) p).1.next (λ n. declared p n + occurs n l)
+      (λ n. declared (act_plain known (roll-Act Name (Unit {0}) x) p).1 n + count_act n (act_plain known (roll-Act Name (Unit {0}) x) p).0)) (sym (fold-roll-Act Name (Unit {0}) (List NamedDecl) (List NamedDecl) rows locals_of_stmt_parts x))
+      (subst (λ (r : NamedAct × Pending). Adds p.next r.1.next (λ n. declared p n + occurs n (rows (locals_inside x))) (λ n. declared r.1 n + count_act n r.0))
       (sym (ap (λ f. f p) (fold-roll-Act Name (Unit {0}) OfAct OfStmt (act_parts known) stmt_parts x)))
-      (subst (λ z. Adds p.next (act_parts known (act_inside z) p).1.next (λ n. declared p n + times n (act_locals (locals_inside z)))
+      (subst (λ z. Adds p.next (act_parts known (act_inside z) p).1.next (λ n. declared p n + occurs n (rows (locals_inside z)))
       (λ n. declared (act_parts known (act_inside z) p).1 n + count_act n (act_parts known (act_inside z) p).0)) is (act_says y p)))
 
   stmt_by : (x : Stmt-F Name (Unit {0}) NamedAct NamedStmt) (y : Stmt-F Name (Unit {0}) KeptAct KeptStmt) → inner_stmt y ≡ x → StmtHolds (roll-Stmt Name (Unit {0}) x)
@@ -350,11 +350,11 @@ module _ (known : Integers) where
       subst (λ z. StmtHolds (roll-Stmt Name (Unit {0}) z)) is (λ p.
       let z = inner_stmt y in
       let r = act_plain known y.body.0 p in
-      subst (λ (l : List ℕ). Adds p.next (stmt_plain known (roll-Stmt Name (Unit {0}) z) p).1.next (λ n. declared p n + times n l)
-      (λ n. declared (stmt_plain known (roll-Stmt Name (Unit {0}) z) p).1 n + count n (stmt_plain known (roll-Stmt Name (Unit {0}) z) p).0)) (sym (fold-roll-Stmt Name (Unit {0}) (List ℕ) (List ℕ) act_locals locals_in z))
+      subst (λ (l : List NamedDecl). Adds p.next (stmt_plain known (roll-Stmt Name (Unit {0}) z) p).1.next (λ n. declared p n + occurs n l)
+      (λ n. declared (stmt_plain known (roll-Stmt Name (Unit {0}) z) p).1 n + count n (stmt_plain known (roll-Stmt Name (Unit {0}) z) p).0)) (sym (fold-roll-Stmt Name (Unit {0}) (List NamedDecl) (List NamedDecl) rows locals_of_stmt_parts z))
       (subst (λ (q : NamedStmt × Pending). Adds p.next q.1.next (λ n. declared p n + count_act n y.body.0) (λ n. declared q.1 n + count n q.0))
       (sym (ap (λ f. f p) (fold-roll-Stmt Name (Unit {0}) OfAct OfStmt (act_parts known) stmt_parts z)))
-      (subst (λ (l : List ℕ). Adds p.next r.1.next (λ n. declared p n + count_act n y.body.0) (λ n. declared r.1 n + times n l)) (sym (body_declares r.0 y.pos)) (y.body.1 p))))
+      (subst (λ (l : List NamedDecl). Adds p.next r.1.next (λ n. declared p n + count_act n y.body.0) (λ n. declared r.1 n + occurs n l)) (sym (body_declares r.0 y.pos)) (y.body.1 p))))
 
   stmt_holds : (s : NamedStmt) → StmtHolds s
   stmt_holds = ind-Stmt Name (Unit {0}) ActHolds StmtHolds act_by stmt_by

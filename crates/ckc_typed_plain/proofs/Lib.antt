@@ -11,5 +11,6 @@ pub mod Fresh
 pub mod FreshExprs
 pub mod FreshStmts
 pub mod OwnLocals
+pub mod Gathered
 pub mod PlainLocals
 pub mod Fits
