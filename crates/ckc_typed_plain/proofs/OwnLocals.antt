@@ -134,7 +134,7 @@ module _ (names : Names) where
 
   -- ---- heads and items
 
-  params_counted : (all before : Scopes) (ds : List Decl) (es : List NamedDecl) (after : Scopes) → ParamsNamed names all before ds es after → Counted before.next (flat_map (e ∷ [])s) after.next
+  params_counted : (all before : Scopes) (ds : List Decl) (es : List NamedDecl) (after : Scopes) → ParamsNamed names all before ds es after → Counted before.next es after.next
   params_counted all before ds es after items.no_params = nothing before.next
   params_counted all before ds es after (items.param {e = e} {es = rest} h new hs) =
       both before.next (before.next + 1) after.next (e ∷ []) rest (one_local before.next e h.named) (params_counted all _ _ rest after hs)

@@ -156,12 +156,38 @@ all_numbered (i ∷ is) h = All-cons (λ i. AreNumbered (item_locals i)) i is (i
 
 -- ---- texts
 
+abbrev pub params_in : NamedItem → List NamedDecl
+params_in (item.Proto h) = h.params
+params_in (item.Function h body) = h.params
+params_in i = []
+
+front_named : (k : ℕ) (ds es : List NamedDecl) → NamedFrom k (ds ++ es) → NamedFrom k ds
+front_named k [] es h = tt
+front_named k (d ∷ ds) es h = (h.0, front_named (k + 1) ds es h.1)
+
+params_first_named : (i : NamedItem) → NamedFrom 0 (declared_in i) → NamedFrom 0 (params_in i)
+params_first_named (item.Directive d) h = h
+params_first_named (item.Tag n at) h = h
+params_first_named (item.Struct n members at) h = h
+params_first_named (item.Static d) h = h
+params_first_named (item.Proto g) h = h
+params_first_named (item.Function g body) h = front_named 0 g.params (locals_of_stmt body) h
+
+all_params : (is : List NamedItem) → All (λ i. NamedFrom 0 (declared_in i)) is → All (λ i. NamedFrom 0 (params_in i)) is
+all_params [] h = All-nil (λ i. NamedFrom 0 (params_in i))
+all_params (i ∷ is) h =
+    All-cons (λ i. NamedFrom 0 (params_in i)) i is (params_first_named i (All-head (λ i. NamedFrom 0 (declared_in i)) i is h)) (all_params is (All-tail (λ i. NamedFrom 0 (declared_in i)) i is h))
+
 module _ (t : Tree) (n : NamedText) (m : resolving.Makes t n) where
   r : IsResolved t n
   r = resolved_of t n m
 
   pub params_numbered : All (λ i. CountsFrom 0 (item_params i)) n.tree.items
   params_numbered = all_items t n r (λ i. CountsFrom 0 (item_params i)) (λ h b c p. p) (params_first r.resolved.tree.items (locals_count t r.resolved r.has_names))
+
+  -- the parameters of each function have the names of the numbers 0, 1, 2 and so on
+  pub params_named : All (λ i. NamedFrom 0 (params_in i)) n.tree.items
+  params_named = all_items t n r (λ i. NamedFrom 0 (params_in i)) (λ h b c p. p) (all_params r.resolved.tree.items (own_named t r.resolved r.has_names))
 
   -- the locals of each function have the names of the numbers from 0 on
   pub locals_named : All (λ i. AllNamed (declared_in i)) n.tree.items
