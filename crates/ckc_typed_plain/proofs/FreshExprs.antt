@@ -58,14 +58,12 @@ occurs_append i (d ∷ ds) ys = put (one i (code d.name)) (occurs i (ds ++ ys)) 
     put : (a b c d : ℕ) → b ≡ c + d → a + b ≡ a + c + d
     put a b c d e = omega (arith, e)
 
+-- the locals that a statement declares, by those of its parts
 abbrev pub rows : Act-F Name (Unit {0}) (List NamedDecl) (List NamedDecl) → List NamedDecl
 rows = inside_run listed (λ e. []) (λ d. d ∷ []) (λ s. s)
 
 abbrev pub all_locals : List NamedStmt → List NamedDecl
-all_locals ss = inside_each listed (λ (ns : List NamedDecl). ns) (map locals_of_stmt ss)
-
-abbrev pub locals_of_act : NamedAct → List NamedDecl
-locals_of_act = fold-Act Name (Unit {0}) (List NamedDecl) (List NamedDecl) rows locals_in
+all_locals ss = inside_each listed (λ (ds : List NamedDecl). ds) (map locals_of_stmt ss)
 
 abbrev pub locals_inside : ActLayer → Act-F Name (Unit {0}) (List NamedDecl) (List NamedDecl)
 locals_inside = map-Act Name (Unit {0}) NamedAct NamedStmt (List NamedDecl) (List NamedDecl) locals_of_act locals_of_stmt
@@ -78,7 +76,6 @@ body_declares a pos = fold-roll-Stmt Name (Unit {0}) (List NamedDecl) (List Name
 
 pub stmt_declares : (x : ActLayer) (a : NamedAct) (pos : Pos) → roll-Act Name (Unit {0}) x ≡ a → locals_of_stmt (stmt_at a pos) ≡ rows (locals_inside x)
 stmt_declares x a pos is = body_declares a pos ∙ act_declares x a is
-
 
 pub often_append : (n : ℕ) (ss ts : List NamedStmt) → occurs n (all_locals (ss ++ ts)) ≡ occurs n (all_locals ss) + occurs n (all_locals ts)
 often_append n [] ts = refl

@@ -50,7 +50,7 @@ if_count n e s = ap (occurs n) (append-nil (locals_of_stmt s))
 else_count : (n : ℕ) (e : NamedExpr) (s t : NamedStmt) → occurs n (rows (locals_inside (Act-F.If e s (Some t)))) ≡ count n s + count n t
 else_count n e s t = occurs_append n (locals_of_stmt s) (locals_of_stmt t)
 
-part_count : ℕ → Option NamedStmt → ℕ
+abbrev part_count : ℕ → Option NamedStmt → ℕ
 part_count n None = 0
 part_count n (Some s) = count n s
 
