@@ -19,20 +19,22 @@ use Rattle.ckc_blame_sound.specs.Numbered.{AreLocals, AreAllLocals}
 use Rattle.ckc_blame_sound.proofs.Bares.{same_tree}
 use Rattle.ckc_blame_sound.proofs.KeptTrees.{two}
 use Rattle.ckc_blame_sound.proofs.Locals.{names_declared, stmt_declares}
-use Rattle.ckc_blame_sound.proofs.Numbers.{decl_name, item_names, locals_named}
+use Rattle.ckc_blame_sound.proofs.Numbers.{decl_name, item_names, names_declared_in}
+use Rattle.ckc_typed_plain.proofs.OwnLocals.{NamedFrom, declared_in}
+use Rattle.ckc_typed_plain.proofs.PlainLocals.{AllNamed, params_in, params_named, locals_named}
 
 -- the tree without notes is that of the names
 pub tree_named : (p : Typed) (j : IsJudged p) → without_notes p.tree ≡ j.named.tree
 tree_named p j = same_tree j.typed p j.has_bounds ∙ j.has_types.tree
 
-params_named : (ds : List NotedDecl) → flat_map decl_name (map bare_decl ds) ≡ names_declared ds
-params_named [] = refl
-params_named (d ∷ ds) = ap (λ ns. d.name ∷ ns) (params_named ds)
+params_same : (ds : List NotedDecl) → flat_map decl_name (map bare_decl ds) ≡ names_declared ds
+params_same [] = refl
+params_same (d ∷ ds) = ap (λ ns. d.name ∷ ns) (params_same ds)
 
 -- the names of the locals of a function
 function_names : (h : NotedHead) (body : NotedStmt) → item_names (bare_item (item.Function h body)) ≡ names_declared (all_of h body)
 function_names h body =
-    two (λ xs ys. xs ++ ys) (params_named h.params) (sym (stmt_declares body).is.names)
+    two (λ xs ys. xs ++ ys) (params_same h.params) (sym (stmt_declares body).is.names)
     ∙ sym (map-append (λ (d : NotedDecl). d.name) h.params (path body).declared)
 
 -- what is so of all that is made from some is so of each, made
@@ -50,18 +52,14 @@ counting_numbers : (k : ℕ) (ns : List Name) → AreLocals k ns → (ks : List 
 counting_numbers k [] h = ([], refl, tt)
 counting_numbers k (n ∷ ns) h = let r = counting_numbers (k + 1) ns h.1 in (k ∷ r.0, two (λ m ms. m ∷ ms) h.0 r.1, (refl, r.2))
 
-front_locals : (k : ℕ) (ds es : List NotedDecl) → AreLocals k (names_declared (ds ++ es)) → AreLocals k (names_declared ds)
-front_locals k [] es h = tt
-front_locals k (d ∷ ds) es h = (h.0, front_locals (k + 1) ds es h.1)
-
-in_order : (p : Typed) (h : NotedHead) (body : NotedStmt) → IsJudged p → Contains p.tree.items (item.Function h body) → AreLocals 0 (names_declared (all_of h body))
-in_order p h body j there =
-    subst (AreLocals 0) (function_names h body)
-    (item_is p j (λ i. AreLocals 0 (item_names i)) (locals_named j.spelled j.named j.has_names) (item.Function h body) there)
+params_counted : (k : ℕ) (ds : List NotedDecl) → NamedFrom k (map bare_decl ds) → AreLocals k (names_declared ds)
+params_counted k [] h = tt
+params_counted k (d ∷ ds) h = (h.0, params_counted (k + 1) ds h.1)
 
 -- parameters have the first numbers
 pub params_numbered : (p : Typed) (h : NotedHead) (body : NotedStmt) → IsJudged p → Contains p.tree.items (item.Function h body) → AreLocals 0 (names_declared h.params)
-params_numbered p h body j there = front_locals 0 h.params (path body).declared (in_order p h body j there)
+params_numbered p h body j there =
+    params_counted 0 h.params (item_is p j (λ i. NamedFrom 0 (params_in i)) (params_named j.spelled j.named j.has_names) (item.Function h body) there)
 
 all_locals : (ns : List Name) → AreLocals 0 ns → AreAllLocals ns
 all_locals ns h = let r = counting_numbers 0 ns h in (r.0, r.1, (r.0, r.2, IsPermutation-refl r.0))
@@ -71,4 +69,7 @@ params_own p h body j there = all_locals (names_declared h.params) (params_numbe
 
 -- each local has a number of its own
 pub numbered : (p : Typed) (h : NotedHead) (body : NotedStmt) → IsJudged p → Contains p.tree.items (item.Function h body) → AreAllLocals (names_declared (all_of h body))
-numbered p h body j there = all_locals (names_declared (all_of h body)) (in_order p h body j there)
+numbered p h body j there =
+    let bare = bare_item (item.Function h body) in
+    let r : AllNamed (declared_in bare) = item_is p j (λ i. AllNamed (declared_in i)) (locals_named j.spelled j.named j.has_names) (item.Function h body) there in
+    (r.0, sym (function_names h body) ∙ names_declared_in bare ∙ r.1, r.2)

@@ -8,3 +8,10 @@ pub mod Given
 pub mod VisibleExprs
 pub mod VisibleStmts
 pub mod Found
+pub mod Fresh
+pub mod FreshExprs
+pub mod FreshStmts
+pub mod OwnLocals
+pub mod Gathered
+pub mod PlainLocals
+pub mod Fits

@@ -7,9 +7,11 @@ ghost use Rattle.ckc_syntax_limits.specs.Small.{Small};
 ghost use Rattle.ckc_plain.specs.Phase.{resolving};
 ghost use Rattle.ckc_typed_welltyped.specs.Productions.{spoken_tree, given_tree};
 ghost use Rattle.ckc_typed_fit.specs.Bodies.{FunctionsHaveBodies, HasMain};
+ghost use Rattle.ckc_typed_fit.specs.Fit.{Fit};
+ghost use Rattle.ckc_typed_fit.specs.Locals.{item_params, item_locals};
 ghost use Rattle.ckc_typed_fit.specs.Members.{item_members, AreDifferent};
 ghost use Rattle.ckc_typed_fit.specs.Visible.{NamesAreVisible, TagsHaveBodies};
-ghost use Rattle.ckc_typed_fit.specs.Numbers.{static_numbers, CountsFrom, function_numbers, tag_numbers, CountsUp};
+ghost use Rattle.ckc_typed_fit.specs.Numbers.{static_numbers, CountsFrom, AreNumbered, function_numbers, tag_numbers, CountsUp};
 
 /// The objects of file scope, functions, tags and members of a plain text are numbered as those of the text before.
 pub fn plain_items_stay()
@@ -44,4 +46,19 @@ pub fn plain_names_are_visible()
         → NamesAreVisible n.tree.items }
     ensures tags { (t : Tree) (n : NamedText) → spoken_tree t ≡ true → resolving.Makes t n
         → TagsHaveBodies n.tree.items }
+{}
+
+/// The parameters of each function have the numbers 0, 1, 2 and so on, and all its locals, fresh ones too, those from 0
+/// on, each once.
+pub fn plain_locals_are_numbered()
+    ensures params { (t : Tree) (n : NamedText) →
+        resolving.Makes t n → All (λ i. CountsFrom 0 (item_params i)) n.tree.items }
+    ensures locals { (t : Tree) (n : NamedText) →
+        resolving.Makes t n → All (λ i. AreNumbered (item_locals i)) n.tree.items }
+{}
+
+/// A plain text that is made of a tree that the grammar gives is one that later phases may rely on.
+pub fn plain_texts_fit()
+    ensures fit { (t : Tree) (n : NamedText) → spoken_tree t ≡ true → resolving.Makes t n
+        → Fit n }
 {}

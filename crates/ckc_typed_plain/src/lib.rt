@@ -4,5 +4,6 @@
 mod laws;
 
 pub use laws::{
-    plain_items_stay, plain_names_are_visible, plain_texts_are_given, plain_texts_are_within,
+    plain_items_stay, plain_locals_are_numbered, plain_names_are_visible, plain_texts_are_given,
+    plain_texts_are_within, plain_texts_fit,
 };
