@@ -167,6 +167,9 @@ module _ (known : Integers) where
   pub right_else : (target : Form) (e : NamedExpr) (p : Pending) → stays target (form_of e) ≡ false → expr_plain known e p ≡ right_by known target e p
   right_else target e p b = sym (right_is target e p ∙ ap (λ z. if z then expr_kept known e p else expr_plain known e p) b)
 
+  pub whole_else : (e : NamedExpr) (p : Pending) → is_call (form_of e) ≡ false → expr_plain known e p ≡ whole_plain known e p
+  whole_else e p b = sym (whole_is e p ∙ ap (λ z. if z then expr_kept known e p else expr_plain known e p) b)
+
 -- what an answer is and leaves pending, said of something equal
 pub steps_along : {A S F : Type 0} (r : Result A F) (s : S) (m k : A × S) → m ≡ k → Steps r s m → Steps r s k
 steps_along r s m k e h = subst (λ z. Steps r s z) e h

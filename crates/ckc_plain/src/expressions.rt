@@ -407,7 +407,6 @@ fn plain_limits(
 }
 
 /// An expression that is no effect if it is a call, in a box of its own.
-#[tactic(auto, using(crate::proofs::Stays::whole_is))]
 pub fn whole_expr(
     alloc: Global,
     known: &Integers,
