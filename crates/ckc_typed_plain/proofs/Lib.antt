@@ -14,3 +14,4 @@ pub mod OwnLocals
 pub mod Gathered
 pub mod PlainLocals
 pub mod Fits
+pub mod TempNumbers
