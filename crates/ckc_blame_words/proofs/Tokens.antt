@@ -89,6 +89,7 @@ text_token w (kinds.Directive d) h = tt
 
 slash_token : (w : List ℕ) (k : TokenKind) → IsSlashItem w (Token k) → HoldsWord k
 slash_token w k (comments.mark l e) = mark_token k e
+slash_token w k (comments.division l e) = mark_token k e
 slash_token w k (comments.line l e) = absurd cc
 slash_token w k (comments.closed l e) = absurd cc
 slash_token w k (comments.open_at_end l e) = absurd cc

@@ -1,19 +1,19 @@
 -- Each name in a plain text is declared and visible where it stands, and each tag that a type names has a body.
-use Rattle.std.proofs.Common.{◌≡◌, ◌∙◌, sym, ap, refl, subst, Bool, true, false, ◌&&◌, ◌||◌, List, [], ◌∷◌, map, length}
-use Rattle.std.specs.List.{list_all, list_any, flat_map}
+use Rattle.std.proofs.Common.{◌≡◌, ◌∙◌, sym, ap, refl, subst, Bool, true, false, ◌||◌, List, [], ◌∷◌, map, length}
+use Rattle.std.specs.List.{list_all, list_any}
 use Rattle.std.proofs.Math.Path.{fun_ext}
 use Rattle.ckc_syntax.specs.declared.tree.Item.TheVariants as item
 use Rattle.ckc_syntax.specs.declared.tree.Name.{Name}
 use Rattle.ckc_syntax.specs.declared.tree.Name.TheVariants as name
 use Rattle.ckc_syntax.specs.declared.tree.NamedText.{NamedText}
-use Rattle.ckc_syntax.specs.Trees.{Tree, NamedTree, NamedItem, NamedHead, NamedStmt}
+use Rattle.ckc_syntax.specs.Trees.{Tree, NamedTree, NamedItem}
 use Rattle.ckc_plain.specs.declared.integers.Integers.{Integers}
 use Rattle.ckc_plain.specs.Integers.{known_of, known_in}
-use Rattle.ckc_plain.specs.Statements.{item_plain, plain}
+use Rattle.ckc_plain.specs.Statements.{item_plain}
 use Rattle.ckc_plain.specs.Phase.{resolving}
 use Rattle.ckc_typed.specs.Environment.{same_name}
 use Rattle.ckc_typed_fit.specs.Members.{item_members}
-use Rattle.ckc_typed_fit.specs.Numbers.{static_of, static_numbers, function_of, function_numbers}
+use Rattle.ckc_typed_fit.specs.Numbers.{static_of, function_of}
 use Rattle.ckc_typed_fit.specs.Tests.{Tests, names_declared, head_passes, item_passes, items_pass, walked}
 use Rattle.ckc_typed_fit.specs.Visible.{is_one_of, is_of_file, is_visible, is_declared_member, NamesAreVisible, struct_of, has_body, TagsHaveBodies}
 use Rattle.ckc_typed_fit.proofs.FormKept.{form_kept}
@@ -21,8 +21,8 @@ use Rattle.ckc_typed_fit.proofs.Found as found
 use Rattle.ckc_typed_welltyped.specs.Productions.{placed_head, placed_body, placed_item, placed_stmt, with_calls, spoken_tree}
 use Rattle.ckc_typed_plain.specs.Resolved.{IsResolved}
 use Rattle.ckc_typed_plain.proofs.Items.{resolved_of, flat_items}
-use Rattle.ckc_typed_plain.proofs.GivenExprs.{both, parts_of}
-use Rattle.ckc_typed_plain.proofs.VisibleExprs.{Has, Sub, AreTame}
+use Rattle.ckc_typed_plain.proofs.GivenLevels.{both, parts_of}
+use Rattle.ckc_typed_plain.proofs.VisibleExprs.{AreTame}
 use Rattle.ckc_typed_plain.proofs.VisibleStmts.{body_passes}
 
 module _ (T : Tests) (tame : AreTame T) (known : Integers) where

@@ -1,7 +1,6 @@
 -- A plain tree holds calls as whole right sides and call statements alone, if it is made of a tree that the grammar gives.
-use Rattle.std.proofs.Common.{◌≡◌, ◌∙◌, sym, ap, refl, subst, Bool, true, false, ◌&&◌, nat_le, List, [], ◌∷◌, ◌++◌, map, length}
+use Rattle.std.proofs.Common.{◌≡◌, ◌∙◌, ap, refl, true, false, nat_le, List, [], ◌∷◌, map, length}
 use Rattle.std.specs.List.{list_all}
-use Rattle.ckc_base.specs.declared.places.Pos.{Pos}
 use Rattle.ckc_syntax.specs.Inside.{listed, all_have, inside_each}
 use Rattle.ckc_syntax.specs.declared.tree.Init.TheVariants as init
 use Rattle.ckc_syntax.specs.declared.tree.Item.TheVariants as item
@@ -11,13 +10,12 @@ use Rattle.ckc_plain.specs.declared.integers.Integers.{Integers}
 use Rattle.ckc_plain.specs.Integers.{known_of, known_in}
 use Rattle.ckc_plain.specs.Effects.{in_expr, in_exprs, in_bounds}
 use Rattle.ckc_plain.specs.Barred.{in_static_init, in_decl, in_head, in_item, in_stmt}
-use Rattle.ckc_plain.specs.Statements.{item_plain, plain}
+use Rattle.ckc_plain.specs.Statements.{item_plain}
 use Rattle.ckc_plain.specs.Phase.{resolving}
 use Rattle.ckc_typed_fit.proofs.FormKept.{form_kept}
 use Rattle.ckc_typed_welltyped.specs.Productions.{callless_init, callless_expr, expr_form, placed_bounds, placed_init, placed_decl, placed_stmt, placed_body, placed_head, placed_item, with_calls, spoken_tree, given_decl, given_head, given_item, given_tree}
-use Rattle.ckc_typed_plain.specs.Resolved.{IsResolved}
 use Rattle.ckc_typed_plain.proofs.Items.{resolved_of}
-use Rattle.ckc_typed_plain.proofs.GivenExprs.{both, parts_of, empty_parts}
+use Rattle.ckc_typed_plain.proofs.GivenLevels.{both, parts_of, empty_parts}
 use Rattle.ckc_typed_plain.proofs.GivenStmts.{bounds_callless, expr_callless as callless_where_barred, body_given}
 
 module _ (known : Integers) where

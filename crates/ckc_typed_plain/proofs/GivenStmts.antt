@@ -1,26 +1,27 @@
 -- Statements without effects in their expressions have calls as a whole alone, and stand where they may, if those with
 -- effects have the form that the grammar gives and no effect in them is refused.
-use Rattle.std.proofs.Common.{◌≡◌, ◌∙◌, sym, ap, refl, subst, Bool, true, false, ◌&&◌, ◌||◌, nat_le, ℕ, suc, ◌+◌, List, [], ◌∷◌, ◌++◌, map, length}
-use Rattle.std.specs.Prelude.{Option, Some, None, not, if◌then◌else◌}
+use Rattle.std.proofs.Common.{◌≡◌, ◌∙◌, sym, ap, refl, subst, Bool, true, false, ◌&&◌, ◌||◌, nat_le, ℕ, suc, List, [], ◌∷◌, ◌++◌, map, length}
+use Rattle.std.specs.Prelude.{Option, Some, None, not}
 use Rattle.std.specs.List.{list_all}
 use Rattle.ckc_base.specs.declared.places.Pos.{Pos}
-use Rattle.ckc_syntax.specs.Inside.{listed, all_have, one_has, inside_each, inside_if}
+use Rattle.ckc_syntax.specs.Inside.{listed, all_have, one_has, inside_each}
 use Rattle.ckc_syntax.specs.declared.tree.Name.{Name}
 use Rattle.ckc_syntax.specs.declared.tree.Init.TheVariants as init
-use Rattle.ckc_syntax.specs.declared.tree.Act.{Act-F, map-Act, ind-Act, roll-Act, out-Act, fold-Act, fold-roll-Act}
+use Rattle.ckc_syntax.specs.declared.tree.Act.{Act-F, map-Act, roll-Act, out-Act, fold-Act, fold-roll-Act}
 use Rattle.ckc_syntax.specs.declared.tree.Act.TheVariants as act
 use Rattle.ckc_syntax.specs.declared.tree.Stmt.{Stmt-F, map-Stmt, ind-Stmt, roll-Stmt, fold-roll-Stmt}
-use Rattle.ckc_syntax.specs.Trees.{NamedLimits, NamedDecl, NamedInit, NamedExpr, NamedStmt, NamedAct}
+use Rattle.ckc_syntax.specs.Trees.{NamedLimits, NamedInit, NamedExpr, NamedStmt, NamedAct}
 use Rattle.ckc_plain.specs.declared.integers.Integers.{Integers}
 use Rattle.ckc_plain.specs.declared.pending.Pending.{Pending}
-use Rattle.ckc_plain.specs.Effects.{in_expr, in_whole, in_right, in_bounds, in_maybe, in_limits}
+use Rattle.ckc_plain.specs.Effects.{in_expr, in_right, in_bounds, in_maybe, in_limits}
 use Rattle.ckc_plain.specs.Barred as barred
 use Rattle.ckc_plain.specs.Barred.{in_init, in_local, in_act, in_stmt}
-use Rattle.ckc_plain.specs.Taken.{stmt_at, number_at, none_pending}
+use Rattle.ckc_plain.specs.Taken.{stmt_at, none_pending}
 use Rattle.ckc_plain.specs.Expressions.{expr_plain, whole_plain, right_plain, maybe_plain}
-use Rattle.ckc_plain.specs.Statements.{joined, placed_by, placed, OfAct, OfStmt, alone, part_alone, in_block, part_before, loop_condition, loop_body, for_condition, for_body, init_plain, local_plain, act_parts, stmt_parts, act_plain, stmt_plain}
-use Rattle.ckc_typed_welltyped.specs.Productions.{callless_bounds, callless_value, is_right, right_init, is_branch, begins, steps, Given, given_act, given_in, given_stmt, expr_form, limits_form, placed_bounds, placed_value, placed_start, placed_local, placed_act, placed_stmt, with_calls}
-use Rattle.ckc_typed_plain.proofs.GivenExprs.{ActLayer, given_of, given_inside, Callless, IsRight, is_good, AllGood, both, parts_of, empty_parts, given_at, good_at, good_of, number_without, right_callless, added, one_more, is_not, neither, all_are, Made, limits_hold, plain_made, whole_made, call_statement, right_made}
+use Rattle.ckc_plain.specs.Statements.{joined, placed_by, placed, OfAct, OfStmt, alone, in_block, loop_condition, loop_body, for_condition, for_body, init_plain, local_plain, act_parts, stmt_parts, act_plain, stmt_plain}
+use Rattle.ckc_typed_welltyped.specs.Productions.{callless_bounds, callless_value, right_init, is_branch, begins, steps, Given, given_act, given_in, given_stmt, expr_form, limits_form, placed_bounds, placed_value, placed_start, placed_act, placed_stmt, with_calls}
+use Rattle.ckc_typed_plain.proofs.GivenLevels.{ActLayer, given_of, given_inside, Callless, AllGood, both, parts_of, empty_parts, given_at, number_without, is_not, all_are}
+use Rattle.ckc_typed_plain.proofs.GivenExprs.{limits_hold, plain_made, whole_made, call_statement, right_made}
 use Rattle.ckc_typed_plain.proofs.Untouched.{limits_stay, plain_stays, right_stays}
 
 abbrev ValueCallless : Option NamedExpr → Type 0
@@ -438,8 +439,7 @@ module _ (known : Integers) where
   act_says (Act-F.For None e None k) = record {
     made = λ b f w none p g.
         let gs = parts_of (placed_value with_calls e) (spoken k).fine f in
-        let es : ([] ≡ []) × ((in_maybe known e b ++ (in_stmt known k.0 b ++ [])) ≡ []) = (refl, none) in
-        let ds = empty_parts (in_maybe known e b) (in_stmt known k.0 b ++ []) es.1 in
+        let ds = empty_parts (in_maybe known e b) (in_stmt known k.0 b ++ []) none in
         let cs = empty_parts (in_stmt known k.0 b) ([]) ds.1 in
         let q = p in
         let v = value_made e b gs.0 ds.0 (none_pending q.next) refl in
@@ -455,8 +455,7 @@ module _ (known : Integers) where
         let gs = parts_of (placed_value with_calls e) (steps (Some (spoken j)) && (spoken k).fine) f in
         let hs = parts_of (steps (Some (spoken j))) (spoken k).fine gs.1 in
         let vs = parts_of (is_branch (spoken j)) (is_branch (spoken k)) w in
-        let es : ([] ≡ []) × ((in_maybe known e b ++ (in_stmt known k.0 b ++ in_stmt known j.0 b)) ≡ []) = (refl, none) in
-        let ds = empty_parts (in_maybe known e b) (in_stmt known k.0 b ++ in_stmt known j.0 b) es.1 in
+        let ds = empty_parts (in_maybe known e b) (in_stmt known k.0 b ++ in_stmt known j.0 b) none in
         let cs = empty_parts (in_stmt known k.0 b) (in_stmt known j.0 b) ds.1 in
         let q = p in
         let v = value_made e b gs.0 ds.0 (none_pending q.next) refl in

@@ -1,5 +1,6 @@
 pub mod Items
 pub mod Stay
+pub mod GivenLevels
 pub mod GivenExprs
 pub mod Untouched
 pub mod GivenStmts

@@ -1,11 +1,10 @@
 -- What the resolved text has, and the plain text has too since it looks at no bodies of functions.
-use Rattle.std.proofs.Common.{◌≡◌, sym, ap, refl, subst, ℕ, List, [], ◌∷◌}
+use Rattle.std.proofs.Common.{sym, refl, subst, List, [], ◌∷◌}
 use Rattle.std.specs.Prelude.{All, Any}
-use Rattle.std.specs.List.{flat_map}
 use Rattle.std.proofs.lemmas.List.Elements.{All-nil, All-cons, All-head, All-tail}
 use Rattle.ckc_syntax.specs.declared.tree.Item.TheVariants as item
 use Rattle.ckc_syntax.specs.declared.tree.NamedText.{NamedText}
-use Rattle.ckc_syntax.specs.Trees.{Tree, NamedHead, NamedItem}
+use Rattle.ckc_syntax.specs.Trees.{Tree, NamedItem}
 use Rattle.ckc_syntax_limits.specs.Small.{Small}
 use Rattle.ckc_plain.specs.Phase.{resolving}
 use Rattle.ckc_typed_fit.specs.Numbers.{static_of, static_numbers, function_of, function_numbers, tag_of, tag_numbers, CountsFrom, CountsUp}

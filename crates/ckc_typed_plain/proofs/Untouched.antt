@@ -1,6 +1,6 @@
 -- An expression without effects stays as it is.
-use Rattle.std.proofs.Common.{◌≡◌, ◌∙◌, sym, ap, refl, subst, Bool, true, false, ◌||◌, ℕ, ◌+◌, List, [], ◌∷◌, ◌++◌, map, rules}
-use Rattle.std.specs.Prelude.{Option, Some, None, if◌then◌else◌}
+use Rattle.std.proofs.Common.{◌≡◌, ◌∙◌, sym, ap, refl, subst, Bool, true, false, ℕ, ◌+◌, List, [], ◌∷◌, ◌++◌, map, rules}
+use Rattle.std.specs.Prelude.{Some, None, if◌then◌else◌}
 use Rattle.ckc_base.specs.declared.places.Pos.{Pos}
 use Rattle.ckc_syntax.specs.Inside.{listed, inside_each}
 use Rattle.ckc_syntax.specs.declared.tree.Name.{Name}

@@ -29,12 +29,12 @@ use Rattle.ckc_plain.specs.declared.forms.Work.TheVariants as work
 use Rattle.ckc_plain.specs.Integers.{type_of, result_of}
 use Rattle.ckc_plain.specs.Forms.{work_of, form_of, is_call, stays}
 use Rattle.ckc_plain.specs.Effects.{integer_local}
-use Rattle.ckc_plain.specs.Taken.{expr_at, stmt_at, local_at, number_at, block_at, assign_at, declare_at, none_pending, with_stmt, with_fresh, call_taken, set_taken, step_taken, binary_taken, unary_taken, node_taken, taken}
+use Rattle.ckc_plain.specs.Taken.{expr_at, stmt_at, local_at, number_at, block_at, assign_at, declare_at, none_pending, call_taken, set_taken, step_taken, binary_taken, unary_taken, node_taken, taken}
 use Rattle.ckc_plain.specs.Expressions.{OfLimits, OfNode, OfExpr, rest, each_rest, if_true, if_false, if_none, choice, binary_parts, node_parts, expr_parts, limits_parts, limits_plain, node_kept, expr_kept, expr_plain, whole_plain, right_plain}
 use Rattle.ckc_typed.specs.Environment.{same_name}
 use Rattle.ckc_typed_fit.specs.Tests as tests
 use Rattle.ckc_typed_fit.specs.Tests.{Tests, type_passes, type_parts, limits_pass, node_passes, expr_passes, Walked, left_by, pass_in_turn, act_walked, stmt_walked, walked_act, walked}
-use Rattle.ckc_typed_plain.proofs.GivenExprs.{both, parts_of}
+use Rattle.ckc_typed_plain.proofs.GivenLevels.{both, parts_of}
 
 abbrev pub Layer : Type 0
 Layer = Node-F Name (Unit {0}) NamedLimits NamedNode NamedExpr

@@ -1,11 +1,10 @@
 -- Each name in a statement without effects passes a test where it stands, if each name in the statement with effects does.
 use Rattle.std.proofs.Common.{◌≡◌, ◌∙◌, sym, ap, refl, subst, Bool, true, false, ◌&&◌, ℕ, List, [], ◌∷◌, ◌++◌, map, append-nil, rules}
 use Rattle.std.specs.Prelude.{Option, Some, None, not}
-use Rattle.std.specs.List.{list_all}
-use Rattle.ckc_syntax.specs.Inside.{all_have, inside_each, inside_if}
+use Rattle.ckc_syntax.specs.Inside.{all_have, inside_each}
 use Rattle.ckc_syntax.specs.declared.tree.Name.{Name}
 use Rattle.ckc_syntax.specs.declared.tree.Init.TheVariants as init
-use Rattle.ckc_syntax.specs.declared.tree.Act.{Act-F, map-Act, ind-Act, roll-Act, out-Act, fold-Act, fold-roll-Act, the_lemmas}
+use Rattle.ckc_syntax.specs.declared.tree.Act.{Act-F, map-Act, roll-Act, out-Act, fold-Act, fold-roll-Act, the_lemmas}
 use Rattle.ckc_syntax.specs.declared.tree.Act.TheVariants as act
 use Rattle.ckc_syntax.specs.declared.tree.Stmt.{Stmt-F, map-Stmt, ind-Stmt, roll-Stmt, fold-roll-Stmt}
 use Rattle.ckc_syntax.specs.Trees.{NamedDecl, NamedInit, NamedExpr, NamedStmt, NamedAct}
@@ -13,11 +12,11 @@ use Rattle.ckc_plain.specs.declared.integers.Integers.{Integers}
 use Rattle.ckc_plain.specs.declared.pending.Pending.{Pending}
 use Rattle.ckc_plain.specs.Taken.{stmt_at, block_at, none_pending}
 use Rattle.ckc_plain.specs.Expressions.{expr_plain, exprs_plain, whole_plain, right_plain, maybe_plain}
-use Rattle.ckc_plain.specs.Statements.{joined, placed_by, placed, OfAct, OfStmt, alone, part_alone, in_block, part_before, loop_condition, loop_body, for_condition, for_body, init_plain, local_plain, act_parts, stmt_parts, act_plain, stmt_plain}
+use Rattle.ckc_plain.specs.Statements.{joined, placed_by, placed, OfAct, OfStmt, alone, in_block, loop_condition, loop_body, for_condition, for_body, init_plain, local_plain, act_parts, stmt_parts, act_plain, stmt_plain}
 use Rattle.ckc_typed_welltyped.specs.Productions.{Given, is_branch, placed_act, given_in, placed_stmt, with_calls}
-use Rattle.ckc_typed_fit.specs.Tests.{Tests, type_passes, bounds_pass, init_passes, expr_passes, value_passes, decl_passes, Walked, left_by, pass_in_turn, act_walked, stmt_walked, walked_act, walked}
-use Rattle.ckc_typed_plain.proofs.GivenExprs.{both, parts_of, is_not}
-use Rattle.ckc_typed_plain.proofs.VisibleExprs.{ActLayer, Has, Sub, sub_front, sub_back, sub_both, left_append, map_append, AreTame, bounds_more, W, At, Pass, at_append, grown, pass_more, one_pass, PE, walked_inside, walked_at, stmt_pass, number_pass, Goes, plain_goes, whole_goes, right_goes}
+use Rattle.ckc_typed_fit.specs.Tests.{Tests, type_passes, bounds_pass, init_passes, expr_passes, value_passes, Walked, left_by, pass_in_turn, act_walked, stmt_walked, walked_act}
+use Rattle.ckc_typed_plain.proofs.GivenLevels.{both, parts_of, is_not}
+use Rattle.ckc_typed_plain.proofs.VisibleExprs.{ActLayer, Sub, sub_front, sub_both, left_append, map_append, AreTame, bounds_more, W, At, Pass, at_append, pass_more, one_pass, PE, walked_inside, walked_at, stmt_pass, number_pass, Goes, plain_goes, whole_goes, right_goes}
 
 act_out : (x : ActLayer) → out-Act Name (Unit {0}) (roll-Act Name (Unit {0}) x) ≡ x
 act_out x = search (rules, the_lemmas)
@@ -282,9 +281,9 @@ module _ (T : Tests) (tame : AreTame T) where
     act_is x a is = ap (walked_act T) (sym is) ∙ fold-roll-Act Name (Unit {0}) Walked Walked (act_walked T) stmt_walked x
 
     -- a statement that leaves nothing visible and is no declaration
-    made : (ws : List Name) (p q : Pending) (w : Walked) (g : Given) (x : ActLayer) (a : NamedAct) → roll-Act Name (Unit {0}) x ≡ a → g.declares ≡ false
+    made : {n : ℕ} (ws : List Name) (p q : Pending) (w : Walked) (g : Given) (x : ActLayer) (a : NamedAct) → roll-Act Name (Unit {0}) x ≡ a → g.declares ≡ false
         → ((us : List Name) → Sub (A ws q.stmts) us → (act_walked T (walked_inside T tame x)).passes us ≡ true) → (act_walked T (walked_inside T tame x)).leaves ≡ w.leaves → P ws q.stmts → Sub (A ws p.stmts) (A ws q.stmts)
-        → GoesAct ws p w g (a, q)
+        → GoesAct ws p w g (a, record { stmts = q.stmts; next = n })
     made ws p q w g x a rolls none h l good more = record {
       is = λ us f. ap (λ (v : Walked). v.passes us) (act_is x a rolls) ∙ h us f;
       leaves = ap (λ (v : Walked). v.leaves) (act_is x a rolls) ∙ l;

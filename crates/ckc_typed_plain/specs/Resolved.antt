@@ -1,6 +1,5 @@
 -- What the phases from the tree of spellings to the plain tree make, step by step.
-use Rattle.std.specs.Prelude.{◌≡◌, List, []}
-use Rattle.ckc_base.specs.declared.places.Pos.{Pos}
+use Rattle.std.specs.Prelude.{◌≡◌, []}
 use Rattle.ckc_syntax.specs.declared.tree.NamedText.{NamedText}
 use Rattle.ckc_syntax.specs.Trees.{Tree}
 use Rattle.ckc_syntax_limits.specs.Small.{Small}

@@ -1,5 +1,5 @@
 -- What tokens derive is what the productions give.
-use Rattle.std.proofs.Common.{◌≡◌, ℕ, zero, suc, Bool, true, false, ◌&&◌, not, nat_le, ◌==◌, if◌then◌else◌, List, [], ◌∷◌, ◌++◌, length, map, refl, sym, ap, subst, ◌∙◌, ⊥, arith}
+use Rattle.std.proofs.Common.{◌≡◌, ℕ, zero, suc, Bool, true, false, ◌&&◌, not, nat_le, ◌==◌, if◌then◌else◌, List, [], ◌∷◌, ◌++◌, length, map, refl, sym, ap, subst, ◌∙◌, arith}
 use Rattle.std.proofs.lemmas.Bool.Decides.{nat_tests}
 use Rattle.std.specs.Prelude.{Option, Some, None, IfSome}
 use Rattle.std.specs.Option.{option_map}
@@ -573,13 +573,13 @@ s_stepped : (x : Expr) (o : Operation) (s : Option Setting) → C x → MaySet s
 s_stepped x o None h k = s_assigned x (by_one o) h (c_one o.pos)
 s_stepped x o (Some s) h k = s_assigned (set x (by_one o)) s (c_set x (by_one o) h (c_one o.pos)) k
 
-s_called : (t : Spelled) (es : List Expr) (ps : List Post) (i : Option Operation) (s : Option Setting) → LE es → PA ps → CalledOk ps i s
-    → B (changed (posted (called t es) ps) i s)
-s_called t es [] None None h p k = s_call (called t es) _ (k_called t es h)
-s_called t es [] (Some o) None h p k = assign_branch _ (s_changed (called t es) (Some o) None (c_called t es h) tt)
-s_called t es [] None (Some s) h p k = assign_branch _ (s_changed (called t es) None (Some s) (c_called t es h) k)
-s_called t es [] (Some o) (Some s) h p k = assign_branch _ (s_changed (called t es) (Some o) (Some s) (c_called t es h) k)
-s_called t es (q ∷ ps) i s h p k = assign_branch _ (s_changed _ i s (c_posted (called t es) (q ∷ ps) (c_called t es h) p) k)
+s_called : (x : Spelled) (es : List Expr) (ps : List Post) (i : Option Operation) (s : Option Setting) → LE es → PA ps → CalledOk ps i s
+    → B (changed (posted (called x es) ps) i s)
+s_called x es [] None None h p k = s_call (called x es) _ (k_called x es h)
+s_called x es [] (Some o) None h p k = assign_branch _ (s_changed (called x es) (Some o) None (c_called x es h) tt)
+s_called x es [] None (Some s) h p k = assign_branch _ (s_changed (called x es) None (Some s) (c_called x es h) k)
+s_called x es [] (Some o) (Some s) h p k = assign_branch _ (s_changed (called x es) (Some o) (Some s) (c_called x es h) k)
+s_called x es (q ∷ ps) i s h p k = assign_branch _ (s_changed _ i s (c_posted (called x es) (q ∷ ps) (c_called x es h) p) k)
 
 -- ---- items
 
@@ -731,8 +731,8 @@ good_made g.EndAssigns (cons h0 nil) = tt
 good_made g.Assigns (cons h0 (cons h1 (cons h2 nil))) = (h0, h2)
 good_made g.Expr (cons h0 (cons h1 nil)) = c_finished _ _ _ _ (h0) h1.0 h1.1 h1.2
 good_made g.ExprRest (cons h0 nil) = h0
-good_made g.ExprSetting (cons {x = x0} h0 nil) = (tt, (tt, may_set (as_setting x0) h0))
-good_made g.Chain (cons h0 (cons h1 nil)) = (h0, (h1, tt))
+good_made g.ExprSetting (cons {x = x0} h0 nil) = (tt, tt, may_set (as_setting x0) h0)
+good_made g.Chain (cons h0 (cons h1 nil)) = (h0, h1, tt)
 good_made g.Choice (cons h0 (cons h1 (cons h2 (cons h3 nil)))) = (h1, h3)
 good_made g.NoChoice nil = tt
 good_made g.Step (cons h0 (cons h1 (cons h2 nil))) = (h1, h2)
