@@ -15,4 +15,3 @@ pub mod OwnLocals
 pub mod Gathered
 pub mod PlainLocals
 pub mod Fits
-pub mod TempNumbers
