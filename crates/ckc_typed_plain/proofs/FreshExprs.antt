@@ -28,7 +28,7 @@ use Rattle.ckc_plain.specs.Effects.{integer_local}
 use Rattle.ckc_plain.specs.Taken.{expr_at, stmt_at, local_at, number_at, block_at, assign_at, declare_at, none_pending, with_stmt, with_fresh, call_taken, set_taken, step_taken, binary_taken, unary_taken, node_taken, taken}
 use Rattle.ckc_plain.specs.Expressions.{OfLimits, OfNode, OfExpr, rest, each_rest, truth_at, if_true, if_false, if_none, choice, binary_parts, node_parts, expr_parts, limits_parts, limits_plain, node_kept, expr_kept, expr_plain, exprs_plain, whole_plain, right_plain, bounds_plain, maybe_plain}
 use Rattle.ckc_plain.specs.Integers.{locals_of_stmt_parts, locals_of_stmt, locals_of_act}
-use Rattle.ckc_typed_plain.proofs.Fresh.{one, hits, hits_append, Counted, behind_another, Adds, adds_none, adds_one, adds_both}
+use Rattle.ckc_typed_plain.proofs.Fresh.{one, from_zero, hits, hits_append, Counted, behind_another, Adds, adds_none, adds_one, adds_both}
 
 abbrev pub ActLayer : Type 0
 ActLayer = Act-F Name (Unit {0}) NamedAct NamedStmt
@@ -52,7 +52,7 @@ occurs i [] = 0
 occurs i (d ∷ ds) = one i (code d.name) + occurs i ds
 
 pub occurs_append : (i : ℕ) (xs ys : List NamedDecl) → occurs i (xs ++ ys) ≡ occurs i xs + occurs i ys
-occurs_append i [] ys = refl
+occurs_append i [] ys = from_zero (occurs i ys)
 occurs_append i (d ∷ ds) ys = put (one i (code d.name)) (occurs i (ds ++ ys)) (occurs i ds) (occurs i ys) (occurs_append i ds ys)
   where
     put : (a b c d : ℕ) → b ≡ c + d → a + b ≡ a + c + d
@@ -78,7 +78,7 @@ pub stmt_declares : (x : ActLayer) (a : NamedAct) (pos : Pos) → roll-Act Name 
 stmt_declares x a pos is = body_declares a pos ∙ act_declares x a is
 
 pub often_append : (n : ℕ) (ss ts : List NamedStmt) → occurs n (all_locals (ss ++ ts)) ≡ occurs n (all_locals ss) + occurs n (all_locals ts)
-often_append n [] ts = refl
+often_append n [] ts = from_zero (occurs n (all_locals ts))
 often_append n (s ∷ ss) ts =
     occurs_append n (locals_of_stmt s) (all_locals (ss ++ ts))
     ∙ put (occurs n (locals_of_stmt s)) (occurs n (all_locals (ss ++ ts))) (occurs n (all_locals ss)) (occurs n (all_locals ts)) (occurs n (all_locals (s ∷ ss))) (often_append n ss ts) (occurs_append n (locals_of_stmt s) (all_locals ss))

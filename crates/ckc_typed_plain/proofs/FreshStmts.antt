@@ -17,7 +17,7 @@ use Rattle.ckc_plain.specs.Taken.{stmt_at, block_at, none_pending}
 use Rattle.ckc_plain.specs.Expressions.{expr_plain, whole_plain, right_plain, bounds_plain, maybe_plain}
 use Rattle.ckc_plain.specs.Statements.{joined, placed_by, placed, OfAct, OfStmt, alone, in_block, loop_condition, loop_body, for_condition, for_body, init_plain, local_plain, with_next, act_parts, stmt_parts, act_plain, stmt_plain}
 use Rattle.ckc_plain.specs.Integers.{locals_of_stmt_parts, locals_of_stmt, locals_of_act}
-use Rattle.ckc_typed_plain.proofs.Fresh.{Adds, adds_none, adds_both, adds_as}
+use Rattle.ckc_typed_plain.proofs.Fresh.{from_zero, Adds, adds_none, adds_both, adds_as}
 use Rattle.ckc_typed_plain.proofs.FreshExprs.{ActLayer, rows, occurs, occurs_append, all_locals, locals_inside, act_declares, body_declares, stmt_declares, often_append, often_last, block_declares, declared, Grown, grown_none, grown_both, plain_grown, whole_grown, right_grown, exprs_grown, bounds_grown, maybe_grown}
 
 -- ---- how often a local is declared
@@ -28,9 +28,8 @@ count n s = occurs n (locals_of_stmt s)
 abbrev count_act : ℕ → NamedAct → ℕ
 count_act n a = occurs n (locals_of_act a)
 
-
 joined_count : (n : ℕ) (ss : List NamedStmt) (s : NamedStmt) → count n (joined ss s) ≡ occurs n (all_locals ss) + count n s
-joined_count n [] s = refl
+joined_count n [] s = from_zero (count n s)
 joined_count n (b ∷ bs) s = ap (occurs n) (block_declares ((b ∷ bs) ++ s ∷ []) b.pos) ∙ often_last n (b ∷ bs) s
 
 single : (n : ℕ) (s : NamedStmt) → occurs n (all_locals (s ∷ [])) ≡ count n s
@@ -66,7 +65,7 @@ for_count n (Some f) e (Some u) s = for_lists n (locals_of_stmt f) (locals_of_st
 
 -- the body of a loop before whose condition statements run
 loop_count : (n : ℕ) (ss : List NamedStmt) (c : NamedExpr) (s : NamedStmt) → count n (loop_body ss c s) ≡ occurs n (all_locals ss) + count n s
-loop_count n [] c s = refl
+loop_count n [] c s = from_zero (count n s)
 loop_count n (b ∷ bs) c s =
     let leave : NamedStmt = stmt_at act.Break b.pos in
     let choice : NamedStmt = stmt_at (act.If c s (Some leave)) b.pos in
@@ -78,7 +77,7 @@ loop_count n (b ∷ bs) c s =
     put a b c d e f g h i j = omega (arith, g, h, i, j)
 
 for_body_count : (n : ℕ) (ss : List NamedStmt) (c : Option NamedExpr) (s : NamedStmt) → (c ≡ None → ss ≡ []) → count n (for_body ss c s) ≡ occurs n (all_locals ss) + count n s
-for_body_count n ss None s none = ap (λ l. occurs n (all_locals l) + count n s) (sym (none refl))
+for_body_count n ss None s none = from_zero (count n s) ∙ ap (λ l. occurs n (all_locals l) + count n s) (sym (none refl))
 for_body_count n ss (Some c) s none = loop_count n ss c s
 
 -- ---- what is said of a statement

@@ -19,7 +19,7 @@ use Rattle.ckc_typed_fit.specs.Locals.{local_in, decl_local, stmt_locals, item_l
 use Rattle.ckc_typed_fit.proofs.LocalsCounted.{locals_count, params_first}
 use Rattle.ckc_typed_plain.specs.Resolved.{IsResolved}
 use Rattle.ckc_typed_plain.proofs.Items.{resolved_of, all_items}
-use Rattle.ckc_typed_plain.proofs.Fresh.{one, times, hits, hits_append, counts_append, as_often}
+use Rattle.ckc_typed_plain.proofs.Fresh.{one, times, from_zero, hits, hits_append, counts_append, as_often}
 use Rattle.ckc_typed_plain.proofs.FreshExprs.{code, occurs, occurs_append}
 use Rattle.ckc_typed_plain.proofs.FreshStmts.{function_adds}
 use Rattle.ckc_typed_plain.proofs.OwnLocals.{NamedFrom, declared_in, own_named}
@@ -57,35 +57,36 @@ numbers_of k (d ∷ ds) h =
       often = λ i. ap (λ (n : Name). one i (code n) + occurs i ds) h.0 ∙ ap (λ c. one i (suc k) + c) (r.often i) ∙ sym (hits_cons i k r.are);
     }
 
--- a name that is the name of a local, and one that is behind it
+-- if no declaration has another name
 all_locals : (ds : List NamedDecl) → occurs 0 ds ≡ 0 → map (λ (d : NamedDecl). d.name) ds ≡ map name.Local (flat_map decl_local ds)
 all_locals [] h = refl
-all_locals (d ∷ ds) h = by d.name h
+all_locals (d ∷ ds) h = by d.name h (all_locals ds)
   where
-    none : {A : Type 0} (c : ℕ) → 1 + c ≡ 0 → A
-    none c e = absurd (omega (arith, e))
+    none : (c : ℕ) → 1 + c ≡ 0 → ⊥
+    none c e = omega (arith, e)
 
-    by : (n : Name) → one 0 (code n) + occurs 0 ds ≡ 0 → n ∷ map (λ (d : NamedDecl). d.name) ds ≡ map name.Local (local_in n ++ flat_map decl_local ds)
-    by (name.Local k) e = ap (λ l. name.Local k ∷ l) (all_locals ds e)
-    by (name.Static k) e = none (occurs 0 ds) e
-    by (name.Function k) e = none (occurs 0 ds) e
-    by (name.Tag k) e = none (occurs 0 ds) e
-    by (name.Member k) e = none (occurs 0 ds) e
-    by name.Getchar e = none (occurs 0 ds) e
-    by name.Putchar e = none (occurs 0 ds) e
+    by : (n : Name) → one 0 (code n) + occurs 0 ds ≡ 0 → (occurs 0 ds ≡ 0 → map (λ (d : NamedDecl). d.name) ds ≡ map name.Local (flat_map decl_local ds))
+        → n ∷ map (λ (d : NamedDecl). d.name) ds ≡ map name.Local (local_in n ++ flat_map decl_local ds)
+    by (name.Local k) e rest = ap (λ l. name.Local k ∷ l) (rest (from_zero (occurs 0 ds) ∙ e))
+    by (name.Static k) e rest = absurd (none (occurs 0 ds) e)
+    by (name.Function k) e rest = absurd (none (occurs 0 ds) e)
+    by (name.Tag k) e rest = absurd (none (occurs 0 ds) e)
+    by (name.Member k) e rest = absurd (none (occurs 0 ds) e)
+    by name.Getchar e rest = absurd (none (occurs 0 ds) e)
+    by name.Putchar e rest = absurd (none (occurs 0 ds) e)
 
 as_numbers : (n : ℕ) (ds : List NamedDecl) → times n (flat_map decl_local ds) ≡ occurs (suc n) ds
 as_numbers n [] = refl
-as_numbers n (d ∷ ds) = by d.name
+as_numbers n (d ∷ ds) = by d.name (as_numbers n ds)
   where
-    by : (x : Name) → times n (local_in x ++ flat_map decl_local ds) ≡ one (suc n) (code x) + occurs (suc n) ds
-    by (name.Local k) = ap (λ c. one n k + c) (as_numbers n ds)
-    by (name.Static k) = as_numbers n ds
-    by (name.Function k) = as_numbers n ds
-    by (name.Tag k) = as_numbers n ds
-    by (name.Member k) = as_numbers n ds
-    by name.Getchar = as_numbers n ds
-    by name.Putchar = as_numbers n ds
+    by : (x : Name) → times n (flat_map decl_local ds) ≡ occurs (suc n) ds → times n (local_in x ++ flat_map decl_local ds) ≡ one (suc n) (code x) + occurs (suc n) ds
+    by (name.Local k) rest = ap (λ c. one n k + c) rest
+    by (name.Static k) rest = rest ∙ from_zero (occurs (suc n) ds)
+    by (name.Function k) rest = rest ∙ from_zero (occurs (suc n) ds)
+    by (name.Tag k) rest = rest ∙ from_zero (occurs (suc n) ds)
+    by (name.Member k) rest = rest ∙ from_zero (occurs (suc n) ds)
+    by name.Getchar rest = rest ∙ from_zero (occurs (suc n) ds)
+    by name.Putchar rest = rest ∙ from_zero (occurs (suc n) ds)
 
 -- declarations of which there are as many of each local as there are in some numbers
 all_named : (ks : List ℕ) (ds : List NamedDecl) → CountsFrom 0 ks → ((i : ℕ) → occurs i ds ≡ hits i ks) → AllNamed ds
@@ -102,7 +103,7 @@ module _ (known : Integers) where
       let r = alone (stmt_plain inside body) m in
       let own = numbers_of 0 (h.params ++ locals_of_stmt body) named in
       let a = function_adds inside body m in
-      let long : m ≡ 0 + length own.are = length-map (h.params ++ locals_of_stmt body) declared_integer ∙ sym own.long in
+      let long : m ≡ 0 + length own.are = length-map (h.params ++ locals_of_stmt body) declared_integer ∙ sym own.long ∙ from_zero (length own.are) in
       all_named (own.are ++ a.new) (h.params ++ locals_of_stmt r.0) (counts_append 0 own.are a.new own.count (subst (λ n. CountsFrom n a.new) long a.counted.counts))
       (λ i. put (occurs i h.params) (occurs i (locals_of_stmt body)) (occurs i (locals_of_stmt r.0)) (occurs i (h.params ++ locals_of_stmt body)) (occurs i (h.params ++ locals_of_stmt r.0)) (hits i own.are) (hits i a.new) (hits i (own.are ++ a.new))
       (occurs_append i h.params (locals_of_stmt body)) (occurs_append i h.params (locals_of_stmt r.0)) (own.often i) (a.is i) (hits_append i own.are a.new))
