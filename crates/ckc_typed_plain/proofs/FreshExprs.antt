@@ -7,7 +7,6 @@ use Rattle.ckc_syntax.specs.Inside.{listed, inside_each, inside_run}
 use Rattle.ckc_syntax.specs.declared.tree.Name.{Name}
 use Rattle.ckc_syntax.specs.declared.tree.Name.TheVariants as name
 use Rattle.ckc_syntax.specs.declared.tree.TreeOp.{TreeOp}
-use Rattle.ckc_syntax.specs.declared.tree.TreeOp.TheVariants as op
 use Rattle.ckc_syntax.specs.declared.tree.Limits.{Limits-F, map-Limits, ind-Limits, roll-Limits, fold-roll-Limits}
 use Rattle.ckc_syntax.specs.declared.tree.Node.{Node-F, map-Node, out-Node, roll-Node, fold-roll-Node}
 use Rattle.ckc_syntax.specs.declared.tree.Node.TheVariants as node
@@ -28,7 +27,7 @@ use Rattle.ckc_plain.specs.Effects.{integer_local}
 use Rattle.ckc_plain.specs.Taken.{expr_at, stmt_at, local_at, number_at, block_at, assign_at, declare_at, none_pending, with_stmt, with_fresh, call_taken, set_taken, step_taken, binary_taken, unary_taken, node_taken, taken}
 use Rattle.ckc_plain.specs.Expressions.{OfLimits, OfNode, OfExpr, rest, each_rest, truth_at, if_true, if_false, if_none, choice, binary_parts, node_parts, expr_parts, limits_parts, limits_plain, node_kept, expr_kept, expr_plain, exprs_plain, whole_plain, right_plain, bounds_plain, maybe_plain}
 use Rattle.ckc_plain.specs.Integers.{locals_of_stmt_parts, locals_of_stmt, locals_of_act}
-use Rattle.ckc_typed_plain.proofs.Fresh.{one, from_zero, hits, hits_append, Counted, behind_another, Adds, adds_none, adds_one, adds_both}
+use Rattle.ckc_typed_plain.proofs.Fresh.{one, from_zero, hits, hits_append, behind_another, Adds, adds_none, adds_one, adds_both}
 
 abbrev pub ActLayer : Type 0
 ActLayer = Act-F Name (Unit {0}) NamedAct NamedStmt
@@ -278,7 +277,6 @@ module _ (known : Integers) where
       grown_both p a.1 (choice o 1 if_false pos a.0 b a.1).1 (part k p) (choice_grown o 1 if_false false_chosen pos a.0 b a.1 (part j (none_pending (a.1.next + 1))))
   two_step (work.Steps by) o k j pos p = two_parts k j p
   two_step work.Computes o k j pos p = two_parts k j p
-
 
   list_step : (ks : List KeptExpr) (p : Pending) → Grown p (each_rest known (map (expr_kept known) (map (λ (k : KeptExpr). k.0) ks)) p).1
   list_step [] p = grown_none p

@@ -2,12 +2,11 @@
 -- pending before, and fresh locals, each once: those from the next number on.
 use Rattle.std.proofs.Common.{◌≡◌, ◌∙◌, sym, ap, refl, subst, ℕ, ◌+◌, List, [], ◌∷◌, ◌++◌, map, append-nil, arith}
 use Rattle.std.specs.Prelude.{Option, Some, None}
-use Rattle.ckc_base.specs.declared.places.Pos.{Pos}
 use Rattle.ckc_syntax.specs.Inside.{listed, inside_if}
 use Rattle.ckc_syntax.proofs.Insides.{none_found}
 use Rattle.ckc_syntax.specs.declared.tree.Name.{Name}
 use Rattle.ckc_syntax.specs.declared.tree.Init.TheVariants as init
-use Rattle.ckc_syntax.specs.declared.tree.Act.{Act-F, map-Act, ind-Act, roll-Act, out-Act, fold-roll-Act}
+use Rattle.ckc_syntax.specs.declared.tree.Act.{Act-F, map-Act, roll-Act, out-Act, fold-roll-Act}
 use Rattle.ckc_syntax.specs.declared.tree.Act.TheVariants as act
 use Rattle.ckc_syntax.specs.declared.tree.Stmt.{Stmt-F, map-Stmt, ind-Stmt, roll-Stmt, fold-roll-Stmt}
 use Rattle.ckc_syntax.specs.Trees.{NamedDecl, NamedInit, NamedExpr, NamedStmt, NamedAct}
@@ -15,7 +14,7 @@ use Rattle.ckc_plain.specs.declared.integers.Integers.{Integers}
 use Rattle.ckc_plain.specs.declared.pending.Pending.{Pending}
 use Rattle.ckc_plain.specs.Taken.{stmt_at, block_at, none_pending}
 use Rattle.ckc_plain.specs.Expressions.{expr_plain, whole_plain, right_plain, bounds_plain, maybe_plain}
-use Rattle.ckc_plain.specs.Statements.{joined, placed_by, placed, OfAct, OfStmt, alone, in_block, loop_condition, loop_body, for_condition, for_body, init_plain, local_plain, with_next, act_parts, stmt_parts, act_plain, stmt_plain}
+use Rattle.ckc_plain.specs.Statements.{joined, placed_by, placed, OfAct, OfStmt, alone, in_block, loop_condition, loop_body, for_condition, for_body, init_plain, local_plain, act_parts, stmt_parts, act_plain, stmt_plain}
 use Rattle.ckc_plain.specs.Integers.{locals_of_stmt_parts, locals_of_stmt, locals_of_act}
 use Rattle.ckc_typed_plain.proofs.Fresh.{from_zero, Adds, adds_none, adds_both, adds_as}
 use Rattle.ckc_typed_plain.proofs.FreshExprs.{ActLayer, rows, occurs, occurs_append, all_locals, locals_inside, act_declares, body_declares, stmt_declares, often_append, often_last, block_declares, declared, Grown, grown_none, grown_both, plain_grown, whole_grown, right_grown, exprs_grown, bounds_grown, maybe_grown}
@@ -81,7 +80,6 @@ for_body_count n ss None s none = from_zero (count n s) ∙ ap (λ l. occurs n (
 for_body_count n ss (Some c) s none = loop_count n ss c s
 
 -- ---- what is said of a statement
-
 
 abbrev HoldsStmt : NamedStmt → OfStmt → Type 0
 HoldsStmt s k = (p : Pending) → Adds p.next (k p).1.next (λ n. declared p n + count n s) (λ n. declared (k p).1 n + count n (k p).0)

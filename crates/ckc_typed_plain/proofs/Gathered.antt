@@ -4,7 +4,7 @@ use Rattle.std.specs.Prelude.{Option, Some, None}
 use Rattle.std.specs.List.{flat_map}
 use Rattle.ckc_syntax.specs.Inside.{listed, inside_each, inside_if, inside_run}
 use Rattle.ckc_syntax.specs.declared.tree.Name.{Name}
-use Rattle.ckc_syntax.specs.declared.tree.Act.{Act-F, map-Act, ind-Act, roll-Act, fold-Act, fold-roll-Act}
+use Rattle.ckc_syntax.specs.declared.tree.Act.{Act-F, map-Act, roll-Act, fold-Act, fold-roll-Act}
 use Rattle.ckc_syntax.specs.declared.tree.Stmt.{Stmt-F, map-Stmt, ind-Stmt, roll-Stmt, fold-Stmt, fold-roll-Stmt}
 use Rattle.ckc_syntax.specs.Trees.{NamedDecl, NamedExpr, NamedStmt, NamedAct}
 use Rattle.ckc_plain.specs.Integers.{locals_of_stmt_parts, locals_of_stmt, locals_of_act}

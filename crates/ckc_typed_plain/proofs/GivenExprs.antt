@@ -371,13 +371,11 @@ module _ (known : Integers) where
       → (start : ℕ) (chosen : NamedExpr → NamedStmt → Pos → NamedStmt) (pos : Pos) (a : NamedExpr) (b : NamedExpr × Pending) (p : Pending)
       → (forms.is_call (form_of (at_place (choice o start chosen pos a b p) pos).0) ≡ false) × (taken known (at_place (choice o start chosen pos a b p) pos) ≡ at_place (choice o start chosen pos a b p) pos)
   choice_plain o w is other same start chosen pos a b p =
-      if_none_made b.1.stmts _ _ (λ r. (forms.is_call (form_of (at_place r pos).0) ≡ false) × (taken known (at_place r pos) ≡ at_place r pos))
-      (
+      if_none_made b.1.stmts _ _ (λ r. (forms.is_call (form_of (at_place r pos).0) ≡ false) × (taken known (at_place r pos) ≡ at_place r pos)) (
         ap (λ z. forms.is_call (form_of_layer z)) (layer_of (Node-F.Bin o a b.0) _ (node.rolls-Bin o a b.0)) ∙ ap (λ v. forms.is_call (forms.binary_form v)) is ∙ ap forms.is_call other,
         ap (λ z. node_taken known z (expr_at (node.Bin o a b.0) pos) p) (layer_of (Node-F.Bin o a b.0) _ (node.rolls-Bin o a b.0))
             ∙ ap (λ v. binary_taken known v a b.0 (expr_at (node.Bin o a b.0) pos) p) is ∙ same a b.0 (expr_at (node.Bin o a b.0) pos) p,
-      )
-      (
+      ) (
         ap forms.is_call (local_form p.next pos),
         local_same p.next pos _,
       )

@@ -15,7 +15,7 @@ use Rattle.ckc_plain.specs.Integers.{declared_integer, locals_of_stmt, known_of,
 use Rattle.ckc_plain.specs.Statements.{alone, stmt_plain, item_plain}
 use Rattle.ckc_plain.specs.Phase.{resolving}
 use Rattle.ckc_typed_fit.specs.Numbers.{CountsFrom, AreNumbered}
-use Rattle.ckc_typed_fit.specs.Locals.{local_in, decl_local, stmt_locals, item_locals, item_params}
+use Rattle.ckc_typed_fit.specs.Locals.{local_in, decl_local, item_locals, item_params}
 use Rattle.ckc_typed_fit.proofs.LocalsCounted.{locals_count, params_first}
 use Rattle.ckc_typed_plain.specs.Resolved.{IsResolved}
 use Rattle.ckc_typed_plain.proofs.Items.{resolved_of, all_items}
@@ -24,7 +24,6 @@ use Rattle.ckc_typed_plain.proofs.FreshExprs.{code, occurs, occurs_append}
 use Rattle.ckc_typed_plain.proofs.FreshStmts.{function_adds}
 use Rattle.ckc_typed_plain.proofs.OwnLocals.{NamedFrom, declared_in, own_named}
 use Rattle.ckc_typed_plain.proofs.Gathered.{flat_append, gathered}
-
 
 -- the names are those of the locals with the numbers from 0 on, each once, in some order
 abbrev pub AllNamed : List NamedDecl → Type 0
@@ -193,7 +192,6 @@ module _ (t : Tree) (n : NamedText) (m : resolving.Makes t n) where
   -- the locals of each function have the names of the numbers from 0 on
   pub locals_named : All (λ i. AllNamed (declared_in i)) n.tree.items
   locals_named = subst (λ (z : NamedTree). All (λ i. AllNamed (declared_in i)) z.items) (sym r.tree) (items_named (known_of r.resolved.tree) r.resolved.tree.items (own_named t r.resolved r.has_names))
-
 
   pub locals_numbered : All (λ i. AreNumbered (item_locals i)) n.tree.items
   locals_numbered = all_numbered n.tree.items locals_named
