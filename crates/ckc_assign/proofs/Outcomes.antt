@@ -15,7 +15,7 @@ use Rattle.ckc_tac.specs.declared.code.Operand.{Operand}
 use Rattle.ckc_tac.specs.declared.code.Operand.TheVariants.{Register, Number}
 use Rattle.ckc_tac.specs.declared.code.TacOp.{TacOp}
 use Rattle.ckc_tac.specs.declared.code.TacOp.TheVariants.{Const, Copy, Bin, High, Load, Store, Check, Call, Get, Put, Alloc}
-use Rattle.ckc_tac.specs.Operations.{outcome_of, value_in, values_in, compared}
+use Rattle.ckc_tac.specs.Operations.{outcome_of, value_in, values_in, compared, at_offset}
 use Rattle.ckc_flow.specs.Live.{is_register, reads, target_of}
 
 -- ---- where a value goes
@@ -59,9 +59,9 @@ goes_to_target registers world (Const t n) = refl
 goes_to_target registers world (Copy t a) = to_value (Some t) (registers a) _ (λ x. refl)
 goes_to_target registers world (Bin op t a b) = to_value (Some t) (value_in registers a) _ (λ x. to_value (Some t) (value_in registers b) _ (λ y. refl))
 goes_to_target registers world (High is_signed t a b) = to_value (Some t) (value_in registers a) _ (λ x. to_value (Some t) (value_in registers b) _ (λ y. refl))
-goes_to_target registers world (Load width t a) = to_value (Some t) (value_in registers a) _ (λ p. to_value (Some t) (value_at width world.memory p) _ (λ x. refl))
-goes_to_target registers world (Store width a b) =
-    to_value None (value_in registers a) _ (λ p. to_value None (value_in registers b) _ (λ v. to_store world _ (memory_with width world.memory p v)))
+goes_to_target registers world (Load width t a n) = to_value (Some t) (value_in registers a) _ (λ p. to_value (Some t) (value_at width world.memory (at_offset p n)) _ (λ x. refl))
+goes_to_target registers world (Store width a n b) =
+    to_value None (value_in registers a) _ (λ p. to_value None (value_in registers b) _ (λ v. to_store world _ (memory_with width world.memory (at_offset p n) v)))
 goes_to_target registers world (Check check at comparison a b) =
     to_value None (compared comparison (value_in registers a) (value_in registers b)) _ (λ v. to_if None (v == 0) (Stops check at) (Done [] world) tt refl)
 goes_to_target registers world (Call target callee arguments at) = tt
@@ -129,8 +129,8 @@ module _ (registers lower : Values) where
   outcome_same world (Copy t a) h = with_same (registers a) (lower a) _ _ (h a (same_test a a refl)) (λ x. inr refl)
   outcome_same world (Bin op t a b) h = two_same a b h _
   outcome_same world (High is_signed t a b) h = two_same a b h _
-  outcome_same world (Load width t a) h = one_same a _ h
-  outcome_same world (Store width a b) h = two_same a b h _
+  outcome_same world (Load width t a n) h = one_same a _ h
+  outcome_same world (Store width a n b) h = two_same a b h _
   outcome_same world (Check check at comparison a b) h = with_same
       (compared comparison (value_in registers a) (value_in registers b)) (compared comparison (value_in lower a) (value_in lower b)) _ _
       (compared_same comparison a b h) (λ x. inr refl)

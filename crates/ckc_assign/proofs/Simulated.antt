@@ -164,8 +164,8 @@ module _ (placed : List PlacedFunc) where
     target_over regs (Copy q a) t h e = subst (λ x. x < regs) (let f : q ≡ t = cc in f) h.0
     target_over regs (Bin op q a b) t h e = subst (λ x. x < regs) (let f : q ≡ t = cc in f) h.0
     target_over regs (High is_signed q a b) t h e = subst (λ x. x < regs) (let f : q ≡ t = cc in f) h.0
-    target_over regs (Load width q a) t h e = subst (λ x. x < regs) (let f : q ≡ t = cc in f) h.0
-    target_over regs (Store width a b) t h e = absurd cc
+    target_over regs (Load width q a n) t h e = subst (λ x. x < regs) (let f : q ≡ t = cc in f) h.0
+    target_over regs (Store width a n b) t h e = absurd cc
     target_over regs (Check check at comparison a b) t h e = absurd cc
     target_over regs (Call (Some q) callee arguments at) t h e = subst (λ x. x < regs) (let f : q ≡ t = cc in f) h.0
     target_over regs (Call None callee arguments at) t h e = absurd cc
@@ -284,8 +284,8 @@ module _ (placed : List PlacedFunc) where
     reads_over regs (Copy q a) r h e = subst (λ x. x < regs) (test_same a r e) h.1
     reads_over regs (Bin op q a b) r h e = two_over regs a b r h.1 h.2 e
     reads_over regs (High is_signed q a b) r h e = two_over regs a b r h.1 h.2 e
-    reads_over regs (Load width q a) r h e = operand_over regs a r h.1 e
-    reads_over regs (Store width a b) r h e = two_over regs a b r h.0 h.1 e
+    reads_over regs (Load width q a n) r h e = operand_over regs a r h.1 e
+    reads_over regs (Store width a n b) r h e = two_over regs a b r h.0 h.2 e
     reads_over regs (Check check at comparison a b) r h e = two_over regs a b r h.1 h.2 e
     reads_over regs (Call target callee arguments at) r h e = any_over regs arguments r h.2 e
     reads_over regs (Get q) r h e = absurd cc

@@ -13,8 +13,8 @@ fn copy_of_op(alloc: Global, op: &TacOp) -> Result<TacOp, AllocError>
         TacOp::Copy(t, a) => Ok(TacOp::Copy(*t, *a)),
         TacOp::Bin(op, t, a, b) => Ok(TacOp::Bin(*op, *t, *a, *b)),
         TacOp::High(signed, t, a, b) => Ok(TacOp::High(*signed, *t, *a, *b)),
-        TacOp::Load(width, t, a) => Ok(TacOp::Load(*width, *t, *a)),
-        TacOp::Store(width, a, b) => Ok(TacOp::Store(*width, *a, *b)),
+        TacOp::Load(width, t, a, n) => Ok(TacOp::Load(*width, *t, *a, *n)),
+        TacOp::Store(width, a, n, b) => Ok(TacOp::Store(*width, *a, *n, *b)),
         TacOp::Check(check, at, c, a, b) => Ok(TacOp::Check(*check, *at, *c, *a, *b)),
         TacOp::Call(t, callee, args, at) => {
             let args = Seq::from_slice(alloc, args.as_slice())?;

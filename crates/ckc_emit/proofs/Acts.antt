@@ -1,6 +1,6 @@
 -- The operations without a call: the machine does what each of them does.
 use Rattle.std.proofs.Common.{◌≡◌, ◌≢◌, ◌⊎◌, inl, inr, ℕ, ◌+◌, ◌*◌, ◌%◌, ◌^◌, ◌≤◌, ◌<◌, if◌then◌else◌, Bool, true, List, [], ◌∷◌, ◌++◌, Some, refl, sym, ap, subst, ◌∙◌, arith}
-use Rattle.std.specs.Prelude.{pos}
+use Rattle.std.specs.Prelude.{ℤ}
 use Rattle.std.proofs.lemmas.Bool.Decides.{nat_tests}
 use Rattle.ckc_base.specs.declared.arithmetic.BinOp.{BinOp}
 use Rattle.ckc_base.specs.declared.arithmetic.Width.{Width}
@@ -18,11 +18,13 @@ use Rattle.ckc_rv.specs.Machine.{loaded, stored, stack_start, data_start, memory
 use Rattle.ckc_rv.specs.Detailed.{MachineEvent, Wrote}
 use Rattle.ckc_asm_lines.specs.declared.lines.Line.{Line}
 use Rattle.ckc_asm_lines.specs.declared.lines.Line.TheVariants as line
+use Rattle.ckc_tac.specs.Operations.{at_offset}
+use Rattle.ckc_tac.specs.WellFormed.{IsOffset}
 use Rattle.ckc_frame.specs.declared.code.Place.{Place}
 use Rattle.ckc_frame.specs.declared.code.Place.TheVariants as place
 use Rattle.ckc_frame.specs.Places.{number_of}
 use Rattle.ckc_frame.specs.WellFormed.{IsPlace}
-use Rattle.ckc_emit.specs.code.Lines.{source_of, register_with, write_lines, bin_lines, high_lines, const_lines, load_op, store_op, data_load_lines, data_store_lines, copy_lines, register_of}
+use Rattle.ckc_emit.specs.code.Lines.{source_of, register_with, operand_lines, base_with, rest_of, write_lines, bin_lines, high_lines, const_lines, load_op, store_op, data_load_lines, data_store_lines, copy_lines, register_of}
 use Rattle.ckc_emit.specs.Stores.{data_store}
 use Rattle.ckc_emit.proofs.Local.{Local, memory_of, state_of}
 use Rattle.ckc_emit.proofs.Words.{bytes_put, data_stored}
@@ -33,11 +35,11 @@ use Rattle.ckc_emit.proofs.Homes.{HasValue, HasPlaces, IsFramed, framed_kept, Wr
 use Rattle.ckc_base.proofs.WordValues.{applied_word}
 use Rattle.ckc_emit.proofs.Values.{high_word}
 use Rattle.ckc_emit.proofs.Acting.{const_writes, copy_writes}
-use Rattle.ckc_emit.proofs.Splits.{moved_none}
 use Rattle.ckc_emit.specs.declared.places.PlacedOperand.{PlacedOperand}
 use Rattle.ckc_emit.specs.code.Operands.{IsOperand}
-use Rattle.ckc_emit.proofs.Operands.{operand_value, operand_has, operand_word, left_register, right_register}
-use Rattle.ckc_emit.proofs.Binary.{one_read, two_reads, sourced_then, bin_writes, high_writes}
+use Rattle.ckc_emit.proofs.Operands.{operand_value, operand_has, operand_word, right_register}
+use Rattle.ckc_emit.proofs.Addresses.{base_value, address_is, base_register, read_address}
+use Rattle.ckc_emit.proofs.Binary.{one_then, two_then, sourced_then, bin_writes, high_writes}
 use Rattle.ckc_emit.proofs.Regions.{region, value_loaded, value_word, put_small, data_store as data_put}
 use Rattle.ckc_emit.proofs.Relation.{AreBytes, HasWorld, Does, write_does}
 
@@ -72,36 +74,42 @@ module _ (c : Code) (l : Local) (places : Values) (world : World) (framed : IsFr
   load_same Word v = refl
 
   -- a word or a byte that an instruction loads
-  pub data_sets : (width : Width) (rd ra p v : ℕ) (rest : List Line) (m : Local) → rd ≢ 0 → rd < 32 → ra < 32 → m.x ra ≡ p → p < 2 ^ 32
-      → base.value_at width (region m.bytes) p ≡ Some v → Sets c 1 1 (line.Plain (Load (load_op width) rd ra (pos 0)) ∷ rest) rest m rd v
-  data_sets width rd ra p v rest m nonzero h i e fits there =
+  pub data_sets : (width : Width) (rd ra x : ℕ) (z : ℤ) (p v : ℕ) (rest : List Line) (m : Local) → rd ≢ 0 → rd < 32 → ra < 32 → m.x ra ≡ x → moved x z ≡ p
+      → base.value_at width (region m.bytes) p ≡ Some v → Sets c 1 1 (line.Plain (Load (load_op width) rd ra z) ∷ rest) rest m rd v
+  data_sets width rd ra x z p v rest m nonzero h i e to there =
       let w = value_loaded c.parts m.bytes m.words width p v there in
-      let at : moved (m.x ra) (pos 0) ≡ p = ap (λ q. moved q (pos 0)) e ∙ moved_none p fits in
+      let at : moved (m.x ra) z ≡ p = ap (λ q. moved q z) e ∙ to in
       let aligned : p % load_bytes (load_op width) ≡ 0 = ap (λ n. p % n) (load_width width) ∙ w.0 in
       let got : loaded (memory_of c.parts m.bytes m.words) (load_bytes (load_op width)) p ≡ Some v = ap (λ n. loaded (memory_of c.parts m.bytes m.words) n p) (load_width width) ∙ w.1 in
-      sets_value c 1 1 (line.Plain (Load (load_op width) rd ra (pos 0)) ∷ rest) rest m rd (load_value (load_op width) v) v (load_same width v)
-      (set_by c (Load (load_op width) rd ra (pos 0)) rest m rd (load_value (load_op width) v) nonzero
-      (λ pc a. load_step c.parts m pc (load_op width) rd ra (pos 0) p v a h i at aligned got))
+      sets_value c 1 1 (line.Plain (Load (load_op width) rd ra z) ∷ rest) rest m rd (load_value (load_op width) v) v (load_same width v)
+      (set_by c (Load (load_op width) rd ra z) rest m rd (load_value (load_op width) v) nonzero
+      (λ pc a. load_step c.parts m pc (load_op width) rd ra z p v a h i at aligned got))
 
-  pub load_writes : (width : Width) (t : Place) (a : PlacedOperand) (p v : ℕ) (rest : List Line) → IsPlace t → IsOperand a → operand_value places a ≡ Some p → base.value_at width world.memory p ≡ Some v
-      → Writes c 1 7 (data_load_lines width t a rest) rest l t v
-  load_writes width t a p v rest ht ha ea there =
-      let mid = line.Plain (Load (load_op width) (source_of t 5) (register_with a 5) (pos 0)) ∷ write_lines t 5 rest in
+  pub load_writes : (width : Width) (t : Place) (a : PlacedOperand) (offset p v : ℕ) (rest : List Line) → IsPlace t → IsOperand a → IsOffset offset → operand_value places a ≡ Some p
+      → base.value_at width world.memory (at_offset p offset) ≡ Some v → Writes c 1 7 (data_load_lines width t a offset rest) rest l t v
+  load_writes width t a offset p v rest ht ha near ea there =
+      let q = at_offset p offset in
+      let ra = base_with a offset 5 in
+      let x = base_value a offset p in
+      let z = rest_of a offset in
+      let mid = line.Plain (Load (load_op width) (source_of t 5) ra z) ∷ write_lines t 5 rest in
       let fits = operand_word l places has a p ha ea in
-      let s = one_read c a p mid l framed ha (operand_has l places has a p ha ea) fits in
+      let here = operand_has l places has a p ha ea in
+      let s = one_then c ra x (data_load_lines width t a offset rest) mid l (read_address c a offset p mid l framed ha here fits) in
       let after = framed_kept l s.next framed s.keeps in
       let low = source_low c t ht in
-      let same : base.value_at width (region s.next.bytes) p ≡ Some v = ap (λ (m : base.Memory). base.value_at width m p) (ap region s.bytes ∙ sym whole.memory) ∙ there in
-      sourced_then c 3 1 4 (data_load_lines width t a rest) mid rest l (register_with a 5) p (register_with a 5) p t v s
+      let same : base.value_at width (region s.next.bytes) q ≡ Some v = ap (λ (m : base.Memory). base.value_at width m q) (ap region s.bytes ∙ sym whole.memory) ∙ there in
+      sourced_then c 3 1 4 (data_load_lines width t a offset rest) mid rest l ra x ra x t v s
       (write_after c 1 1 mid t v rest s.next after ht
-      (data_sets width (source_of t 5) (register_with a 5) p v (write_lines t 5 rest) s.next low.0 low.1 (left_register a ha).0 s.left fits same))
+      (data_sets width (source_of t 5) ra x z q v (write_lines t 5 rest) s.next low.0 low.1 (base_register a offset ha).0 s.left (address_is l a offset p near here fits) same))
 
-  pub load_does : (width : Width) (t : Place) (a : PlacedOperand) (p v : ℕ) (rest : List Line) → IsPlace t → IsOperand a → operand_value places a ≡ Some p → base.value_at width world.memory p ≡ Some v
-      → Does c 7 (data_load_lines width t a rest) rest l [] (with_written places (number_of t) v) world
-  load_does width t a p v rest ht ha ea there =
-      let here : base.value_at width (region l.bytes) p ≡ Some v = ap (λ (m : base.Memory). base.value_at width m p) (sym whole.memory) ∙ there in
-      write_does c 7 (data_load_lines width t a rest) rest l t v places world framed ht (value_word l.bytes width p v whole.small here) has whole
-      (load_writes width t a p v rest ht ha ea there)
+  pub load_does : (width : Width) (t : Place) (a : PlacedOperand) (offset p v : ℕ) (rest : List Line) → IsPlace t → IsOperand a → IsOffset offset → operand_value places a ≡ Some p
+      → base.value_at width world.memory (at_offset p offset) ≡ Some v → Does c 7 (data_load_lines width t a offset rest) rest l [] (with_written places (number_of t) v) world
+  load_does width t a offset p v rest ht ha near ea there =
+      let q = at_offset p offset in
+      let here : base.value_at width (region l.bytes) q ≡ Some v = ap (λ (m : base.Memory). base.value_at width m q) (sym whole.memory) ∙ there in
+      write_does c 7 (data_load_lines width t a offset rest) rest l t v places world framed ht (value_word l.bytes width q v whole.small here) has whole
+      (load_writes width t a offset p v rest ht ha near ea there)
 
   -- ---- copies
 
@@ -138,13 +146,13 @@ module _ (c : Code) (l : Local) (places : Values) (world : World) (framed : IsFr
   same_values m n (place.Reg k) w e f h = ap (λ (x : ℕ → ℕ). x (register_of k)) e ∙ h
   same_values m n (place.Slot k) w e f h = ap (λ (x : ℕ → ℕ). n.words (x 2 + (k * 4 + 64))) e ∙ ap (λ (g : ℕ → ℕ). g (m.x 2 + (k * 4 + 64))) f ∙ h
 
-  pub store_path : (width : Width) (ra rb p y : ℕ) (rest : List Line) (m : Local) (bytes : ℕ → ℕ) → m.bytes ≡ bytes → ra < 32 → rb < 32 → m.x ra ≡ p → m.x rb ≡ y → p < 2 ^ 32
+  pub store_path : (width : Width) (ra rb x : ℕ) (z : ℤ) (p y : ℕ) (rest : List Line) (m : Local) (bytes : ℕ → ℕ) → m.bytes ≡ bytes → ra < 32 → rb < 32 → m.x ra ≡ x → m.x rb ≡ y → moved x z ≡ p
       → p % base.width_bytes width ≡ 0 → data_start ≤ p → p + base.width_bytes width ≤ stack_start
-      → Path c 1 1 (line.Plain (Store (store_op width) ra rb (pos 0)) ∷ rest) rest (Wrote p (base.width_bytes width) (y % 256 ^ base.width_bytes width) ∷ []) m (record m { bytes = bytes_put bytes (base.width_bytes width) p y })
-  store_path width ra rb p y rest m bytes e ha hb left right fits aligned low high =
+      → Path c 1 1 (line.Plain (Store (store_op width) ra rb z) ∷ rest) rest (Wrote p (base.width_bytes width) (y % 256 ^ base.width_bytes width) ∷ []) m (record m { bytes = bytes_put bytes (base.width_bytes width) p y })
+  store_path width ra rb x z p y rest m bytes e ha hb left right to aligned low high =
       let n = base.width_bytes width in
       let w = store_width width in
-      let at : moved (m.x ra) (pos 0) ≡ p = ap (λ q. moved q (pos 0)) left ∙ moved_none p fits in
+      let at : moved (m.x ra) z ≡ p = ap (λ q. moved q z) left ∙ to in
       let multiple : p % store_bytes (store_op width) ≡ 0 = ap (λ k. p % k) w ∙ aligned in
       let below : p < memory_end = omega (arith, width_positive width) in
       let put : stored (memory_of c.parts m.bytes m.words) (store_bytes (store_op width)) p (m.x rb) ≡ memory_of c.parts (bytes_put bytes n p y) m.words =
@@ -152,19 +160,25 @@ module _ (c : Code) (l : Local) (places : Values) (world : World) (framed : IsFr
       ∙ ap (λ (b : ℕ → ℕ). stored (memory_of c.parts b m.words) n p y) e ∙ data_stored c.parts bytes m.words n p y low high in
       let same : Wrote p (store_bytes (store_op width)) (m.x rb % 256 ^ store_bytes (store_op width)) ≡ Wrote p n (y % 256 ^ n) =
       ap (λ k. Wrote p k (m.x rb % 256 ^ k)) w ∙ ap (λ v. Wrote p n (v % 256 ^ n)) right in
-      straight c (Store (store_op width) ra rb (pos 0)) rest (Wrote p n (y % 256 ^ n) ∷ []) m (record m { bytes = bytes_put bytes n p y }) (λ pc a.
-      store_step c.parts m pc (store_op width) ra rb (pos 0) p (bytes_put bytes n p y) m.words a ha hb at multiple low below put
+      straight c (Store (store_op width) ra rb z) rest (Wrote p n (y % 256 ^ n) ∷ []) m (record m { bytes = bytes_put bytes n p y }) (λ pc a.
+      store_step c.parts m pc (store_op width) ra rb z p (bytes_put bytes n p y) m.words a ha hb at multiple low below put
       ∙ ap (λ (event : MachineEvent). Goes (event ∷ []) (state_of c.parts (record m { bytes = bytes_put bytes n p y }) (pc + 4))) same)
 
-  pub store_does : (width : Width) (a b : PlacedOperand) (p y : ℕ) (now : base.Memory) (rest : List Line) → IsOperand a → IsOperand b → operand_value places a ≡ Some p → operand_value places b ≡ Some y
-      → base.memory_with width world.memory p y ≡ Some now
-      → Does c 7 (data_store_lines width a b rest) rest l (Stored p width (base.kept_part width y) ∷ []) places (record world { memory = now })
-  store_does width a b p y now rest ha hb ea eb there =
+  pub store_does : (width : Width) (a : PlacedOperand) (offset : ℕ) (b : PlacedOperand) (o p y : ℕ) (now : base.Memory) (rest : List Line) → IsOperand a → IsOffset offset → IsOperand b
+      → operand_value places a ≡ Some o → at_offset o offset ≡ p → operand_value places b ≡ Some y → base.memory_with width world.memory p y ≡ Some now
+      → Does c 7 (data_store_lines width a offset b rest) rest l (Stored p width (base.kept_part width y) ∷ []) places (record world { memory = now })
+  store_does width a offset b o p y now rest ha near hb ea to eb there =
       let n = base.width_bytes width in
-      let i = line.Plain (Store (store_op width) (register_with a 5) (register_with b 6) (pos 0)) in
-      let fp = operand_word l places has a p ha ea in
+      let ra = base_with a offset 5 in
+      let x = base_value a offset o in
+      let z = rest_of a offset in
+      let i = line.Plain (Store (store_op width) ra (register_with b 6) z) in
+      let fo = operand_word l places has a o ha ea in
       let fy = operand_word l places has b y hb eb in
-      let s = two_reads c a b p y (i ∷ rest) l framed ha hb (operand_has l places has a p ha ea) (operand_has l places has b y hb eb) fp fy in
+      let ho = operand_has l places has a o ha ea in
+      let low = base_register a offset ha in
+      let s = two_then c ra x (data_store_lines width a offset b rest) b y (i ∷ rest) l framed hb (operand_has l places has b y hb eb) fy low.1 low.2
+      (read_address c a offset o (operand_lines b 6 (i ∷ rest)) l framed ha ho fo) in
       let d = data_put width l.bytes p y now (ap (λ (m : base.Memory). base.memory_with width m p y) (sym whole.memory) ∙ there) in
       let next : Local = record s.next { bytes = bytes_put l.bytes n p y } in
       let event = Wrote p n (y % 256 ^ n) in
@@ -172,9 +186,9 @@ module _ (c : Code) (l : Local) (places : Values) (world : World) (framed : IsFr
       record {
         next = next;
         lower = event ∷ [];
-        path = loosened c (0 + 1) (6 + 1) 1 7 (data_store_lines width a b rest) rest (event ∷ []) l next (omega arith) (omega arith)
-            (followed c 0 6 1 1 (data_store_lines width a b rest) (i ∷ rest) rest [] (event ∷ []) l s.next next s.path
-            (store_path width (register_with a 5) (register_with b 6) p y rest s.next l.bytes s.bytes (left_register a ha).0 (right_register b hb) s.left s.right fp d.aligned d.low d.fits));
+        path = loosened c (0 + 1) (6 + 1) 1 7 (data_store_lines width a offset b rest) rest (event ∷ []) l next (omega arith) (omega arith)
+            (followed c 0 6 1 1 (data_store_lines width a offset b rest) (i ∷ rest) rest [] (event ∷ []) l s.next next s.path
+            (store_path width ra (register_with b 6) x z p y rest s.next l.bytes s.bytes low.0 (right_register b hb) s.left s.right (address_is l a offset o near ho fo ∙ to) d.aligned d.low d.fits));
         seen = ap (λ es. es ++ []) (data_seen width p y fy data_is);
         allowed = (inr (data_is, one_or_four width), tt);
         keeps = record { zero = s.keeps.zero; frame = s.keeps.frame; above = s.keeps.above };

@@ -32,7 +32,8 @@ use Rattle.ckc_tac.specs.declared.code.Comparison.{Comparison}
 use Rattle.ckc_frame.specs.declared.code.Place.{Place}
 use Rattle.ckc_frame.specs.declared.code.Place.TheVariants as place
 use Rattle.ckc_frame.specs.WellFormed.{IsPlace}
-use Rattle.ckc_emit.specs.code.Lines.{upper_of, lower_of, is_round, both_lines, large_lines, constant_lines, constant_count, move_lines, offset_lines, load_lines, store_lines, ask_lines, holding, stop_lines, check_lines, register_of, source_of, read_lines, write_lines, settle_lines, fetch_lines, register_with, operand_lines, take_lines, const_lines, copy_lines, value_lines, operation_of, apply_lines, negated, near_form, zeros_of, power_form, number_form, form_of, is_exchanged, ending_lines, form_lines, bin_lines, high_op, high_lines, load_op, store_op, data_load_lines, data_store_lines, test_lines, get_lines, put_lines, tests_lines, room_lines, rounded_lines, claim_lines, alloc_lines}
+use Rattle.ckc_emit.specs.code.Lines.{upper_of, lower_of, is_round, both_lines, large_lines, constant_lines, constant_count, move_lines, offset_lines, load_lines, store_lines, ask_lines, holding, stop_lines, check_lines, register_of, source_of, read_lines, write_lines, settle_lines, fetch_lines, register_with, operand_lines, take_lines, const_lines, copy_lines, value_lines, operation_of, apply_lines, negated, near_form, zeros_of, power_form, number_form, form_of, is_exchanged, ending_lines, form_lines, bin_lines, high_op, high_lines, load_op, store_op, upper_lines, address_lines, base_with, rest_of, data_load_lines, data_store_lines, test_lines, get_lines, put_lines, tests_lines, room_lines, rounded_lines, claim_lines, alloc_lines}
+use Rattle.ckc_tac.specs.Operations.{at_offset}
 use Rattle.ckc_emit.proofs.Splits.{upper_small}
 use Rattle.ckc_emit.proofs.Pieces.{Labels, Adds, nothing, then_adds, more_adds, plain_adds, either_adds}
 
@@ -354,17 +355,34 @@ module _ (labels : Labels) (k : ℕ) where
       (then_adds labels (reg_adds (high_op s) (source_of t 5) (register_with a 5) (register_with b 6) _ (source_low t 5 p (omega arith)) (with_low a 5 q (omega arith)) (with_low b 6 r (omega arith)))
       (write_adds t 5 ys (omega arith)))))
 
-  pub data_load_adds : (width : Width) (t : Place) (a : PlacedOperand) (ys : List Line) → IsPlace t → IsOperand a → Adding 7 (data_load_lines width t a ys) ys
-  data_load_adds width t a ys p q =
-      then_adds labels (three_adds a 5 _ (omega arith))
-      (then_adds labels (load_adds (load_op width) (source_of t 5) (register_with a 5) (pos 0) _ (source_low t 5 p (omega arith)) (with_low a 5 q (omega arith)) (near_fits 0 (omega arith)))
+  -- addresses with an offset
+  upper_adds : (v scratch : ℕ) (ys : List Line) → scratch < 27 → Adding 1 (upper_lines v scratch ys) ys
+  upper_adds v scratch ys h =
+      either_adds labels (upper_of v == 0) (λ e. more_adds labels 1 (omega arith) (nothing labels k ys)) (λ e. lui_adds scratch (upper_of v) ys h (upper_small v))
+
+  address_adds : (a : PlacedOperand) (offset scratch : ℕ) (ys : List Line) → scratch < 27 → Adding 3 (address_lines a offset scratch ys) ys
+  address_adds (At q) offset scratch ys h = read_adds q scratch ys h
+  address_adds (Number n) offset scratch ys h = more_adds labels 3 (omega arith) (upper_adds (at_offset n offset) scratch ys h)
+
+  base_low : (a : PlacedOperand) (offset scratch : ℕ) → IsOperand a → scratch < 27 → base_with a offset scratch < 27
+  base_low (At q) offset scratch h low = source_low q scratch h low
+  base_low (Number n) offset scratch h low = number_low (upper_of (at_offset n offset) == 0) scratch low
+
+  rest_fits : (a : PlacedOperand) (offset : ℕ) → IsSigned (2 ^ 11) (rest_of a offset)
+  rest_fits (At q) offset = lower_fits offset
+  rest_fits (Number n) offset = lower_fits (at_offset n offset)
+
+  pub data_load_adds : (width : Width) (t : Place) (a : PlacedOperand) (offset : ℕ) (ys : List Line) → IsPlace t → IsOperand a → Adding 7 (data_load_lines width t a offset ys) ys
+  data_load_adds width t a offset ys p q =
+      then_adds labels (address_adds a offset 5 _ (omega arith))
+      (then_adds labels (load_adds (load_op width) (source_of t 5) (base_with a offset 5) (rest_of a offset) _ (source_low t 5 p (omega arith)) (base_low a offset 5 q (omega arith)) (rest_fits a offset))
       (write_adds t 5 ys (omega arith)))
 
-  pub data_store_adds : (width : Width) (a b : PlacedOperand) (ys : List Line) → IsOperand a → IsOperand b → Adding 7 (data_store_lines width a b ys) ys
-  data_store_adds width a b ys p q =
-      then_adds labels (three_adds a 5 _ (omega arith))
+  pub data_store_adds : (width : Width) (a : PlacedOperand) (offset : ℕ) (b : PlacedOperand) (ys : List Line) → IsOperand a → IsOperand b → Adding 7 (data_store_lines width a offset b ys) ys
+  data_store_adds width a offset b ys p q =
+      then_adds labels (address_adds a offset 5 _ (omega arith))
       (then_adds labels (three_adds b 6 _ (omega arith))
-      (store_adds (store_op width) (register_with a 5) (register_with b 6) (pos 0) ys (with_low a 5 p (omega arith)) (with_low b 6 q (omega arith)) (near_fits 0 (omega arith))))
+      (store_adds (store_op width) (base_with a offset 5) (register_with b 6) (rest_of a offset) ys (base_low a offset 5 p (omega arith)) (with_low b 6 q (omega arith)) (rest_fits a offset)))
 
   pub test_adds : (check : Check) (at : Pos) (c : Comparison) (a b : PlacedOperand) (ys : List Line) → IsOperand a → IsOperand b
       → Adding (reading a + reading b + 10) (test_lines check at c a b ys) ys

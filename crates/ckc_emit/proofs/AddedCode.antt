@@ -1,9 +1,10 @@
 -- What operations, blocks, functions and programs add.
 use Rattle.std.proofs.Common.{◌≡◌, ℕ, zero, suc, ◌+◌, ◌≤◌, ◌<◌, ◌==◌, Bool, true, false, List, [], ◌∷◌, append-nil, length, get_or, Option, Some, None, refl, sym, ap, subst, ◌∙◌, arith}
-use Rattle.std.specs.Prelude.{All, IfSome, sum_by, pos}
+use Rattle.std.specs.Prelude.{All, IfSome, sum_by, pos, ◌*◌, ◌&&◌, ◌||◌, if◌then◌else◌}
 use Rattle.std.specs.List.{slice_get}
 use Rattle.std.proofs.lemmas.List.{take_all}
-use Rattle.std.proofs.lemmas.List.Elements.{All-head, All-tail}
+use Rattle.std.proofs.lemmas.List.Elements.{All-head, All-tail, All-get_or}
+use Rattle.std.proofs.lemmas.Option.{slice_get_within, get_or_from_slice_get}
 use Rattle.std.proofs.lemmas.List.Sums.{sum_by-cons, sum_by_more_le}
 use Rattle.ckc_rv_operations.specs.declared.operations.BranchOp.{BranchOp}
 use Rattle.ckc_rv.specs.declared.instructions.Instr.TheVariants as instr
@@ -31,10 +32,11 @@ use Rattle.ckc_emit.specs.declared.places.PlacedOperand.{PlacedOperand}
 use Rattle.ckc_emit.specs.code.Operands.{IsOperand}
 use Rattle.ckc_emit.specs.code.Lines.{register_with}
 use Rattle.ckc_emit.specs.code.CallLines.{place_at}
-use Rattle.ckc_emit.specs.code.ProgramLines.{label_of, homes_of, operand_at, op_lines, ops_lines, over_lines, holding, failing, jump_line, jump_lines, leave_lines, choice_lines, branch_lines, falls_through, return_lines, end_lines, block_lines, blocks_lines, body_lines, is_near, function_lines, functions_lines, start_lines, program_lines, codes_of}
+use Rattle.ckc_emit.specs.code.ProgramLines.{label_of, homes_of, operand_at, op_lines, ops_lines, over_lines, holding, failing, jump_line, jump_lines, leave_lines, choice_lines, branch_lines, is_test, fork_lines, away_lines, falls_through, return_lines, end_lines, block_lines, blocks_lines, body_lines, room_from, has_near, is_near, is_turned, function_lines, functions_lines, start_lines, program_lines, codes_of}
 use Rattle.ckc_emit.proofs.PlaceAt.{place_is}
 use Rattle.ckc_emit.proofs.Pieces.{Labels, Adds, nothing, then_adds, more_adds, plain_adds, far_adds, jump_adds, leave_adds, label_adds, either_adds, numbered_adds, front_adds}
 use Rattle.ckc_emit.proofs.Close.{Joins, joins, nothing_joins, then_joins, more_joins, numbered_joins}
+use Rattle.ckc_emit.proofs.Plain.{test_plain, test_short, operand_few, ops_few, blocks_have_room, room_most}
 use Rattle.ckc_emit.proofs.Tests.{lt_of}
 use Rattle.ckc_emit.proofs.Added.{near_fits, with_low, reading, operand_adds, take_adds, lui_adds, branch_adds, near_load_adds, near_store_adds, two_ask_adds, const_adds, copy_adds, bin_adds, high_adds, data_load_adds, data_store_adds, test_adds, get_adds, put_adds, alloc_adds}
 use Rattle.ckc_emit.proofs.AddedCalls.{call_adds}
@@ -87,23 +89,61 @@ label_fits (g ∷ gs) k h =
 abbrev pub labels_for : List PlacedFunc → (near : Bool) → PlacedFunc → (label : ℕ) → Labels
 labels_for functions near f label = record { count = label_of functions (length functions); near = near; low = label; high = label + (length f.code.blocks + 1) }
 
--- lines with near jumps and branches are short
-short_with : (functions : List PlacedFunc) (f : PlacedFunc) (label : ℕ) (near : Bool) → is_near functions f label ≡ near → near ≡ true → sum_by size_of (body_lines near functions f label) < 4096
+-- lines with copies take no more than they may
+turned_short : (functions : List PlacedFunc) (f : PlacedFunc) (label : ℕ) → is_turned functions f label ≡ true → sum_by size_of (body_lines true true functions f label) < room_from 0 f.code.blocks
+unfolding is_turned
+turned_short functions f label e = lt_of (sum_by size_of (body_lines true true functions f label)) (room_from 0 f.code.blocks) e
+
+near_short : (functions : List PlacedFunc) (f : PlacedFunc) (label : ℕ) → has_near functions f label ≡ true → sum_by size_of (body_lines true false functions f label) < 4096
+unfolding has_near
+near_short functions f label e = lt_of (sum_by size_of (body_lines true false functions f label)) 4096 e
+
+is_near_with : (functions : List PlacedFunc) (f : PlacedFunc) (label : ℕ) (turned : Bool) → is_turned functions f label ≡ turned → is_near functions f label ≡ (turned || has_near functions f label)
 unfolding is_near
-short_with functions f label true e t = lt_of (sum_by size_of (body_lines true functions f label)) 4096 e
-short_with functions f label false e t = absurd cc
+is_near_with functions f label turned e = ap (λ b. b || has_near functions f label) e
+
+-- lines with near jumps and branches are short
+short_with : (functions : List PlacedFunc) (f : PlacedFunc) (label : ℕ) (near turned : Bool) → is_near functions f label ≡ near → is_turned functions f label ≡ turned → near ≡ true
+    → sum_by size_of (body_lines near turned functions f label) < 4096
+short_with functions f label true true e t n =
+    let low = turned_short functions f label t in
+    omega (arith, low, room_most 0 f.code.blocks (omega arith))
+short_with functions f label true false e t n = near_short functions f label (sym (is_near_with functions f label false t) ∙ e)
+short_with functions f label false turned e t n = absurd cc
+
+-- what copies may add to each end
+abbrev pub extra_of : Bool → ℕ
+extra_of true = 100
+extra_of false = 0
+
+abbrev pub extras_of : Bool → List TacBlock → ℕ
+extras_of turned [] = 0
+extras_of turned (block ∷ blocks) = extra_of turned + extras_of turned blocks
+
+no_extras : (turned : Bool) (blocks : List TacBlock) → turned ≡ false → extras_of turned blocks ≡ 0
+no_extras true blocks e = absurd cc
+no_extras false [] e = refl
+no_extras false (block ∷ blocks) e = omega (arith, no_extras false blocks e)
 
 module _ (functions : List PlacedFunc) (placed : All IsPlacedWhole functions) (over : All (IsFunctionOver (codes_of functions)) (codes_of functions)) where
   -- how many labels the program has
   abbrev count : ℕ
   count = label_of functions (length functions)
 
-  module _ (near : Bool) (f : PlacedFunc) (whole : IsPlacedWhole f) (label : ℕ) (few : label + (length f.code.blocks + 1) ≤ count) where
+  module _ (near turned : Bool) (f : PlacedFunc) (whole : IsPlacedWhole f) (label : ℕ) (few : label + (length f.code.blocks + 1) ≤ count) where
     abbrev labels : Labels
     labels = labels_for functions near f label
 
     abbrev first : ℕ
     first = label + 1
+
+    abbrev AreOver : List TacBlock → Type 0
+    AreOver = All (IsBlockOver (codes_of functions) (length f.code.blocks) f.code.regs)
+
+    found_over : (blocks : List TacBlock) (b : ℕ) (block : TacBlock) → AreOver blocks → slice_get blocks b ≡ Some block → IsBlockOver (codes_of functions) (length f.code.blocks) f.code.regs block
+    found_over blocks b block all e =
+        subst (IsBlockOver (codes_of functions) (length f.code.blocks) f.code.regs) (get_or_from_slice_get blocks b block block e)
+        (All-get_or (IsBlockOver (codes_of functions) (length f.code.blocks) f.code.regs) blocks b block (slice_get_within blocks b block e) all)
 
     module _ (k : ℕ) where
       abbrev Adding : ℕ → List Line → List Line → Type 0
@@ -135,8 +175,8 @@ module _ (functions : List PlacedFunc) (placed : All IsPlacedWhole functions) (o
       op_adds n (Copy t a) ys o = copy_adds labels k (place_at f.homes t) (place_at f.homes a) ys (good t o.0) (good a o.1)
       op_adds n (Bin b t x y) ys o = bin_adds labels k b (place_at f.homes t) (operand_at f.homes x) (operand_at f.homes y) ys (good t o.0) (fine x o.1) (fine y o.2)
       op_adds n (High s t x y) ys o = high_adds labels k s (place_at f.homes t) (operand_at f.homes x) (operand_at f.homes y) ys (good t o.0) (fine x o.1) (fine y o.2)
-      op_adds n (Load width t a) ys o = data_load_adds labels k width (place_at f.homes t) (operand_at f.homes a) ys (good t o.0) (fine a o.1)
-      op_adds n (Store width a b) ys o = data_store_adds labels k width (operand_at f.homes a) (operand_at f.homes b) ys (fine a o.0) (fine b o.1)
+      op_adds n (Load width t a offset) ys o = data_load_adds labels k width (place_at f.homes t) (operand_at f.homes a) offset ys (good t o.0) (fine a o.1)
+      op_adds n (Store width a offset b) ys o = data_store_adds labels k width (operand_at f.homes a) offset (operand_at f.homes b) ys (fine a o.0) (fine b o.2)
       op_adds n (Check check at c a b) ys o =
           more_adds labels (operand_size a + operand_size b + 10) (omega (arith, reading_is a, reading_is b))
           (test_adds labels k check at c (operand_at f.homes a) (operand_at f.homes b) ys (fine a o.1) (fine b o.2))
@@ -203,53 +243,116 @@ module _ (functions : List PlacedFunc) (placed : All IsPlacedWhole functions) (o
           (then_adds labels (near_load_adds labels k 1 2 0 _ (omega arith) (omega arith) (omega arith))
           (plain_adds labels k (instr.Jalr 0 1 (pos 0)) ys (omega arith, omega arith, near_fits 0 (omega arith)) (omega arith, omega arith))))
 
-      pub end_adds : (next : ℕ) (end : TacEnd) (ys : List Line) → IsEndOver (length f.code.blocks) f.code.regs end → Adding (end_size end) (end_lines near f first next end ys) ys
-      end_adds next (Jump b) ys o =
-          either_adds labels (falls_through f.code.blocks next b) (λ e. more_adds labels 2 (omega arith) (nothing labels k ys)) (λ e. jump_line_adds near b ys refl o)
-      end_adds next (Branch c a b one two) ys o = branch_end_adds c a b next one two ys o.0 o.1 o.2 o.3
-      end_adds next (Return a) ys o = return_adds (operand_at f.homes a) ys (fine a o)
+      -- ---- a copy of a block that tests
 
-    pub block_adds : (b n : ℕ) (block : TacBlock) (ys : List Line) → IsBlockOver (codes_of functions) (length f.code.blocks) f.code.regs block
-        → Adds labels (first + b) (first + b + 1) (block_size block) (block_lines near functions f first b n block ys) ys
-    block_adds b n block ys o =
-        more_adds labels (block_size block) (omega arith)
+      copied_test_adds : (next : ℕ) (ops : List TacOp) (end : TacEnd) (ys : List Line) → is_test ops end ≡ true → All (IsOpOver (codes_of functions) f.code.regs) ops
+          → IsEndOver (length f.code.blocks) f.code.regs end → Adding 102 (ops_lines functions f 0 ops (fork_lines near f first next end ys)) ys
+      copied_test_adds next ops (Branch o x y one two) ys t all over =
+          let short = test_short ops (Branch o x y one two) t in
+          more_adds labels 102 (omega (arith, short, ops_few ops (test_plain ops (Branch o x y one two) t), operand_few x, operand_few y))
+          (then_adds labels (ops_add 0 ops _ all) (branch_end_adds o x y next one two ys over.0 over.1 over.2 over.3))
+      copied_test_adds next ops (Jump to) ys t all over = absurd cc
+      copied_test_adds next ops (Return a) ys t all over = absurd cc
+
+      tested_adds : (test : Bool) (next b : ℕ) (ops : List TacOp) (end : TacEnd) (ys : List Line) → is_test ops end ≡ test → IsOwn b → All (IsOpOver (codes_of functions) f.code.regs) ops
+          → IsEndOver (length f.code.blocks) f.code.regs end
+          → Adding 102 (if test then ops_lines functions f 0 ops (fork_lines near f first next end ys) else jump_line near (first + b) ∷ ys) ys
+      tested_adds true next b ops end ys t h all over = copied_test_adds next ops end ys t all over
+      tested_adds false next b ops end ys t h all over = more_adds labels 102 (omega arith) (jump_line_adds near b ys refl h)
+
+      copied_adds : (t : Bool) (next b : ℕ) (ops : List TacOp) (end : TacEnd) (ys : List Line) → IsOwn b → All (IsOpOver (codes_of functions) f.code.regs) ops
+          → IsEndOver (length f.code.blocks) f.code.regs end
+          → Adding (2 + extra_of t) (if t && is_test ops end then ops_lines functions f 0 ops (fork_lines near f first next end ys) else jump_line near (first + b) ∷ ys) ys
+      copied_adds true next b ops end ys h all over = tested_adds (is_test ops end) next b ops end ys refl h all over
+      copied_adds false next b ops end ys h all over = jump_line_adds near b ys refl h
+
+      away_adds : (next b : ℕ) (o : Option TacBlock) (ys : List Line) → AreOver f.code.blocks → slice_get f.code.blocks b ≡ o → IsOwn b
+          → Adding (2 + extra_of turned) (away_lines near turned functions f first next b o ys) ys
+      away_adds next b (Some block) ys all e h =
+          let over = found_over f.code.blocks b block all e in
+          copied_adds turned next b block.ops block.end ys h over.0 over.1
+      away_adds next b None ys all e h = more_adds labels (2 + extra_of turned) (omega arith) (jump_line_adds near b ys refl h)
+
+      pub end_adds : (next : ℕ) (end : TacEnd) (ys : List Line) → AreOver f.code.blocks → IsEndOver (length f.code.blocks) f.code.regs end
+          → Adding (end_size end + extra_of turned) (end_lines near turned functions f first next end ys) ys
+      end_adds next (Jump b) ys all o =
+          either_adds labels (falls_through f.code.blocks next b) (λ e. more_adds labels (2 + extra_of turned) (omega arith) (nothing labels k ys)) (λ e. away_adds next b (slice_get f.code.blocks b) ys all refl o)
+      end_adds next (Branch c a b one two) ys all o =
+          more_adds labels (end_size (Branch c a b one two) + extra_of turned) (omega arith) (branch_end_adds c a b next one two ys o.0 o.1 o.2 o.3)
+      end_adds next (Return a) ys all o = more_adds labels (8 + extra_of turned) (omega arith) (return_adds (operand_at f.homes a) ys (fine a o))
+
+    pub block_adds : (b n : ℕ) (block : TacBlock) (ys : List Line) → AreOver f.code.blocks → IsBlockOver (codes_of functions) (length f.code.blocks) f.code.regs block
+        → Adds labels (first + b) (first + b + 1) (block_size block + extra_of turned) (block_lines near turned functions f first b n block ys) ys
+    block_adds b n block ys all o =
+        more_adds labels (block_size block + extra_of turned) (omega arith)
         (then_adds labels (label_adds labels (first + b) _)
-        (then_adds labels (ops_add (first + b + 1) n block.ops _ o.0) (end_adds (first + b + 1) (b + 1) block.end ys o.1)))
+        (then_adds labels (ops_add (first + b + 1) n block.ops _ o.0) (end_adds (first + b + 1) (b + 1) block.end ys all o.1)))
 
-    blocks_add : (b n : ℕ) (blocks : List TacBlock) (ys : List Line) → All (IsBlockOver (codes_of functions) (length f.code.blocks) f.code.regs) blocks
-        → Adds labels (first + b) (first + b + length blocks) (sum_by block_size blocks) (blocks_lines near functions f first b n blocks ys) ys
-    blocks_add b n [] ys o = numbered_adds labels (omega arith) (omega arith) (nothing labels (first + b) ys)
-    blocks_add b n (block ∷ blocks) ys o =
-        more_adds labels (sum_by block_size (block ∷ blocks)) (omega (arith, sum_by-cons block_size block blocks))
+    blocks_add : (b n : ℕ) (blocks : List TacBlock) (ys : List Line) → AreOver f.code.blocks → All (IsBlockOver (codes_of functions) (length f.code.blocks) f.code.regs) blocks
+        → Adds labels (first + b) (first + b + length blocks) (sum_by block_size blocks + extras_of turned blocks) (blocks_lines near turned functions f first b n blocks ys) ys
+    blocks_add b n [] ys all o = numbered_adds labels (omega arith) (omega arith) (nothing labels (first + b) ys)
+    blocks_add b n (block ∷ blocks) ys all o =
+        more_adds labels (sum_by block_size (block ∷ blocks) + extras_of turned (block ∷ blocks)) (omega (arith, sum_by-cons block_size block blocks))
         (numbered_adds labels refl (omega arith)
-        (then_adds labels (block_adds b n block _ (All-head (IsBlockOver (codes_of functions) (length f.code.blocks) f.code.regs) block blocks o))
+        (then_adds labels (block_adds b n block _ all (All-head (IsBlockOver (codes_of functions) (length f.code.blocks) f.code.regs) block blocks o))
         (numbered_adds labels (omega arith) refl
-        (blocks_add (b + 1) (n + calls_in block) blocks ys (All-tail (IsBlockOver (codes_of functions) (length f.code.blocks) f.code.regs) block blocks o)))))
+        (blocks_add (b + 1) (n + calls_in block) blocks ys all (All-tail (IsBlockOver (codes_of functions) (length f.code.blocks) f.code.regs) block blocks o)))))
 
-    pub body_adds : IsFunctionOver (codes_of functions) f.code → Adds labels label (label + (length f.code.blocks + 1)) (function_size f.code) (body_lines near functions f label) []
+    pub body_adds : IsFunctionOver (codes_of functions) f.code
+        → Adds labels label (label + (length f.code.blocks + 1)) (function_size f.code + extras_of turned f.code.blocks) (body_lines near turned functions f label) []
     body_adds o =
-        more_adds labels (function_size f.code) (omega arith)
+        more_adds labels (function_size f.code + extras_of turned f.code.blocks) (omega arith)
         (numbered_adds labels refl (omega arith)
         (then_adds labels (label_adds labels label _)
         (then_adds labels (near_store_adds labels first 1 2 0 _ (omega arith) (omega arith) (omega arith))
-        (numbered_adds labels (omega arith) refl (blocks_add 0 0 f.code.blocks [] o.2)))))
+        (numbered_adds labels (omega arith) refl (blocks_add 0 0 f.code.blocks [] o.2 o.2)))))
 
   module _ (f : PlacedFunc) (whole : IsPlacedWhole f) (label : ℕ) (ys : List Line) (o : IsFunctionOver (codes_of functions) f.code) (few : label + (length f.code.blocks + 1) ≤ count) where
     abbrev near : Bool
     near = is_near functions f label
 
+    abbrev turned : Bool
+    turned = is_turned functions f label
+
     abbrev own : Labels
     own = labels_for functions near f label
 
+    abbrev lines : List Line
+    lines = body_lines near turned functions f label
+
+    -- with copies the lines are as many as there is room for, and without them no more
+    fits : (t : Bool) → turned ≡ t → (p : Adds own label (label + (length f.code.blocks + 1)) (function_size f.code + extras_of turned f.code.blocks) lines [])
+        → sum_by size_of p.front ≤ 4 * function_size f.code
+    fits true e p =
+        let all : lines ≡ p.front = p.is ∙ append-nil p.front in
+        let near_too : near ≡ true = is_near_with functions f label true e in
+        let same : sum_by size_of p.front ≡ sum_by size_of (body_lines true true functions f label) =
+        ap (sum_by size_of) (sym all) ∙ ap (λ b. sum_by size_of (body_lines b turned functions f label)) near_too ∙ ap (λ b. sum_by size_of (body_lines true b functions f label)) e in
+        omega (arith, same, turned_short functions f label e, blocks_have_room 0 f.code.blocks)
+    fits false e p = omega (arith, p.size, no_extras turned f.code.blocks e)
+
+    unfoldable fitted : Adds own label (label + (length f.code.blocks + 1)) (function_size f.code) lines []
+    fitted =
+        let p = body_adds near turned f whole label few o in
+        record {
+          front = p.front;
+          is = p.is;
+          sound = p.sound;
+          ordered = p.ordered;
+          once = p.once;
+          never = p.never;
+          size = fits turned refl p;
+        }
+
     pub function_adds : Adds own label (label + (length f.code.blocks + 1)) (function_size f.code) (function_lines functions f label ys) ys
-    function_adds = front_adds own ys (body_adds near f whole label few o)
+    function_adds = front_adds own ys fitted
 
     function_joins : Joins count label (label + (length f.code.blocks + 1)) (function_size f.code) (function_lines functions f label ys) ys
-    unfolding function_adds front_adds
+    unfolding function_adds front_adds fitted
     function_joins =
-        let body = body_adds near f whole label few o in
+        let body = fitted in
         joins own function_adds few (omega arith) (omega arith)
-        (λ t. subst (λ (l : List Line). sum_by size_of l < 4096) (body.is ∙ append-nil body.front) (short_with functions f label near refl t))
+        (λ t. subst (λ (l : List Line). sum_by size_of l < 4096) (body.is ∙ append-nil body.front) (short_with functions f label near turned refl refl t))
 
   functions_join : (label : ℕ) (fs : List PlacedFunc) (ys : List Line) → All IsPlacedWhole fs → All (IsFunctionOver (codes_of functions)) (codes_of fs) → label + sum_by labels_in fs ≤ count
       → Joins count label (label + sum_by labels_in fs) (sum_by function_size (codes_of fs)) (functions_lines functions label fs ys) ys

@@ -1,5 +1,5 @@
 -- What operations on two operands come to.
-use Rattle.std.proofs.Common.{◌≡◌, inl, inr, ℕ, ◌+◌, ◌-◌, ◌*◌, ◌/◌, ◌%◌, ◌^◌, ◌<◌, ◌==◌, ◌&&◌, not, if◌then◌else◌, List, [], ◌∷◌, refl, sym, ap, subst, ◌∙◌, arith}
+use Rattle.std.proofs.Common.{◌≡◌, ◌≢◌, inl, inr, ℕ, ◌+◌, ◌-◌, ◌*◌, ◌/◌, ◌%◌, ◌^◌, ◌<◌, ◌==◌, ◌&&◌, not, if◌then◌else◌, List, [], ◌∷◌, refl, sym, ap, subst, ◌∙◌, arith}
 use Rattle.std.specs.Prelude.{Bool, true, false}
 use Rattle.std.specs.Int.{w32, int_shr, trailing_zeros}
 use Rattle.ckc_base.specs.Words.{signed, word_of, applied}
@@ -23,7 +23,7 @@ use Rattle.ckc_emit.specs.code.Lines.{upper_of, lower_of, source_of, register_wi
 use Rattle.ckc_emit.proofs.Local.{Local}
 use Rattle.ckc_emit.proofs.Paths.{Code, Path, followed, loosened, Sets, sets_loosened}
 use Rattle.ckc_emit.proofs.Homes.{HasValue, IsFramed, Keeps, keeps_then, framed_kept, AreFrameStores, Writes, write_after, source_low, writes_loosened}
-use Rattle.ckc_emit.proofs.Sources.{read_keeps, read_has}
+use Rattle.ckc_emit.proofs.Sources.{Reads, read_keeps, read_has}
 use Rattle.ckc_emit.proofs.Operands.{HasOperand, operand_kept, left_register, right_register, read_operand}
 use Rattle.ckc_emit.proofs.Acting.{const_writes, copy_writes, apply_sets, plain_sets, imm_sets, IsTest, ended_sets, zero_sets}
 use Rattle.ckc_emit.proofs.Splits.{near_is, negated_small, negated_is, count_is}
@@ -43,21 +43,20 @@ module _ (c : Code) where
     pub bytes : next.bytes ≡ l.bytes
     pub input : next.input ≡ l.input
 
-  pub two_reads : (a b : PlacedOperand) (x y : ℕ) (rest : List Line) (l : Local) → IsFramed l → IsOperand a → IsOperand b → HasOperand l a x → HasOperand l b y → x < 2 ^ 32 → y < 2 ^ 32
-      → Sourced 6 (operand_lines a 5 (operand_lines b 6 rest)) rest l (register_with a 5) x (register_with b 6) y
-  two_reads a b x y rest l f ha hb ex ey fx fy =
+  -- one was read into x5, and then the other one
+  pub two_then : (ra x : ℕ) (xs : List Line) (b : PlacedOperand) (y : ℕ) (rest : List Line) (l : Local) → IsFramed l → IsOperand b → HasOperand l b y → y < 2 ^ 32 → ra ≢ 6 → ra ≢ 7
+      → Reads c 0 3 xs (operand_lines b 6 rest) l 5 ra x → Sourced 6 xs rest l ra x (register_with b 6) y
+  two_then ra x xs b y rest l f hb ey fy off six one =
       let mid = operand_lines b 6 rest in
-      let one = read_operand c a 5 x mid l f ha ex fx (omega arith) (omega arith) in
-      let kept = read_keeps c 0 3 (operand_lines a 5 mid) mid l 5 (register_with a 5) x (omega arith) (omega arith) (omega arith) one in
-      let still = read_has c 0 3 (operand_lines a 5 mid) mid l 5 (register_with a 5) x (omega arith) (omega arith) one in
+      let kept = read_keeps c 0 3 xs mid l 5 ra x (omega arith) (omega arith) (omega arith) one in
+      let still = read_has c 0 3 xs mid l 5 ra x (omega arith) (omega arith) one in
       let two = read_operand c b 6 y rest one.next (framed_kept l one.next f kept) hb (operand_kept l one.next b y still hb ey) fy (omega arith) (omega arith) in
       let kept2 = read_keeps c 0 3 mid rest one.next 6 (register_with b 6) y (omega arith) (omega arith) (omega arith) two in
       let still2 = read_has c 0 3 mid rest one.next 6 (register_with b 6) y (omega arith) (omega arith) two in
-      let reg = left_register a ha in
       record {
         next = two.next;
-        path = followed c 0 3 0 3 (operand_lines a 5 mid) mid rest [] [] l one.next two.next one.path two.path;
-        left = two.other (register_with a 5) reg.1 reg.2 ∙ one.value;
+        path = followed c 0 3 0 3 xs mid rest [] [] l one.next two.next one.path two.path;
+        left = two.other ra off six ∙ one.value;
         right = two.value;
         keeps = keeps_then l one.next two.next kept kept2;
         has = λ q w p e. still2 q w p (still q w p e);
@@ -65,20 +64,30 @@ module _ (c : Code) where
         input = two.input ∙ one.input;
       }
 
+  pub two_reads : (a b : PlacedOperand) (x y : ℕ) (rest : List Line) (l : Local) → IsFramed l → IsOperand a → IsOperand b → HasOperand l a x → HasOperand l b y → x < 2 ^ 32 → y < 2 ^ 32
+      → Sourced 6 (operand_lines a 5 (operand_lines b 6 rest)) rest l (register_with a 5) x (register_with b 6) y
+  two_reads a b x y rest l f ha hb ex ey fx fy =
+      let mid = operand_lines b 6 rest in
+      let reg = left_register a ha in
+      two_then (register_with a 5) x (operand_lines a 5 mid) b y rest l f hb ey fy reg.1 reg.2 (read_operand c a 5 x mid l f ha ex fx (omega arith) (omega arith))
+
+  -- one was read into x5
+  pub one_then : (ra x : ℕ) (xs rest : List Line) (l : Local) → Reads c 0 3 xs rest l 5 ra x → Sourced 3 xs rest l ra x ra x
+  one_then ra x xs rest l one = record {
+    next = one.next;
+    path = one.path;
+    left = one.value;
+    right = one.value;
+    keeps = read_keeps c 0 3 xs rest l 5 ra x (omega arith) (omega arith) (omega arith) one;
+    has = read_has c 0 3 xs rest l 5 ra x (omega arith) (omega arith) one;
+    bytes = one.bytes;
+    input = one.input;
+  }
+
   pub one_read : (a : PlacedOperand) (x : ℕ) (rest : List Line) (l : Local) → IsFramed l → IsOperand a → HasOperand l a x → x < 2 ^ 32
       → Sourced 3 (operand_lines a 5 rest) rest l (register_with a 5) x (register_with a 5) x
   one_read a x rest l f ha ex fx =
-      let one = read_operand c a 5 x rest l f ha ex fx (omega arith) (omega arith) in
-      record {
-        next = one.next;
-        path = one.path;
-        left = one.value;
-        right = one.value;
-        keeps = read_keeps c 0 3 (operand_lines a 5 rest) rest l 5 (register_with a 5) x (omega arith) (omega arith) (omega arith) one;
-        has = read_has c 0 3 (operand_lines a 5 rest) rest l 5 (register_with a 5) x (omega arith) (omega arith) one;
-        bytes = one.bytes;
-        input = one.input;
-      }
+      one_then (register_with a 5) x (operand_lines a 5 rest) rest l (read_operand c a 5 x rest l f ha ex fx (omega arith) (omega arith))
 
   -- operands were read before a place is written
   pub sourced_then : (n d e : ℕ) (xs ys zs : List Line) (l : Local) (ra x rb y : ℕ) (t : Place) (v : ℕ)

@@ -16,13 +16,13 @@ use Rattle.ckc_frame.specs.Meaning.{calls_in, calls_in_front}
 use Rattle.ckc_frame.specs.WellFormed.{IsPlacedWhole, IsWellFormed}
 use Rattle.ckc_emit.specs.CodeSize.{code_size}
 use Rattle.ckc_emit.specs.code.Lines.{store_lines}
-use Rattle.ckc_emit.specs.code.ProgramLines.{label_of, ops_lines, end_lines, block_lines, blocks_lines, body_lines, is_near, function_lines, functions_lines, program_lines, codes_of}
+use Rattle.ckc_emit.specs.code.ProgramLines.{label_of, ops_lines, end_lines, block_lines, blocks_lines, body_lines, is_near, is_turned, function_lines, functions_lines, program_lines, codes_of}
 use Rattle.ckc_emit.proofs.Paths.{Code, LinesAt}
 use Rattle.ckc_emit.proofs.Placing.{code_of, all_stand}
 use Rattle.ckc_emit.proofs.Standing.{BeginsWith, BlockStands, EntryStands, Stands}
 use Rattle.ckc_emit.proofs.Pieces.{stand_behind, in_front}
 use Rattle.ckc_emit.proofs.Added.{near_store_adds}
-use Rattle.ckc_emit.proofs.AddedCode.{labels_for, far_labels, block_adds, function_adds, start_adds, label_fits, callable}
+use Rattle.ckc_emit.proofs.AddedCode.{labels_for, extra_of, far_labels, block_adds, function_adds, start_adds, label_fits, callable}
 use Rattle.ckc_emit.proofs.Turning.{label_more, label_below}
 use Rattle.ckc_emit.proofs.Assembling.{program_size_within, program_once}
 
@@ -67,39 +67,42 @@ module _ (functions : List PlacedFunc) (placed : All IsPlacedWhole functions) (o
     abbrev near : Bool
     near = is_near functions f label
 
+    abbrev turned : Bool
+    turned = is_turned functions f label
+
     abbrev blocks : List TacBlock
     blocks = f.code.blocks
 
     abbrev IsOver : TacBlock → Type 0
     IsOver block = IsBlockOver (codes_of functions) (length blocks) f.code.regs block
 
-    begins : (b n : ℕ) (xs : List TacBlock) (ys : List Line) → drop b blocks ≡ xs → BeginsWith functions index blocks b (blocks_lines near functions f first b n xs ys)
+    begins : (b n : ℕ) (xs : List TacBlock) (ys : List Line) → drop b blocks ≡ xs → BeginsWith functions index blocks b (blocks_lines near turned functions f first b n xs ys)
     begins b n [] ys d = λ block e. absurd (past blocks b block e d)
     begins b n (x ∷ xs) ys d = λ block e. (_, refl)
 
-    blocks_stand : (b : ℕ) (xs : List TacBlock) (ys : List Line) (pc : ℕ) → drop b blocks ≡ xs → All IsOver xs → LinesAt c pc (blocks_lines near functions f first b (calls_in_front blocks b) xs ys)
+    blocks_stand : (b : ℕ) (xs : List TacBlock) (ys : List Line) (pc : ℕ) → drop b blocks ≡ xs → All IsOver blocks → All IsOver xs → LinesAt c pc (blocks_lines near turned functions f first b (calls_in_front blocks b) xs ys)
         → (j : ℕ) (block : TacBlock) → slice_get xs j ≡ Some block → BlockStands functions c index f (b + j) block
-    blocks_stand b [] ys pc d o at j block e = absurd cc
-    blocks_stand b (x ∷ xs) ys pc d o at zero block e =
+    blocks_stand b [] ys pc d all o at j block e = absurd cc
+    blocks_stand b (x ∷ xs) ys pc d all o at zero block e =
         let n = calls_in_front blocks b in
         let next = next_of blocks b x xs d in
         let same : x ≡ block = cc in
-        let more : List Line = blocks_lines near functions f first (b + 1) (n + calls_in x) xs ys in
+        let more : List Line = blocks_lines near turned functions f first (b + 1) (n + calls_in x) xs ys in
         let here : BlockStands functions c index f b x = record {
           behind = more;
-          there = subst (λ q. LinesAt c q (ops_lines functions f n x.ops (end_lines near f first (b + 1) x.end more))) (sym at.0) at.1;
+          there = subst (λ q. LinesAt c q (ops_lines functions f n x.ops (end_lines near turned functions f first (b + 1) x.end more))) (sym at.0) at.1;
           next = begins (b + 1) (n + calls_in x) xs ys next.rest;
         } in
         let none : b ≡ b + 0 = omega arith in
         subst (λ q. BlockStands functions c index f q block) none (subst (λ y. BlockStands functions c index f b y) same here)
-    blocks_stand b (x ∷ xs) ys pc d o at (suc j) block e =
+    blocks_stand b (x ∷ xs) ys pc d all o at (suc j) block e =
         let n = calls_in_front blocks b in
         let next = next_of blocks b x xs d in
         let counted : n + calls_in x ≡ calls_in_front blocks (b + 1) = ap (λ y. n + calls_in y) next.is ∙ sym (sum_by_more calls_in blocks b x next.below) in
-        let more : List Line = blocks_lines near functions f first (b + 1) (n + calls_in x) xs ys in
-        let behind = stand_behind (labels_for functions near f label) c pc (first + b) (first + b + 1) (block_size x) (block_lines near functions f first b n x more) more
-        (block_adds functions placed over near f whole label fits b n x more (All-head IsOver x xs o)) at in
-        let tail = blocks_stand (b + 1) xs ys behind.0 next.rest (All-tail IsOver x xs o) (subst (λ k. LinesAt c behind.0 (blocks_lines near functions f first (b + 1) k xs ys)) counted behind.1) j block e in
+        let more : List Line = blocks_lines near turned functions f first (b + 1) (n + calls_in x) xs ys in
+        let behind = stand_behind (labels_for functions near f label) c pc (first + b) (first + b + 1) (block_size x + extra_of turned) (block_lines near turned functions f first b n x more) more
+        (block_adds functions placed over near turned f whole label fits b n x more all (All-head IsOver x xs o)) at in
+        let tail = blocks_stand (b + 1) xs ys behind.0 next.rest all (All-tail IsOver x xs o) (subst (λ k. LinesAt c behind.0 (blocks_lines near turned functions f first (b + 1) k xs ys)) counted behind.1) j block e in
         let one : b + 1 + j ≡ b + suc j = omega arith in
         subst (λ q. BlockStands functions c index f q block) one tail
 
@@ -115,8 +118,9 @@ module _ (functions : List PlacedFunc) (placed : All IsPlacedWhole functions) (o
       let label = label_of functions index in
       let first = label + 1 in
       let near = is_near functions f label in
-      let lines : List Line = blocks_lines near functions f first 0 0 f.code.blocks [] in
-      let own = in_front c pc (body_lines near functions f label) ys at in
+      let turned = is_turned functions f label in
+      let lines : List Line = blocks_lines near turned functions f first 0 0 f.code.blocks [] in
+      let own = in_front c pc (body_lines near turned functions f label) ys at in
       let far = far_labels 0 in
       let behind = stand_behind far c pc first first 1 (store_lines 1 2 0 lines) lines (near_store_adds far first 1 2 0 lines (omega arith) (omega arith) (omega arith)) own.1 in
       record {
@@ -126,7 +130,7 @@ module _ (functions : List PlacedFunc) (placed : All IsPlacedWhole functions) (o
           next = begins index f whole fits 0 0 f.code.blocks [] refl;
         };
         each = λ b block e.
-            let s = blocks_stand index f whole fits 0 f.code.blocks [] behind.0 refl o.2 behind.1 b block e in
+            let s = blocks_stand index f whole fits 0 f.code.blocks [] behind.0 refl o.2 o.2 behind.1 b block e in
             let none : 0 + b ≡ b = omega arith in
             subst (λ q. BlockStands functions c index f q block) none s;
       }

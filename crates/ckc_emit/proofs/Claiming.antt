@@ -169,7 +169,7 @@ module _ (c : Code) where
         let f3 = soft_then l s2.next s3.next f2 (sets_soft c 1 1 y3 y4 s2.next 8 (0x2000 * 2 ^ 12) (free_below 8 (omega arith) (omega arith) (omega arith)) s3) in
         let b3 : s3.next.bytes ≡ l.bytes = s3.bytes ∙ s2.bytes ∙ s1.bytes in
         let here : base.value_at Word (region s3.next.bytes) data_start ≡ Some h = ap (λ (m : base.Memory). base.value_at Word m data_start) (ap region b3 ∙ sym whole.memory) ∙ there in
-        let s4 = data_sets c l places world framed has whole Word 11 8 data_start h y5 s3.next (omega arith) (omega arith) (omega arith) s3.value (omega arith) here in
+        let s4 = data_sets c l places world framed has whole Word 11 8 data_start (pos 0) data_start h y5 s3.next (omega arith) (omega arith) (omega arith) s3.value (omega arith) here in
         let f4 = soft_then l s3.next s4.next f3 (sets_soft c 1 1 y4 y5 s3.next 11 h (free_below 11 (omega arith) (omega arith) (omega arith)) s4) in
         let s5 = lui_sets c 12 0x3000 y6 s4.next (omega arith) (omega arith) in
         let f5 = soft_then l s4.next s5.next f4 (sets_soft c 1 1 y5 y6 s4.next 12 (0x3000 * 2 ^ 12) (free_below 12 (omega arith) (omega arith) (omega arith)) s5) in
@@ -420,7 +420,7 @@ module _ (c : Code) where
         let after = framed_kept l m framed soft.keeps in
         let event = Wrote data_start 4 (y % 256 ^ 4) in
         let stored = data_put Word l.bytes data_start y now (ap (λ (r : base.Memory). base.memory_with Word r data_start y) (sym whole.memory) ∙ put) in
-        let store = store_path c l places world framed has whole Word 8 5 data_start y z k.next l.bytes bytes (omega arith) (omega arith) k.eight k.five (omega arith) refl (omega arith) (omega arith) in
+        let store = store_path c l places world framed has whole Word 8 5 data_start (pos 0) data_start y z k.next l.bytes bytes (omega arith) (omega arith) k.eight k.five (omega arith) refl (omega arith) (omega arith) in
         let world_then : HasWorld m (record world { memory = now }) = record {
           memory = stored.now_is;
           input = whole.input ∙ sym input;

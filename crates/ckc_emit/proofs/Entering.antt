@@ -32,7 +32,7 @@ use Rattle.ckc_frame.specs.WellFormed.{IsPlace}
 use Rattle.ckc_frame.specs.Meaning.{Caller, State, active, begins, waits, enters_block, enters, calls, registers_of}
 use Rattle.ckc_emit.specs.code.Lines.{register_of, offset_of, store_lines}
 use Rattle.ckc_emit.specs.code.CallLines.{is_argument_home, is_saved, saves_lines, restores_lines, result_lines, call_lines, depth_lines, arguments_lines, visit_lines, back_lines}
-use Rattle.ckc_emit.specs.code.ProgramLines.{label_of, homes_of, ops_lines, end_lines, is_near}
+use Rattle.ckc_emit.specs.code.ProgramLines.{label_of, homes_of, ops_lines, end_lines, is_near, is_turned}
 use Rattle.ckc_emit.specs.Stores.{seen_events}
 use Rattle.ckc_emit.proofs.Local.{Local, state_of, changed, changed_same, changed_other}
 use Rattle.ckc_emit.proofs.Paths.{Code, LinesAt, Leads}
@@ -106,7 +106,7 @@ module _ (functions : List PlacedFunc) (c : Code) (main : ℕ) (whole : IsWhole 
   test = is_saved f.homes marks arguments
 
   abbrev later : List Line
-  later = ops_lines functions f (n + 1) ops (end_lines (is_near functions f (label_of functions r.at.index)) f (label_of functions r.at.index + 1) r.at.next s.frame.end r.at.behind)
+  later = ops_lines functions f (n + 1) ops (end_lines (is_near functions f (label_of functions r.at.index)) (is_turned functions f (label_of functions r.at.index)) functions f (label_of functions r.at.index + 1) r.at.next s.frame.end r.at.behind)
 
   abbrev back : List Line
   back = back_lines f.homes marks target later
@@ -354,7 +354,7 @@ module _ (functions : List PlacedFunc) (c : Code) (main : ℕ) (whole : IsWhole 
           behind = stand.behind;
           falls = stand.next;
         };
-        here = subst (λ q. LinesAt c q (ops_lines functions g 0 block.ops (end_lines (is_near functions g (label_of functions callee)) g (label_of functions callee + 1) (0 + 1) block.end stand.behind))) at_label stand.there;
+        here = subst (λ q. LinesAt c q (ops_lines functions g 0 block.ops (end_lines (is_near functions g (label_of functions callee)) (is_turned functions g (label_of functions callee)) functions g (label_of functions callee + 1) (0 + 1) block.end stand.behind))) at_label stand.there;
         callers = subst (λ b. AreWaiting functions c m.words b (caller ∷ s.callers)) (sym frame) (
           waiting below i.link g values m under k,
           subst (λ b. AreWaiting functions c m.words b s.callers) (sym under)

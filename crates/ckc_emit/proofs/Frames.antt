@@ -14,7 +14,7 @@ use Rattle.ckc_frame.specs.Places.{number_of, is_kept_home, marks_of}
 use Rattle.ckc_frame.specs.WellFormed.{IsPlace, IsPlacedWhole}
 use Rattle.ckc_emit.specs.code.Lines.{offset_of, ask_lines}
 use Rattle.ckc_emit.specs.code.CallLines.{back_lines}
-use Rattle.ckc_emit.specs.code.ProgramLines.{label_of, ops_lines, end_lines, is_near}
+use Rattle.ckc_emit.specs.code.ProgramLines.{label_of, ops_lines, end_lines, is_near, is_turned}
 use Rattle.ckc_emit.proofs.Local.{Local, state_of}
 use Rattle.ckc_emit.proofs.Paths.{Code, LinesAt}
 use Rattle.ckc_emit.proofs.Homes.{HasPlaces, IsFramed}
@@ -38,7 +38,7 @@ module _ (functions : List PlacedFunc) (c : Code) where
   abbrev pub lines_of : (frame : Frame) → InFunction frame → List Line
   lines_of frame i =
       ops_lines functions frame.function frame.calls_before frame.ops
-      (end_lines (is_near functions frame.function (label_of functions i.index)) frame.function (label_of functions i.index + 1) i.next frame.end i.behind)
+      (end_lines (is_near functions frame.function (label_of functions i.index)) (is_turned functions frame.function (label_of functions i.index)) functions frame.function (label_of functions i.index + 1) i.next frame.end i.behind)
 
   -- A caller waits for the call whose frame begins at an address: the return address there leads to its lines after
   -- the call, and its places are in its own frame, right above. Those of its machine registers that it still has are

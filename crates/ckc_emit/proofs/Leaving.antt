@@ -1,6 +1,6 @@
 -- The ends of blocks that lead to another block are simulated.
 use Rattle.std.proofs.Common.{◌≡◌, ◌≢◌, ◌⊎◌, inl, inr, ℕ, ◌+◌, ◌*◌, ◌≤◌, ◌<◌, ◌==◌, not, if◌then◌else◌, Bool, true, false, List, [], ◌∷◌, length, map, Option, Some, None, refl, sym, ap, subst, ◌∙◌, arith}
-use Rattle.std.specs.Prelude.{All, ℤ, pos, nat_lt, int_lt}
+use Rattle.std.specs.Prelude.{All, ◌&&◌, ℤ, pos, nat_lt, int_lt}
 use Rattle.std.specs.List.{slice_get}
 use Rattle.std.proofs.lemmas.List.Elements.{All-get_or, All-nil}
 use Rattle.std.proofs.lemmas.Option.{slice_get_within, get_or_from_slice_get}
@@ -16,7 +16,7 @@ use Rattle.ckc_asm_lines.specs.declared.lines.Line.{Line}
 use Rattle.ckc_tac.specs.declared.code.TacBlock.{TacBlock}
 use Rattle.ckc_tac.specs.declared.code.TacOp.{TacOp}
 use Rattle.ckc_tac.specs.declared.code.TacEnd.{TacEnd}
-use Rattle.ckc_tac.specs.declared.code.TacEnd.TheVariants.{Jump, Branch}
+use Rattle.ckc_tac.specs.declared.code.TacEnd.TheVariants.{Jump, Branch, Return}
 use Rattle.ckc_tac.specs.declared.code.Comparison.{Comparison}
 use Rattle.ckc_tac.specs.declared.code.Comparison.TheVariants.{LtS, LtU, Eq, Ne}
 use Rattle.ckc_tac.specs.declared.code.Operand.{Operand}
@@ -26,12 +26,12 @@ use Rattle.ckc_frame.specs.declared.code.Place.{Place}
 use Rattle.ckc_frame.specs.declared.code.Place.TheVariants as place
 use Rattle.ckc_frame.specs.declared.code.PlacedFunc.{PlacedFunc}
 use Rattle.ckc_frame.specs.WellFormed.{IsPlace, IsPlacedWhole}
-use Rattle.ckc_frame.specs.Meaning.{State, begins, goes_to, branches, registers_of}
+use Rattle.ckc_frame.specs.Meaning.{State, begins, calls_in_front, goes_to, branches, registers_of}
 use Rattle.ckc_base.specs.Words.{signed, flag, applied}
 use Rattle.ckc_emit.specs.declared.places.PlacedOperand.{PlacedOperand}
 use Rattle.ckc_emit.specs.code.Operands.{IsOperand}
 use Rattle.ckc_emit.specs.code.Lines.{register_of, register_with}
-use Rattle.ckc_emit.specs.code.ProgramLines.{label_of, ops_lines, end_lines, operand_at, holding, failing, jump_line, jump_lines, leave_lines, choice_lines, branch_lines, is_passing, is_passing_block, falls_through, is_near}
+use Rattle.ckc_emit.specs.code.ProgramLines.{label_of, ops_lines, end_lines, operand_at, holding, failing, jump_line, jump_lines, leave_lines, choice_lines, branch_lines, is_test, fork_lines, away_lines, is_passing, is_passing_end, is_passing_block, falls_through, is_near, is_turned}
 use Rattle.ckc_emit.proofs.Local.{Local, state_of}
 use Rattle.ckc_emit.proofs.Steps.{At, jal_step, branch_taken, branch_passed}
 use Rattle.ckc_emit.proofs.Checking.{holding_is}
@@ -45,6 +45,7 @@ use Rattle.ckc_emit.proofs.Jumping.{far_goes}
 use Rattle.ckc_emit.proofs.Frames.{AreWaiting, IsRelated}
 use Rattle.ckc_emit.proofs.Standing.{block_label, BeginsWith, Stands}
 use Rattle.ckc_emit.proofs.Related.{May, measure, Simulated, Reaches, reaches_simulates, are_waiting_kept}
+use Rattle.ckc_emit.proofs.Plain.{plain_same, test_plain}
 use Rattle.ckc_emit.proofs.Tests.{eq_of, not_true, and_first, and_second}
 
 -- what holds of all elements holds of each
@@ -181,6 +182,9 @@ module _ (functions : List PlacedFunc) (c : Code) where
     abbrev near : Bool
     near = is_near functions f (label_of functions index)
 
+    abbrev turned : Bool
+    turned = is_turned functions f (label_of functions index)
+
     abbrev at_block : ℕ → TacBlock → State
     at_block b block = record s { frame = begins f b s.frame.places block }
 
@@ -236,8 +240,75 @@ module _ (functions : List PlacedFunc) (c : Code) where
         let then_ : measure (at_block b block) ≡ 0 = ap (λ q. if q then 1 else 0) e in
         omega arith
 
+    -- a block whose operations and end stand here
+    stays : (b : ℕ) (block : TacBlock) (ops : List TacOp) (end : TacEnd) → slice_get f.code.blocks b ≡ Some block → block.ops ≡ ops → block.end ≡ end
+        → LinesAt c pc (ops_lines functions f (calls_in_front f.code.blocks b) ops (end_lines near turned functions f (label_of functions index + 1) r.at.next end r.at.behind)) → IsRelated functions c (at_block b block) l pc
+    stays b block ops end e same is at =
+        let over = whole.over index f r.at.is in
+        let good = all_at (IsBlockOver (map (λ (f : PlacedFunc). f.code) functions) (length f.code.blocks) f.code.regs) f.code.blocks b block over.2 e in
+        record {
+          framed = r.framed;
+          depth = r.depth;
+          has = r.has;
+          world = r.world;
+          at = record {
+            index = index;
+            is = r.at.is;
+            placed = r.at.placed;
+            ops_over = good.0;
+            end_over = good.1;
+            next = r.at.next;
+            behind = r.at.behind;
+            falls = r.at.falls;
+          };
+          here = subst (λ (ops : List TacOp). LinesAt c pc (ops_lines functions f (calls_in_front f.code.blocks b) ops (end_lines near turned functions f (label_of functions index + 1) r.at.next block.end r.at.behind))) (sym same)
+              (subst (λ (end : TacEnd). LinesAt c pc (ops_lines functions f (calls_in_front f.code.blocks b) ops (end_lines near turned functions f (label_of functions index + 1) r.at.next end r.at.behind))) (sym is) at);
+          callers = r.callers;
+        }
+
+    busy_end : (ops : List TacOp) (end : TacEnd) → is_passing_end end ≡ false → is_passing_block ops end ≡ false
+    busy_end [] end h = h
+    busy_end (op ∷ ops) end h = refl
+
+    stays_reach : (b : ℕ) (block : TacBlock) (ops : List TacOp) (end : TacEnd) → slice_get f.code.blocks b ≡ Some block → block.ops ≡ ops → block.end ≡ end → is_passing_end end ≡ false
+        → s.frame.ops ≡ [] → s.frame.end ≡ Jump b
+        → LinesAt c pc (ops_lines functions f (calls_in_front f.code.blocks b) ops (end_lines near turned functions f (label_of functions index + 1) r.at.next end r.at.behind)) → Reaches functions c s l pc [] (at_block b block)
+    stays_reach b block ops end e same is busy none jumps at = record {
+      to = l;
+      there = pc;
+      count = 0;
+      lower = [];
+      few = omega arith;
+      goes_on = inr (lower_measure b block none jumps (ap (λ (ops : List TacOp). is_passing_block ops block.end) same ∙ ap (λ (end : TacEnd). is_passing_block ops end) is ∙ busy_end ops end busy));
+      travels = no_travel (detailed_system c.parts) (state_of c.parts l pc);
+      seen = refl;
+      allowed = All-nil (May s);
+      related = stays b block ops end e same is at;
+    }
+
+    jump_far : (b : ℕ) (block : TacBlock) → slice_get f.code.blocks b ≡ Some block → LinesAt c pc (jump_line near (label_of functions index + 1 + b) ∷ r.at.behind)
+        → Reaches functions c s l pc [] (at_block b block)
+    jump_far b block e at =
+        let k = comes_jump near l pc index b r.at.behind at in
+        comes_reach 1 2 b block (omega arith) e k (inl (omega (arith, k.many)))
+
+    copy_by : (end : TacEnd) (b : ℕ) (block : TacBlock) → slice_get f.code.blocks b ≡ Some block → block.end ≡ end → is_test block.ops end ≡ true → s.frame.ops ≡ [] → s.frame.end ≡ Jump b
+        → LinesAt c pc (ops_lines functions f 0 block.ops (fork_lines near f (label_of functions index + 1) r.at.next end r.at.behind)) → Reaches functions c s l pc [] (at_block b block)
+    copy_by (Branch o x y one two) b block e is t none jumps at =
+        let tail : List Line = branch_lines near o (operand_at f.homes x) (operand_at f.homes y) (label_of functions index + 1) r.at.next one two r.at.behind in
+        stays_reach b block block.ops (Branch o x y one two) e refl is refl none jumps
+        (subst (LinesAt c pc) (plain_same functions f 0 (calls_in_front f.code.blocks b) block.ops tail (test_plain block.ops (Branch o x y one two) t)) at)
+    copy_by (Jump to) b block e is t none jumps at = absurd cc
+    copy_by (Return a) b block e is t none jumps at = absurd cc
+
+    copied_by : (copied : Bool) (b : ℕ) (block : TacBlock) → slice_get f.code.blocks b ≡ Some block → (turned && is_test block.ops block.end) ≡ copied → s.frame.ops ≡ [] → s.frame.end ≡ Jump b
+        → LinesAt c pc (if copied then ops_lines functions f 0 block.ops (fork_lines near f (label_of functions index + 1) r.at.next block.end r.at.behind) else jump_line near (label_of functions index + 1 + b) ∷ r.at.behind)
+        → Reaches functions c s l pc [] (at_block b block)
+    copied_by true b block e t none jumps at = copy_by block.end b block e refl (and_second turned (is_test block.ops block.end) t) none jumps at
+    copied_by false b block e t none jumps at = jump_far b block e at
+
     jump_by : (falls : Bool) (b : ℕ) (block : TacBlock) → falls_through f.code.blocks r.at.next b ≡ falls → s.frame.ops ≡ [] → s.frame.end ≡ Jump b → slice_get f.code.blocks b ≡ Some block
-        → LinesAt c pc (if falls then r.at.behind else jump_line near (label_of functions index + 1 + b) ∷ r.at.behind) → Reaches functions c s l pc [] (at_block b block)
+        → LinesAt c pc (if falls then r.at.behind else away_lines near turned functions f (label_of functions index + 1) r.at.next b (slice_get f.code.blocks b) r.at.behind) → Reaches functions c s l pc [] (at_block b block)
     jump_by true b block falls none end e at =
         let same = eq_of b r.at.next (and_first (b == r.at.next) (not (is_passing (slice_get f.code.blocks b))) falls) in
         let busy = not_true (is_passing (slice_get f.code.blocks b)) (and_second (b == r.at.next) (not (is_passing (slice_get f.code.blocks b))) falls) in
@@ -245,13 +316,13 @@ module _ (functions : List PlacedFunc) (c : Code) where
         let k = comes_next l pc index f.code.blocks b block r.at.behind begin e at in
         comes_reach 0 0 b block (omega arith) e k (inr (lower_measure b block none end (sym (passing_is f.code.blocks b block e) ∙ busy)))
     jump_by false b block falls none end e at =
-        let k = comes_jump near l pc index b r.at.behind at in
-        comes_reach 1 2 b block (omega arith) e k (inl (omega (arith, k.many)))
+        copied_by (turned && is_test block.ops block.end) b block e refl none end
+        (subst (λ (o : Option TacBlock). LinesAt c pc (away_lines near turned functions f (label_of functions index + 1) r.at.next b o r.at.behind)) e at)
 
-    pub ends_at : (end : TacEnd) → s.frame.ops ≡ [] → s.frame.end ≡ end → LinesAt c pc (end_lines near f (label_of functions index + 1) r.at.next end r.at.behind)
+    pub ends_at : (end : TacEnd) → s.frame.ops ≡ [] → s.frame.end ≡ end → LinesAt c pc (end_lines near turned functions f (label_of functions index + 1) r.at.next end r.at.behind)
     ends_at end none e =
-        subst (λ (end : TacEnd). LinesAt c pc (end_lines near f (label_of functions index + 1) r.at.next end r.at.behind)) e
-        (subst (λ (ops : List TacOp). LinesAt c pc (ops_lines functions f s.frame.calls_before ops (end_lines near f (label_of functions index + 1) r.at.next s.frame.end r.at.behind))) none r.here)
+        subst (λ (end : TacEnd). LinesAt c pc (end_lines near turned functions f (label_of functions index + 1) r.at.next end r.at.behind)) e
+        (subst (λ (ops : List TacOp). LinesAt c pc (ops_lines functions f s.frame.calls_before ops (end_lines near turned functions f (label_of functions index + 1) r.at.next s.frame.end r.at.behind))) none r.here)
 
     jump_goes : (b : ℕ) (o : Option TacBlock) → slice_get f.code.blocks b ≡ o → s.frame.ops ≡ [] → s.frame.end ≡ Jump b → Simulated functions c s (state_of c.parts l pc) (goes_to s b o)
     jump_goes b (Some block) e none end =

@@ -3,6 +3,7 @@ pub mod PlaceAt
 pub mod Looping
 pub mod CallsEmitted
 pub mod FunctionEmitted
+pub mod Plain
 pub mod ProgramEmitted
 pub mod Turning
 pub mod Pieces
@@ -24,6 +25,7 @@ pub mod Values
 pub mod Acting
 pub mod Sources
 pub mod Operands
+pub mod Addresses
 pub mod Binary
 pub mod Regions
 pub mod Relation

@@ -68,7 +68,7 @@ operand_found f whole places (operand.Number n) v h e = e
 abbrev left_of : Bool → ℕ
 left_of b = if b then 0 else 5
 
-left_number : (b : Bool) → (left_of b < 32) × (left_of b ≢ 6) × (left_of b ≢ 7)
+pub left_number : (b : Bool) → (left_of b < 32) × (left_of b ≢ 6) × (left_of b ≢ 7)
 left_number true = (omega arith, omega arith, omega arith)
 left_number false = (omega arith, omega arith, omega arith)
 

@@ -14,7 +14,7 @@ use Rattle.ckc_tac.specs.WellFormed.{IsOpOver}
 use Rattle.ckc_frame.specs.declared.code.PlacedFunc.{PlacedFunc}
 use Rattle.ckc_frame.specs.Places.{home}
 use Rattle.ckc_frame.specs.Meaning.{State, is_call, goes_by, registers_of}
-use Rattle.ckc_emit.specs.code.ProgramLines.{label_of, op_lines, ops_lines, end_lines, is_near}
+use Rattle.ckc_emit.specs.code.ProgramLines.{label_of, op_lines, ops_lines, end_lines, is_near, is_turned}
 use Rattle.ckc_emit.proofs.Local.{Local, state_of}
 use Rattle.ckc_emit.proofs.Paths.{Code, LinesAt}
 use Rattle.ckc_emit.proofs.Homes.{framed_kept}
@@ -31,7 +31,7 @@ module _ (functions : List PlacedFunc) (c : Code) (s : State) (l : Local) (pc : 
   n = s.frame.calls_before
 
   abbrev tail : List Line
-  tail = end_lines (is_near functions f (label_of functions r.at.index)) f (label_of functions r.at.index + 1) r.at.next s.frame.end r.at.behind
+  tail = end_lines (is_near functions f (label_of functions r.at.index)) (is_turned functions f (label_of functions r.at.index)) functions f (label_of functions r.at.index + 1) r.at.next s.frame.end r.at.behind
 
   abbrev rest : List Line
   rest = ops_lines functions f n ops tail

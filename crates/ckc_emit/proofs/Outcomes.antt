@@ -15,7 +15,7 @@ use Rattle.ckc_tac.specs.declared.code.TacOp.{TacOp}
 use Rattle.ckc_tac.specs.declared.code.TacOp.TheVariants.{Const, Copy, Bin, High, Load, Store, Check, Call, Get, Put, Alloc}
 use Rattle.ckc_tac.specs.declared.code.Operand.{Operand}
 use Rattle.ckc_tac.specs.declared.code.Comparison.{Comparison}
-use Rattle.ckc_tac.specs.Operations.{value_in, outcome_of, operation_of, compared}
+use Rattle.ckc_tac.specs.Operations.{value_in, outcome_of, operation_of, compared, at_offset}
 use Rattle.ckc_base.specs.Words.{applied}
 use Rattle.ckc_rv.specs.Effects.{is_taken}
 use Rattle.ckc_tac.specs.WellFormed.{IsOperandOver, IsOpOver}
@@ -97,19 +97,20 @@ module _ (c : Code) (functions : List PlacedFunc) (codes : List TacFunc) (f : Pl
       at_home 6 t byte (op_lines functions f n (Get t) rest) rest (Plain (Got (Some byte)) ∷ []) (record world { input = more }) (omega arith) h
       (get_does c l places world framed has whole (at t) byte more rest (good_at t h) e)
 
-  stores_case : (width : Width) (a b : Operand) (p y : ℕ) (rest : List Line) (now : Option base.Memory) → IsOperandOver f.code.regs a → IsOperandOver f.code.regs b → value_in (registers_in f.homes places) a ≡ Some p → value_in (registers_in f.homes places) b ≡ Some y
-      → base.memory_with width world.memory p y ≡ now → DoesOutcome (op_lines functions f n (Store width a b) rest) rest (stores_in world (Stored p width (base.kept_part width y)) now)
-  stores_case width a b p y rest (Some now) ha hb ea eb e =
-      loose 7 (op_lines functions f n (Store width a b) rest) rest (Stored p width (base.kept_part width y) ∷ []) places (record world { memory = now }) (omega arith)
-      (store_does c l places world framed has whole width (operand a) (operand b) p y now rest (good_operand a ha) (good_operand b hb) (value_of a p ha ea) (value_of b y hb eb) e)
-  stores_case width a b p y rest None ha hb ea eb e = tt
+  stores_case : (width : Width) (a : Operand) (offset : ℕ) (b : Operand) (o p y : ℕ) (rest : List Line) (now : Option base.Memory) → IsOpOver codes f.code.regs (Store width a offset b)
+      → value_in (registers_in f.homes places) a ≡ Some o → at_offset o offset ≡ p → value_in (registers_in f.homes places) b ≡ Some y
+      → base.memory_with width world.memory p y ≡ now → DoesOutcome (op_lines functions f n (Store width a offset b) rest) rest (stores_in world (Stored p width (base.kept_part width y)) now)
+  stores_case width a offset b o p y rest (Some now) h ea to eb e =
+      loose 7 (op_lines functions f n (Store width a offset b) rest) rest (Stored p width (base.kept_part width y) ∷ []) places (record world { memory = now }) (omega arith)
+      (store_does c l places world framed has whole width (operand a) offset (operand b) o p y now rest (good_operand a h.0) h.1 (good_operand b h.2) (value_of a o h.0 ea) to (value_of b y h.2 eb) e)
+  stores_case width a offset b o p y rest None h ea to eb e = tt
 
-  loads_case : (width : Width) (t : ℕ) (a : Operand) (p : ℕ) (rest : List Line) → t < f.code.regs → IsOperandOver f.code.regs a → value_in (registers_in f.homes places) a ≡ Some p
-      → DoesOutcome (op_lines functions f n (Load width t a) rest) rest (with_value (base.value_at width world.memory p) (λ x. Gives [] t x world))
-  loads_case width t a p rest ht ha ea =
-      value_case (op_lines functions f n (Load width t a) rest) rest (base.value_at width world.memory p) (λ x. Gives [] t x world) (λ v e.
-      at_home 7 t v (op_lines functions f n (Load width t a) rest) rest [] world (omega arith) ht
-      (load_does c l places world framed has whole width (at t) (operand a) p v rest (good_at t ht) (good_operand a ha) (value_of a p ha ea) e))
+  loads_case : (width : Width) (t : ℕ) (a : Operand) (offset p : ℕ) (rest : List Line) → IsOpOver codes f.code.regs (Load width t a offset) → value_in (registers_in f.homes places) a ≡ Some p
+      → DoesOutcome (op_lines functions f n (Load width t a offset) rest) rest (with_value (base.value_at width world.memory (at_offset p offset)) (λ x. Gives [] t x world))
+  loads_case width t a offset p rest h ea =
+      value_case (op_lines functions f n (Load width t a offset) rest) rest (base.value_at width world.memory (at_offset p offset)) (λ x. Gives [] t x world) (λ v e.
+      at_home 7 t v (op_lines functions f n (Load width t a offset) rest) rest [] world (omega arith) h.0
+      (load_does c l places world framed has whole width (at t) (operand a) offset p v rest (good_at t h.0) (good_operand a h.1) h.2 (value_of a p h.1 ea) e))
 
   -- a check passes, or the machine stops
   module _ (k : CheckKind) (where_ : Pos) (o : Comparison) (a b : Operand) (rest : List Line)
@@ -205,12 +206,12 @@ module _ (c : Code) (functions : List PlacedFunc) (codes : List TacFunc) (f : Pl
       value_case (op_lines functions f n (High is_signed t a b) rest) rest (value_in (registers_in f.homes places) b) _ (λ y ey.
       at_home 11 t _ (op_lines functions f n (High is_signed t a b) rest) rest [] world (omega arith) h.0
       (high_does c l places world framed has whole is_signed (at t) (operand a) (operand b) x y rest (good_at t h.0) (good_operand a h.1) (good_operand b h.2) (value_of a x h.1 ex) (value_of b y h.2 ey))))
-  does_op (Load width t a) rest h =
-      value_case (op_lines functions f n (Load width t a) rest) rest (value_in (registers_in f.homes places) a) _ (λ p e. loads_case width t a p rest h.0 h.1 e)
-  does_op (Store width a b) rest h =
-      value_case (op_lines functions f n (Store width a b) rest) rest (value_in (registers_in f.homes places) a) _ (λ p ep.
-      value_case (op_lines functions f n (Store width a b) rest) rest (value_in (registers_in f.homes places) b) _ (λ y ey.
-      stores_case width a b p y rest (base.memory_with width world.memory p y) h.0 h.1 ep ey refl))
+  does_op (Load width t a offset) rest h =
+      value_case (op_lines functions f n (Load width t a offset) rest) rest (value_in (registers_in f.homes places) a) _ (λ p e. loads_case width t a offset p rest h e)
+  does_op (Store width a offset b) rest h =
+      value_case (op_lines functions f n (Store width a offset b) rest) rest (value_in (registers_in f.homes places) a) _ (λ p ep.
+      value_case (op_lines functions f n (Store width a offset b) rest) rest (value_in (registers_in f.homes places) b) _ (λ y ey.
+      stores_case width a offset b p (at_offset p offset) y rest (base.memory_with width world.memory (at_offset p offset) y) h ep refl ey refl))
   does_op (Check k where_ o a b) rest h =
       checks_read k where_ o a b rest h.1 h.2 h.0.0 h.0.1 (value_in (registers_in f.homes places) a) (value_in (registers_in f.homes places) b) refl refl
   does_op (Call target callee arguments where_) rest h = tt

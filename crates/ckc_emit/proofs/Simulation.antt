@@ -24,8 +24,8 @@ module _ (functions : List PlacedFunc) (c : Code) (main : ℕ) (whole : IsWhole 
     operates_by (Copy t a) ops all = op_simulates functions c s l pc r (Copy t a) ops all refl
     operates_by (Bin op t a b) ops all = op_simulates functions c s l pc r (Bin op t a b) ops all refl
     operates_by (High is_signed t a b) ops all = op_simulates functions c s l pc r (High is_signed t a b) ops all refl
-    operates_by (Load width t a) ops all = op_simulates functions c s l pc r (Load width t a) ops all refl
-    operates_by (Store width a b) ops all = op_simulates functions c s l pc r (Store width a b) ops all refl
+    operates_by (Load width t a offset) ops all = op_simulates functions c s l pc r (Load width t a offset) ops all refl
+    operates_by (Store width a offset b) ops all = op_simulates functions c s l pc r (Store width a offset b) ops all refl
     operates_by (Check check at o a b) ops all = op_simulates functions c s l pc r (Check check at o a b) ops all refl
     operates_by (Get t) ops all = op_simulates functions c s l pc r (Get t) ops all refl
     operates_by (Put a) ops all = op_simulates functions c s l pc r (Put a) ops all refl

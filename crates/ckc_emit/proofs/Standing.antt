@@ -8,7 +8,7 @@ use Rattle.ckc_tac.specs.declared.code.TacBlock.{TacBlock}
 use Rattle.ckc_frame.specs.declared.code.PlacedFunc.{PlacedFunc}
 use Rattle.ckc_frame.specs.Meaning.{calls_in_front}
 use Rattle.ckc_emit.specs.code.Lines.{store_lines, ask_lines}
-use Rattle.ckc_emit.specs.code.ProgramLines.{label_of, ops_lines, end_lines, is_near}
+use Rattle.ckc_emit.specs.code.ProgramLines.{label_of, ops_lines, end_lines, is_near, is_turned}
 use Rattle.ckc_emit.proofs.Paths.{Code, LinesAt}
 
 -- the label of a block of the function with a number
@@ -25,7 +25,7 @@ module _ (functions : List PlacedFunc) (c : Code) where
   pub record BlockStands (index : ℕ) (f : PlacedFunc) (b : ℕ) (block : TacBlock) : Type 0 where
     pub behind : List Line
     pub there : LinesAt c (c.label (block_label functions index b))
-        (ops_lines functions f (calls_in_front f.code.blocks b) block.ops (end_lines (is_near functions f (label_of functions index)) f (label_of functions index + 1) (b + 1) block.end behind))
+        (ops_lines functions f (calls_in_front f.code.blocks b) block.ops (end_lines (is_near functions f (label_of functions index)) (is_turned functions f (label_of functions index)) functions f (label_of functions index + 1) (b + 1) block.end behind))
     pub next : BeginsWith functions index f.code.blocks (b + 1) behind
 
   -- the store of the return address stands at the label of a function, and after it its first block

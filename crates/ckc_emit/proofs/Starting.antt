@@ -14,7 +14,7 @@ use Rattle.ckc_tac.specs.WellFormed.{IsBlockOver}
 use Rattle.ckc_frame.specs.declared.code.PlacedFunc.{PlacedFunc}
 use Rattle.ckc_frame.specs.Meaning.{State, begins}
 use Rattle.ckc_emit.specs.code.Lines.{store_lines, ask_lines}
-use Rattle.ckc_emit.specs.code.ProgramLines.{label_of, ops_lines, end_lines, is_near}
+use Rattle.ckc_emit.specs.code.ProgramLines.{label_of, ops_lines, end_lines, is_near, is_turned}
 use Rattle.ckc_emit.specs.Stores.{seen_events}
 use Rattle.ckc_emit.proofs.Local.{Local, state_of, changed_same}
 use Rattle.ckc_emit.proofs.Paths.{Code, LinesAt, Sets}
@@ -82,7 +82,7 @@ module _ (functions : List PlacedFunc) (c : Code) (main : ℕ) (whole : IsWhole 
           behind = stand.behind;
           falls = stand.next;
         };
-        here = subst (λ q. LinesAt c q (ops_lines functions g 0 block.ops (end_lines (is_near functions g (label_of functions main)) g (label_of functions main + 1) (0 + 1) block.end stand.behind))) at_label stand.there;
+        here = subst (λ q. LinesAt c q (ops_lines functions g 0 block.ops (end_lines (is_near functions g (label_of functions main)) (is_turned functions g (label_of functions main)) functions g (label_of functions main + 1) (0 + 1) block.end stand.behind))) at_label stand.there;
         callers = record {
           rest = rest;
           back = subst (λ q. LinesAt c q (ask_lines 0 rest)) (sym (ap m.words frame ∙ i.linked)) back;

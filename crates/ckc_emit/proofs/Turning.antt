@@ -27,17 +27,17 @@ ops_turn functions f n m i ops op old out new all h e counted emitted so_far res
     ∙ ap (λ l. out ++ l) (sym (at_drop_more (λ xs. ops_lines functions f n xs rest) ops i op h))
     ∙ so_far rest
 
-pub blocks_turn : (near : Bool) (functions : List PlacedFunc) (f : PlacedFunc) (first b c n m i : ℕ) (blocks : List TacBlock) (block : TacBlock) (old out new : List Line) (all : List Line → List Line)
-    → i < length blocks → block ≡ get_or blocks i block → c ≡ b + 1 → m ≡ n + calls_in block → Emits out new (block_lines near functions f first b n block)
-    → ((rest : List Line) → out ++ blocks_lines near functions f first b n (drop i blocks) rest ≡ old ++ all rest)
-    → (rest : List Line) → new ++ blocks_lines near functions f first c m (drop (i + 1) blocks) rest ≡ old ++ all rest
-blocks_turn near functions f first b c n m i blocks block old out new all h e numbered counted emitted so_far rest =
+pub blocks_turn : (near turned : Bool) (functions : List PlacedFunc) (f : PlacedFunc) (first b c n m i : ℕ) (blocks : List TacBlock) (block : TacBlock) (old out new : List Line) (all : List Line → List Line)
+    → i < length blocks → block ≡ get_or blocks i block → c ≡ b + 1 → m ≡ n + calls_in block → Emits out new (block_lines near turned functions f first b n block)
+    → ((rest : List Line) → out ++ blocks_lines near turned functions f first b n (drop i blocks) rest ≡ old ++ all rest)
+    → (rest : List Line) → new ++ blocks_lines near turned functions f first c m (drop (i + 1) blocks) rest ≡ old ++ all rest
+blocks_turn near turned functions f first b c n m i blocks block old out new all h e numbered counted emitted so_far rest =
     let more = drop (i + 1) blocks in
-    ap (λ k. new ++ blocks_lines near functions f first k m more rest) numbered
-    ∙ ap (λ k. new ++ blocks_lines near functions f first (b + 1) k more rest) counted
-    ∙ emitted (blocks_lines near functions f first (b + 1) (n + calls_in block) more rest)
-    ∙ ap (λ x. out ++ blocks_lines near functions f first b n (x ∷ more) rest) e
-    ∙ ap (λ l. out ++ l) (sym (at_drop_more (λ xs. blocks_lines near functions f first b n xs rest) blocks i block h))
+    ap (λ k. new ++ blocks_lines near turned functions f first k m more rest) numbered
+    ∙ ap (λ k. new ++ blocks_lines near turned functions f first (b + 1) k more rest) counted
+    ∙ emitted (blocks_lines near turned functions f first (b + 1) (n + calls_in block) more rest)
+    ∙ ap (λ x. out ++ blocks_lines near turned functions f first b n (x ∷ more) rest) e
+    ∙ ap (λ l. out ++ l) (sym (at_drop_more (λ xs. blocks_lines near turned functions f first b n xs rest) blocks i block h))
     ∙ so_far rest
 
 pub functions_turn : (functions : List PlacedFunc) (label next i : ℕ) (fs : List PlacedFunc) (f : PlacedFunc) (old out new : List Line) (all : List Line → List Line)

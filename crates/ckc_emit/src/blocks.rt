@@ -1,5 +1,5 @@
 //! The lines of operations, of the ends of blocks, and of functions.
-ghost use Rattle.std.specs.Prelude.{◌≡◌, ◌+◌, ◌++◌, ◌≤◌, ◌<◌, ◌^◌, All, IfSome, IfOk, length, map, slice_get, sum_by, OnOk};
+ghost use Rattle.std.specs.Prelude.{◌≡◌, ◌&&◌, ◌+◌, ◌++◌, ◌∷◌, ◌≤◌, ◌<◌, ◌^◌, nat_lt, if◌then◌else◌, true, false, All, IfSome, IfOk, length, map, slice_get, sum_by, OnOk};
 ghost use Rattle.ckc_tac.specs.WellFormed.{HasParams, IsOperandOver, IsOpOver, IsEndOver, IsBlockOver, IsFunctionOver};
 ghost use Rattle.ckc_frame.specs.Meaning.{is_call as calls_of, calls_in};
 ghost use Rattle.ckc_frame.specs.WellFormed.{IsPlace, IsPlacedWhole, IsWellFormed};
@@ -7,7 +7,7 @@ ghost use Rattle.ckc_frame.specs.Places.{marks_of};
 ghost use Rattle.ckc_emit.specs.code.Emitting.{Emits};
 ghost use Rattle.ckc_emit.specs.code.Operands.{IsOperand};
 ghost use Rattle.ckc_emit.specs.code.CallLines.{place_at, call_lines, result_lines};
-ghost use Rattle.ckc_emit.specs.code.ProgramLines.{label_of, homes_of, operand_at, op_lines, ops_lines, jump_line, jump_lines, failing as failing_of, leave_lines, choice_lines, branch_lines, is_passing_block, falls_through, end_lines, block_lines, blocks_lines, body_lines, are_near as are_near_lines, function_lines, return_lines, pass_lines, AreLabels, codes_of};
+ghost use Rattle.ckc_emit.specs.code.ProgramLines.{label_of, homes_of, operand_at, op_lines, ops_lines, jump_line, jump_lines, failing as failing_of, leave_lines, choice_lines, branch_lines, is_passing_block, falls_through, end_lines, block_lines, blocks_lines, body_lines, is_plain as is_plain_op, are_plain as are_plain_ops, is_test as is_test_block, fork_lines, has_near, capped as capped_at, op_room as op_room_of, ops_room as ops_room_from, room_from, function_lines, return_lines, pass_lines, AreLabels, codes_of};
 ghost use Rattle.ckc_asm_lines.specs.Assembled.{size_of};
 
 use crate::allocation::put_alloc;
@@ -71,8 +71,12 @@ fn put_op(
         TacOp::Copy(t, a) => put_copy(out, home(f, *t), home(f, *a)),
         TacOp::Bin(op, t, a, b) => put_bin(out, *op, home(f, *t), operand(f, *a), operand(f, *b)),
         TacOp::High(s, t, a, b) => put_high(out, *s, home(f, *t), operand(f, *a), operand(f, *b)),
-        TacOp::Load(width, t, a) => put_data_load(out, *width, home(f, *t), operand(f, *a)),
-        TacOp::Store(width, a, b) => put_data_store(out, *width, operand(f, *a), operand(f, *b)),
+        TacOp::Load(width, t, a, offset) => {
+            put_data_load(out, *width, home(f, *t), operand(f, *a), *offset)
+        }
+        TacOp::Store(width, a, offset, b) => {
+            put_data_store(out, *width, operand(f, *a), *offset, operand(f, *b))
+        }
         TacOp::Check(check, at, c, a, b) => {
             put_test(out, *check, *at, *c, operand(f, *a), operand(f, *b))
         }
@@ -157,18 +161,25 @@ fn put_ops(
 fn put_end(
     out: &mut Vec<Line>,
     near: bool,
+    turned: bool,
+    p: &Placed,
+    labels: &[u32],
     f: &PlacedFunc,
     first: u32,
     next: u32,
     end: TacEnd,
 ) -> Result<(), AllocError>
+    requires whole { IsWellFormed p.now }
+    requires labelled { AreLabels p.now.funcs labels.now }
     requires placed { IsPlacedWhole f.now }
+    requires function { IsFunctionOver (codes_of p.now.funcs) f.now.code }
     requires over { IsEndOver (length f.now.code.blocks) f.now.code.regs end }
     requires fits { first + length f.now.code.blocks < 2 ^ 32 }
-    ensures { OnOk result (Emits out.old.items out.new.items (end_lines near f.now first next end)) }
+    ensures { OnOk result (Emits out.old.items out.new.items
+        (end_lines near turned p.now.funcs f.now first next end)) }
 {
     match end {
-        TacEnd::Jump(b) => put_pass(out, near, f.code.blocks.as_slice(), first, next, b),
+        TacEnd::Jump(b) => put_pass(out, near, turned, p, labels, f, first, next, b),
         TacEnd::Branch(c, a, b, one, two) => {
             put_branch(
                 out,
@@ -212,23 +223,139 @@ fn is_left_out(blocks: &[TacBlock], next: u32, b: u32) -> bool
     b == next && !is_passing(&blocks[b as usize])
 }
 
+/// Whether an operation computes, copies, loads or checks.
+fn is_plain(op: &TacOp) -> bool
+    ensures { result ≡ is_plain_op op.now }
+{
+    match op {
+        TacOp::Const(_, _)
+        | TacOp::Copy(_, _)
+        | TacOp::Bin(_, _, _, _)
+        | TacOp::High(_, _, _, _)
+        | TacOp::Load(_, _, _, _)
+        | TacOp::Check(_, _, _, _, _) => true,
+        TacOp::Store(_, _, _, _)
+        | TacOp::Call(_, _, _, _)
+        | TacOp::Get(_)
+        | TacOp::Put(_)
+        | TacOp::Alloc(_, _, _) => false,
+    }
+}
+
+fn are_plain(ops: &[TacOp]) -> bool
+    ensures { result ≡ are_plain_ops ops.now }
+{
+    for op in ops {
+        if !is_plain(op) {
+            return false;
+        }
+    }
+    true
+}
+
+/// Whether a block branches after at most five operations that compute, copy, load or check.
+fn is_test(block: &TacBlock) -> bool
+    ensures { result ≡ is_test_block block.now.ops block.now.end }
+{
+    match block.end {
+        TacEnd::Branch(_, _, _, _, _) => block.ops.len() < 6 && are_plain(block.ops.as_slice()),
+        TacEnd::Jump(_) | TacEnd::Return(_) => false,
+    }
+}
+
+/// Whether a copy of a block stands in place of a jump to it.
+fn is_copied(turned: bool, block: &TacBlock) -> bool
+    ensures { result ≡ (turned && is_test_block block.now.ops block.now.end) }
+{
+    turned && is_test(block)
+}
+
+/// The branch of a block.
+fn put_fork(
+    out: &mut Vec<Line>,
+    near: bool,
+    f: &PlacedFunc,
+    first: u32,
+    next: u32,
+    end: TacEnd,
+) -> Result<(), AllocError>
+    requires placed { IsPlacedWhole f.now }
+    requires over { IsEndOver (length f.now.code.blocks) f.now.code.regs end }
+    requires fits { first + length f.now.code.blocks < 2 ^ 32 }
+    ensures { OnOk result
+        (Emits out.old.items out.new.items (fork_lines near f.now first next end)) }
+{
+    match end {
+        TacEnd::Branch(c, x, y, one, two) => {
+            let (x, y) = (operand(f, x), operand(f, y));
+            put_branch(out, near, c, x, y, first, next, one, two)
+        }
+        TacEnd::Jump(_) | TacEnd::Return(_) => Ok(()),
+    }
+}
+
+/// A copy of a block that branches after plain operations.
+fn put_copied(
+    out: &mut Vec<Line>,
+    near: bool,
+    p: &Placed,
+    labels: &[u32],
+    f: &PlacedFunc,
+    first: u32,
+    next: u32,
+    block: &TacBlock,
+) -> Result<(), AllocError>
+    requires whole { IsWellFormed p.now }
+    requires labelled { AreLabels p.now.funcs labels.now }
+    requires placed { IsPlacedWhole f.now }
+    requires over { IsBlockOver (codes_of p.now.funcs) (length f.now.code.blocks) f.now.code.regs
+        block.now }
+    requires fits { first + length f.now.code.blocks < 2 ^ 32 }
+    requires test { is_test_block block.now.ops block.now.end ≡ true }
+    ensures { OnOk result (Emits out.old.items out.new.items
+        (λ rest. ops_lines p.now.funcs f.now 0 block.now.ops
+        (fork_lines near f.now first next block.now.end rest))) }
+{
+    put_ops(out, p, labels, f, 0, block.ops.as_slice())?;
+    put_fork(out, near, f, first, next, block.end)
+}
+
 /// A jump at the end of a block.
 fn put_pass(
     out: &mut Vec<Line>,
     near: bool,
-    blocks: &[TacBlock],
+    turned: bool,
+    p: &Placed,
+    labels: &[u32],
+    f: &PlacedFunc,
     first: u32,
     next: u32,
     b: u32,
 ) -> Result<(), AllocError>
-    requires within { b < length blocks.now }
-    requires fits { first + length blocks.now < 2 ^ 32 }
-    ensures { OnOk result
-        (Emits out.old.items out.new.items (pass_lines near blocks.now first next b)) }
+    requires whole { IsWellFormed p.now }
+    requires labelled { AreLabels p.now.funcs labels.now }
+    requires placed { IsPlacedWhole f.now }
+    requires over { IsFunctionOver (codes_of p.now.funcs) f.now.code }
+    requires within { b < length f.now.code.blocks }
+    requires fits { first + length f.now.code.blocks < 2 ^ 32 }
+    ensures { OnOk result (Emits out.old.items out.new.items
+        (pass_lines near turned p.now.funcs f.now first next b)) }
 {
-    if !is_left_out(blocks, next, b) {
-        out.push(jump_line(near, first + b))?;
+    let blocks = f.code.blocks.as_slice();
+    let block = &blocks[b as usize];
+    if is_left_out(blocks, next, b) {
+        Ok(())
+    } else if is_copied(turned, block) {
+        put_copied(out, near, p, labels, f, first, next, block)
+    } else {
+        put_line(out, jump_line(near, first + b))
     }
+}
+
+fn put_line(out: &mut Vec<Line>, line: Line) -> Result<(), AllocError>
+    ensures { OnOk result (Emits out.old.items out.new.items (λ rest. line ∷ rest)) }
+{
+    out.push(line)?;
     Ok(())
 }
 
@@ -347,6 +474,7 @@ fn put_leave(
 fn put_block(
     out: &mut Vec<Line>,
     near: bool,
+    turned: bool,
     p: &Placed,
     labels: &[u32],
     f: &PlacedFunc,
@@ -358,6 +486,7 @@ fn put_block(
     requires whole { IsWellFormed p.now }
     requires labelled { AreLabels p.now.funcs labels.now }
     requires placed { IsPlacedWhole f.now }
+    requires function { IsFunctionOver (codes_of p.now.funcs) f.now.code }
     requires over { IsBlockOver (codes_of p.now.funcs) (length f.now.code.blocks) f.now.code.regs
         block.now }
     requires counted { before + calls_in block.now ≤ length f.now.kept }
@@ -365,12 +494,12 @@ fn put_block(
     requires fits { first + length f.now.code.blocks < 2 ^ 32 }
     ensures lines { OnOk result
         (Emits out.old.items out.new.items
-        (block_lines near p.now.funcs f.now first b before block.now)) }
+        (block_lines near turned p.now.funcs f.now first b before block.now)) }
     ensures calls { IfOk result (λ n. n ≡ before + calls_in block.now) }
 {
     out.push(Line::Label(first + b))?;
     let calls = put_ops(out, p, labels, f, before, block.ops.as_slice())?;
-    put_end(out, near, f, first, b + 1, block.end)?;
+    put_end(out, near, turned, p, labels, f, first, b + 1, block.end)?;
     Ok(calls)
 }
 
@@ -378,6 +507,7 @@ fn put_block(
 fn put_blocks(
     out: &mut Vec<Line>,
     near: bool,
+    turned: bool,
     p: &Placed,
     labels: &[u32],
     f: &PlacedFunc,
@@ -390,12 +520,12 @@ fn put_blocks(
     requires fits { first + length f.now.code.blocks < 2 ^ 32 }
     ensures { OnOk result
         (Emits out.old.items out.new.items
-        (blocks_lines near p.now.funcs f.now first 0 0 f.now.code.blocks)) }
+        (blocks_lines near turned p.now.funcs f.now first 0 0 f.now.code.blocks)) }
 {
     let mut calls = 0;
     let mut b = 0;
     for block in f.code.blocks.as_slice() {
-        calls = put_block(out, near, p, labels, f, first, b, calls, block)?;
+        calls = put_block(out, near, turned, p, labels, f, first, b, calls, block)?;
         b += 1;
     }
     Ok(())
@@ -405,6 +535,7 @@ fn put_blocks(
 fn put_body(
     out: &mut Vec<Line>,
     near: bool,
+    turned: bool,
     p: &Placed,
     labels: &[u32],
     f: &PlacedFunc,
@@ -416,14 +547,39 @@ fn put_body(
     requires over { IsFunctionOver (codes_of p.now.funcs) f.now.code }
     requires fits { label + 1 + length f.now.code.blocks < 2 ^ 32 }
     ensures { OnOk result
-        (out.new.items ≡ out.old.items ++ body_lines near p.now.funcs f.now label) }
+        (out.new.items ≡ out.old.items ++ body_lines near turned p.now.funcs f.now label) }
 {
     out.push(Line::Label(label))?;
     put_store(out, 1, SP, 0)?;
-    put_blocks(out, near, p, labels, f, label + 1)
+    put_blocks(out, near, turned, p, labels, f, label + 1)
 }
 
-/// The lines of a function, with near jumps and branches if it is short with them.
+/// The lines of a function, with near jumps and branches if it is short with them, and without copies.
+fn put_uncopied(
+    out: &mut Vec<Line>,
+    p: &Placed,
+    labels: &[u32],
+    f: &PlacedFunc,
+    label: u32,
+) -> Result<(), AllocError>
+    requires whole { IsWellFormed p.now }
+    requires labelled { AreLabels p.now.funcs labels.now }
+    requires placed { IsPlacedWhole f.now }
+    requires over { IsFunctionOver (codes_of p.now.funcs) f.now.code }
+    requires fits { label + 1 + length f.now.code.blocks < 2 ^ 32 }
+    ensures { OnOk result (out.new.items ≡ out.old.items ++
+        body_lines (has_near p.now.funcs f.now label) false p.now.funcs f.now label) }
+{
+    let start = out.len();
+    put_body(out, true, false, p, labels, f, label)?;
+    if !is_below(&out[start..], 4096) {
+        out.truncate(start);
+        put_body(out, false, false, p, labels, f, label)?;
+    }
+    Ok(())
+}
+
+/// The lines of a function. Blocks that test are copied if there is room for the copies.
 pub fn put_function(
     out: &mut Vec<Line>,
     p: &Placed,
@@ -440,12 +596,64 @@ pub fn put_function(
         (Emits out.old.items out.new.items (function_lines p.now.funcs f.now label)) }
 {
     let start = out.len();
-    put_body(out, true, p, labels, f, label)?;
-    if !are_near(&out[start..]) {
+    let room = room_of(f.code.blocks.as_slice());
+    put_body(out, true, true, p, labels, f, label)?;
+    if !is_below(&out[start..], room) {
         out.truncate(start);
-        put_body(out, false, p, labels, f, label)?;
+        put_uncopied(out, p, labels, f, label)?;
     }
     Ok(())
+}
+
+fn capped(n: u32) -> u32
+    ensures { result ≡ capped_at n }
+{
+    if n < 4096 { n } else { 4096 }
+}
+
+/// How many bytes an operation may take in any case.
+fn op_room(op: &TacOp) -> u32
+    ensures is { result ≡ op_room_of op.now }
+    ensures few { result ≤ 256 }
+{
+    match op {
+        TacOp::Check(_, _, _, _, _) => 40,
+        TacOp::Call(_, _, _, _) => 256,
+        TacOp::Alloc(_, _, _) => 128,
+        TacOp::Const(_, _)
+        | TacOp::Copy(_, _)
+        | TacOp::Bin(_, _, _, _)
+        | TacOp::High(_, _, _, _)
+        | TacOp::Load(_, _, _, _)
+        | TacOp::Store(_, _, _, _)
+        | TacOp::Get(_)
+        | TacOp::Put(_) => 20,
+    }
+}
+
+/// How many bytes operations may take, and so many beside.
+fn ops_room(before: u32, ops: &[TacOp]) -> u32
+    requires { before ≤ 4096 }
+    ensures is { result ≡ ops_room_from before ops.now }
+    ensures few { result ≤ 4096 }
+{
+    let mut room = before;
+    for op in ops {
+        room = capped(room + op_room(op));
+    }
+    room
+}
+
+/// How many bytes blocks may take, but no more than 4,096.
+fn room_of(blocks: &[TacBlock]) -> u32
+    ensures is { result ≡ room_from 0 blocks.now }
+    ensures few { result ≤ 4096 }
+{
+    let mut room = 0;
+    for block in blocks {
+        room = capped(ops_room(room, block.ops.as_slice()) + 8);
+    }
+    room
 }
 
 /// How many bytes a line takes.
@@ -459,16 +667,17 @@ fn size(line: Line) -> u32
     }
 }
 
-/// Whether lines take less than 4,096 bytes, so that a branch leads from each of them to each other.
-fn are_near(lines: &[Line]) -> bool
-    ensures { result ≡ are_near_lines lines.now }
+/// Whether lines take less than so many bytes.
+fn is_below(lines: &[Line], most: u32) -> bool
+    requires { most ≤ 4096 }
+    ensures { result ≡ nat_lt (sum_by size_of lines.now) most }
 {
     let mut bytes = 0;
     for line in lines {
         bytes += size(*line);
-        if bytes >= 4096 {
+        if bytes >= most {
             return false;
         }
     }
-    true
+    bytes < most
 }

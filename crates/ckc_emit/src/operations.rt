@@ -1,13 +1,14 @@
 //! The lines of operations without a call.
 ghost use Rattle.std.specs.Prelude.{◌≡◌, ◌<◌, ◌^◌, OnOk};
+ghost use Rattle.ckc_rv.specs.declared.instructions.Instr.TheVariants as instr;
 ghost use Rattle.ckc_frame.specs.WellFormed.{IsPlace};
 ghost use Rattle.ckc_emit.specs.code.Emitting.{Emits};
 ghost use Rattle.ckc_emit.specs.code.Operands.{IsOperand};
-ghost use Rattle.ckc_emit.specs.code.Lines.{const_lines, copy_lines, value_lines, bin_lines, form_lines, form_of, is_short as is_short_of, is_even as is_even_of, is_exchanged as is_exchanged_of, number_form as number_form_of, near_form as near_form_of, zeros_of, power_form as power_form_of, product_form as product_form_of, zero_lines, immediate_lines, register_lines, ending_lines, apply_lines, operation_of, high_lines, load_op, store_op, data_load_lines, data_store_lines, test_lines, get_lines, put_lines};
+ghost use Rattle.ckc_emit.specs.code.Lines.{const_lines, copy_lines, value_lines, bin_lines, form_lines, form_of, is_short as is_short_of, is_even as is_even_of, is_exchanged as is_exchanged_of, number_form as number_form_of, near_form as near_form_of, zeros_of, power_form as power_form_of, product_form as product_form_of, zero_lines, immediate_lines, register_lines, ending_lines, apply_lines, operation_of, high_lines, load_op, store_op, source_of, register_with, base_with, rest_of, data_load_lines, data_store_lines, test_lines, get_lines, put_lines};
 
 use crate::places::{
-    PlacedOperand, put_fetch, put_operand, put_settle, put_take, put_write, register_of_operand,
-    source,
+    PlacedOperand, base, put_address, put_fetch, put_operand, put_settle, put_take, put_write,
+    register_of_operand, rest, source,
 };
 use crate::stops::{holding, put_check};
 use ckc_asm_lines::Line;
@@ -364,40 +365,62 @@ fn store_op(width: Width) -> StoreOp
     }
 }
 
-/// A place gets the value at an address, which an operand has.
+/// A place gets the value at an address, which an operand and an offset have.
 pub fn put_data_load(
     out: &mut Vec<Line>,
     width: Width,
     t: Place,
     a: PlacedOperand,
+    offset: u32,
 ) -> Result<(), AllocError>
     requires t { IsPlace t }
     requires a { IsOperand a }
-    ensures { OnOk result (Emits out.old.items out.new.items (data_load_lines width t a)) }
+    ensures { OnOk result (Emits out.old.items out.new.items (data_load_lines width t a offset)) }
 {
-    put_operand(out, a, 5)?;
-    put(
-        out,
-        Instr::Load(load_op(width), source(t, 5), register_of_operand(a, 5), 0),
-    )?;
+    put_address(out, a, offset, 5)?;
+    put(out, load_at(width, t, a, offset))?;
     put_write(out, t, 5)
 }
 
-/// A value is stored at an address; two operands have both.
+/// The instruction that loads from an address with an offset.
+fn load_at(width: Width, t: Place, a: PlacedOperand, offset: u32) -> Instr
+    requires t { IsPlace t }
+    requires a { IsOperand a }
+    ensures { result
+        ≡ instr.Load (load_op width) (source_of t 5) (base_with a offset 5) (rest_of a offset) }
+{
+    let (rd, ra) = (source(t, 5), base(a, offset, 5));
+    Instr::Load(load_op(width), rd, ra, rest(a, offset))
+}
+
+/// A value is stored at an address; two operands have both, but for an offset.
 pub fn put_data_store(
     out: &mut Vec<Line>,
     width: Width,
     a: PlacedOperand,
+    offset: u32,
     b: PlacedOperand,
 ) -> Result<(), AllocError>
     requires a { IsOperand a }
     requires b { IsOperand b }
-    ensures { OnOk result (Emits out.old.items out.new.items (data_store_lines width a b)) }
+    ensures { OnOk result
+        (Emits out.old.items out.new.items (data_store_lines width a offset b)) }
 {
-    put_operand(out, a, 5)?;
+    put_address(out, a, offset, 5)?;
     put_operand(out, b, 6)?;
-    let (ra, rb) = (register_of_operand(a, 5), register_of_operand(b, 6));
-    put(out, Instr::Store(store_op(width), ra, rb, 0))
+    put(out, store_at(width, a, offset, b))
+}
+
+/// The instruction that stores at an address with an offset.
+fn store_at(width: Width, a: PlacedOperand, offset: u32, b: PlacedOperand) -> Instr
+    requires a { IsOperand a }
+    requires b { IsOperand b }
+    ensures { result
+        ≡ instr.Store (store_op width) (base_with a offset 5) (register_with b 6)
+        (rest_of a offset) }
+{
+    let (ra, rb) = (base(a, offset, 5), register_of_operand(b, 6));
+    Instr::Store(store_op(width), ra, rb, rest(a, offset))
 }
 
 /// The program stops at a check unless a comparison of two operands holds.

@@ -3,12 +3,16 @@ ghost use Rattle.std.specs.Prelude.{◌≡◌, ◌<◌, length, All, OnOk};
 ghost use Rattle.ckc_frame.specs.WellFormed.{IsPlace};
 ghost use Rattle.ckc_emit.specs.code.Emitting.{Emits};
 ghost use Rattle.ckc_emit.specs.code.CallLines.{place_at};
-ghost use Rattle.ckc_emit.specs.code.Lines.{offset_of, source_of, register_with, read_lines, operand_lines, write_lines, settle_lines, fetch_lines, take_lines};
+ghost use Rattle.ckc_tac.specs.Operations.{at_offset};
+ghost use Rattle.ckc_emit.specs.code.Lines.{offset_of, source_of, register_with, read_lines, operand_lines, write_lines, settle_lines, fetch_lines, take_lines, upper_lines, address_lines, base_with, rest_of};
 ghost use Rattle.ckc_emit.specs.code.Operands.{IsOperand};
 
 use ckc_asm_lines::Line;
-use ckc_emit_templates::{SP, put_constant, put_load, put_move, put_store, register};
+use ckc_emit_templates::{
+    SP, lower, put, put_constant, put_load, put_move, put_store, register, upper,
+};
 use ckc_frame::Place;
+use ckc_rv::Instr;
 use std::alloc::AllocError;
 
 /// An operand: the place of a register, or a number.
@@ -133,5 +137,71 @@ pub fn put_take(out: &mut Vec<Line>, rd: u8, operand: PlacedOperand) -> Result<(
     match operand {
         PlacedOperand::At(place) => put_fetch(out, rd, place),
         PlacedOperand::Number(n) => put_constant(out, rd, n),
+    }
+}
+
+/// A number so much further on.
+fn number_at(n: u32, offset: u32) -> u32
+    ensures { result ≡ at_offset n offset }
+{
+    if offset == 0 {
+        n
+    } else {
+        n.wrapping_add(offset)
+    }
+}
+
+/// Loads a slot, or sets the upper bits of a number, into a scratch register: the register that `base` names for an
+/// address with an offset then has all of it but `rest`.
+pub fn put_address(
+    out: &mut Vec<Line>,
+    a: PlacedOperand,
+    offset: u32,
+    scratch: u8,
+) -> Result<(), AllocError>
+    requires { IsOperand a }
+    ensures { OnOk result (Emits out.old.items out.new.items (address_lines a offset scratch)) }
+{
+    match a {
+        PlacedOperand::At(place) => put_read(out, place, scratch),
+        PlacedOperand::Number(n) => put_upper(out, number_at(n, offset), scratch),
+    }
+}
+
+fn put_upper(out: &mut Vec<Line>, v: u32, scratch: u8) -> Result<(), AllocError>
+    ensures { OnOk result (Emits out.old.items out.new.items (upper_lines v scratch)) }
+{
+    if upper(v) == 0 {
+        Ok(())
+    } else {
+        put(out, Instr::Lui(scratch, upper(v)))
+    }
+}
+
+/// The register from which an instruction goes on to an address with an offset.
+pub fn base(a: PlacedOperand, offset: u32, scratch: u8) -> u8
+    requires { IsOperand a }
+    ensures { result ≡ base_with a offset scratch }
+{
+    match a {
+        PlacedOperand::At(place) => source(place, scratch),
+        PlacedOperand::Number(n) => {
+            if upper(number_at(n, offset)) == 0 {
+                0
+            } else {
+                scratch
+            }
+        }
+    }
+}
+
+/// How far an instruction goes on from `base`.
+pub fn rest(a: PlacedOperand, offset: u32) -> i32
+    requires { IsOperand a }
+    ensures { result ≡ rest_of a offset }
+{
+    match a {
+        PlacedOperand::At(_) => lower(offset),
+        PlacedOperand::Number(n) => lower(number_at(n, offset)),
     }
 }

@@ -21,8 +21,8 @@ reads r (Const t n) = false
 reads r (Copy t a) = a == r
 reads r (Bin op t a b) = is_register r a || is_register r b
 reads r (High is_signed t a b) = is_register r a || is_register r b
-reads r (Load width t a) = is_register r a
-reads r (Store width a b) = is_register r a || is_register r b
+reads r (Load width t a n) = is_register r a
+reads r (Store width a n b) = is_register r a || is_register r b
 reads r (Check check at comparison a b) = is_register r a || is_register r b
 reads r (Call target callee arguments at) = list_any (λ a. a == r) arguments
 reads r (Get t) = false
@@ -35,8 +35,8 @@ target_of (Const t n) = Some t
 target_of (Copy t a) = Some t
 target_of (Bin op t a b) = Some t
 target_of (High is_signed t a b) = Some t
-target_of (Load width t a) = Some t
-target_of (Store width a b) = None
+target_of (Load width t a n) = Some t
+target_of (Store width a n b) = None
 target_of (Check check at comparison a b) = None
 target_of (Call target callee arguments at) = target
 target_of (Get t) = Some t

@@ -38,11 +38,11 @@ pub fn pass(op: &TacOp, row: &mut [bool])
         }
         TacOp::Bin(_, t, a, b) => write_of_two(*t, *a, *b, row),
         TacOp::High(_, t, a, b) => write_of_two(*t, *a, *b, row),
-        TacOp::Load(_, t, a) => {
+        TacOp::Load(_, t, a, _) => {
             put(row, *t, false);
             mark(*a, row);
         }
-        TacOp::Store(_, a, b) => {
+        TacOp::Store(_, a, _, b) => {
             mark(*a, row);
             mark(*b, row);
         }

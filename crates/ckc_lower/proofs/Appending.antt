@@ -11,8 +11,10 @@ use Rattle.ckc_tac.specs.declared.code.TacOp.TheVariants as op
 use Rattle.ckc_tac.specs.declared.code.TacEnd.{TacEnd}
 use Rattle.ckc_lower.specs.declared.builder.Builder.{Builder}
 use Rattle.ckc_lower.specs.declared.builder.Targets.{Targets}
-use Rattle.ckc_lower.specs.code.Built.{free_from, target_of, operand_of, registers_of, with_op, with_temporary, with_value, with_values, passes, goal, block_count, body_count, with_end, with_jump, left, stored, used, compares, checked_test, one_at, two_at, forked, join_of, entered, targets_of, out_of, step_of, built, bin_of, free_past, with_register, Test, test_of, branch_of}
-use Rattle.ckc_lower.proofs.Values.{value_ops}
+use Rattle.ckc_lower.specs.code.Terms.{Term, term_of, base_of}
+use Rattle.ckc_lower.specs.code.Terms as term
+use Rattle.ckc_lower.specs.code.Built.{free_from, term_free, target_of, operand_of, term_operand, with_term, stores_at, registers_of, with_op, with_temporary, with_value, with_values, passes, goal, block_count, body_count, with_end, with_jump, left, stored, used, compares, checked_test, one_at, two_at, forked, join_of, entered, targets_of, out_of, step_of, built, bin_of, free_past, with_register, Test, test_of, branch_of}
+use Rattle.ckc_lower.proofs.Values.{value_ops, term_ops}
 use Rattle.ckc_lower.proofs.Arguments.{register_ops, values_ops}
 
 -- ---- expressions
@@ -29,42 +31,48 @@ temporary-blocks None t b = refl
 in_turn : (old first second all : List TacOp) → all ≡ (old ++ first) ++ second → all ≡ old ++ (first ++ second)
 in_turn old first second all e = e ∙ append_assoc old first second
 
+pub term-ops : (x : Term) (want : Option ℕ) (t : ℕ) (b : Builder) → (with_term x want t b).ops ≡ b.ops ++ term_ops x want t
+term-ops (term.Const n) (Some d) t b = refl
+term-ops (term.Const n) None t b = sym (append-nil b.ops)
+term-ops (term.Local x) (Some d) t b = refl
+term-ops (term.Local x) None t b = sym (append-nil b.ops)
+term-ops (term.Load width a n) want t b =
+    let last = op.Load width (target_of want t) (term_operand a None t) n ∷ [] in
+    in_turn b.ops (term_ops a None t) last (with_term (term.Load width a n) want t b).ops
+    (ap (λ x. x ++ last) (temporary-ops want t (with_term a None t b) ∙ term-ops a None t b))
+term-ops (term.Bin o p q) want t b =
+    let u = term_free p t in
+    let last = bin_of o (target_of want t) (term_operand p None t) (term_operand q None u) ∷ [] in
+    let first = with_term p None t b in
+    in_turn b.ops (term_ops p None t) (term_ops q None u ++ last) (with_term (term.Bin o p q) want t b).ops
+    (in_turn (b.ops ++ term_ops p None t) (term_ops q None u) last (with_term (term.Bin o p q) want t b).ops
+    (ap (λ x. x ++ last) (temporary-ops want t (with_term q None u first) ∙ term-ops q None u first ∙ ap (λ x. x ++ term_ops q None u) (term-ops p None t b))))
+term-ops (term.High s p q) want t b =
+    let u = term_free p t in
+    let last = op.High s (target_of want t) (term_operand p None t) (term_operand q None u) ∷ [] in
+    let first = with_term p None t b in
+    in_turn b.ops (term_ops p None t) (term_ops q None u ++ last) (with_term (term.High s p q) want t b).ops
+    (in_turn (b.ops ++ term_ops p None t) (term_ops q None u) last (with_term (term.High s p q) want t b).ops
+    (ap (λ x. x ++ last) (temporary-ops want t (with_term q None u first) ∙ term-ops q None u first ∙ ap (λ x. x ++ term_ops q None u) (term-ops p None t b))))
+
+pub term-blocks : (x : Term) (want : Option ℕ) (t : ℕ) (b : Builder) → (with_term x want t b).blocks ≡ b.blocks
+term-blocks (term.Const n) (Some d) t b = refl
+term-blocks (term.Const n) None t b = refl
+term-blocks (term.Local x) (Some d) t b = refl
+term-blocks (term.Local x) None t b = refl
+term-blocks (term.Load width a n) want t b = temporary-blocks want t (with_term a None t b) ∙ term-blocks a None t b
+term-blocks (term.Bin o p q) want t b =
+    temporary-blocks want t (with_term q None (term_free p t) (with_term p None t b))
+    ∙ term-blocks q None (term_free p t) (with_term p None t b) ∙ term-blocks p None t b
+term-blocks (term.High s p q) want t b =
+    temporary-blocks want t (with_term q None (term_free p t) (with_term p None t b))
+    ∙ term-blocks q None (term_free p t) (with_term p None t b) ∙ term-blocks p None t b
+
 pub value-ops : (e : Expr) (want : Option ℕ) (t : ℕ) (b : Builder) → (with_value e want t b).ops ≡ b.ops ++ value_ops e want t
-value-ops (Const n) (Some d) t b = refl
-value-ops (Const n) None t b = sym (append-nil b.ops)
-value-ops (Local x) (Some d) t b = refl
-value-ops (Local x) None t b = sym (append-nil b.ops)
-value-ops (Load width a) want t b =
-    let last = op.Load width (target_of want t) (operand_of a None t) ∷ [] in
-    in_turn b.ops (value_ops a None t) last (with_value (Load width a) want t b).ops
-    (ap (λ x. x ++ last) (temporary-ops want t (with_value a None t b) ∙ value-ops a None t b))
-value-ops (Bin o p q) want t b =
-    let u = free_from p t in
-    let last = bin_of o (target_of want t) (operand_of p None t) (operand_of q None u) ∷ [] in
-    let first = with_value p None t b in
-    in_turn b.ops (value_ops p None t) (value_ops q None u ++ last) (with_value (Bin o p q) want t b).ops
-    (in_turn (b.ops ++ value_ops p None t) (value_ops q None u) last (with_value (Bin o p q) want t b).ops
-    (ap (λ x. x ++ last) (temporary-ops want t (with_value q None u first) ∙ value-ops q None u first ∙ ap (λ x. x ++ value_ops q None u) (value-ops p None t b))))
-value-ops (High s p q) want t b =
-    let u = free_from p t in
-    let last = op.High s (target_of want t) (operand_of p None t) (operand_of q None u) ∷ [] in
-    let first = with_value p None t b in
-    in_turn b.ops (value_ops p None t) (value_ops q None u ++ last) (with_value (High s p q) want t b).ops
-    (in_turn (b.ops ++ value_ops p None t) (value_ops q None u) last (with_value (High s p q) want t b).ops
-    (ap (λ x. x ++ last) (temporary-ops want t (with_value q None u first) ∙ value-ops q None u first ∙ ap (λ x. x ++ value_ops q None u) (value-ops p None t b))))
+value-ops e want t b = term-ops (term_of e) want t b
 
 pub value-blocks : (e : Expr) (want : Option ℕ) (t : ℕ) (b : Builder) → (with_value e want t b).blocks ≡ b.blocks
-value-blocks (Const n) (Some d) t b = refl
-value-blocks (Const n) None t b = refl
-value-blocks (Local x) (Some d) t b = refl
-value-blocks (Local x) None t b = refl
-value-blocks (Load width a) want t b = temporary-blocks want t (with_value a None t b) ∙ value-blocks a None t b
-value-blocks (Bin o p q) want t b =
-    temporary-blocks want t (with_value q None (free_from p t) (with_value p None t b))
-    ∙ value-blocks q None (free_from p t) (with_value p None t b) ∙ value-blocks p None t b
-value-blocks (High s p q) want t b =
-    temporary-blocks want t (with_value q None (free_from p t) (with_value p None t b))
-    ∙ value-blocks q None (free_from p t) (with_value p None t b) ∙ value-blocks p None t b
+value-blocks e want t b = term-blocks (term_of e) want t b
 
 register-ops : (e : Expr) (t : ℕ) (b : Builder) → (with_register e t b).ops ≡ b.ops ++ register_ops e t
 register-ops (Const n) t b = refl
@@ -92,21 +100,21 @@ values-blocks (e ∷ es) t b = values-blocks es (free_past e t) (with_register e
 
 -- ---- statements
 
-pub stored-ops : (t : ℕ) (a e : Expr) (o : Operand → Operand → TacOp) (b : Builder) → (stored t a e o b).ops
-    ≡ b.ops ++ (value_ops a None t ++ (value_ops e None (free_from a t) ++ o (operand_of a None t) (operand_of e None (free_from a t)) ∷ []))
-stored-ops t a e o b =
-    let u = free_from a t in
-    let last = o (operand_of a None t) (operand_of e None u) ∷ [] in
-    let first = with_value a None t b in
-    in_turn b.ops (value_ops a None t) (value_ops e None u ++ last) (stored t a e o b).ops
-    (in_turn (b.ops ++ value_ops a None t) (value_ops e None u) last (stored t a e o b).ops
-    (ap (λ x. x ++ last) (value-ops e None u first ∙ ap (λ x. x ++ value_ops e None u) (value-ops a None t b))))
+pub stored-ops : (t : ℕ) (x y : Term) (o : Operand → Operand → TacOp) (b : Builder) → (stored t x y o b).ops
+    ≡ b.ops ++ (term_ops x None t ++ (term_ops y None (term_free x t) ++ o (term_operand x None t) (term_operand y None (term_free x t)) ∷ []))
+stored-ops t x y o b =
+    let u = term_free x t in
+    let last = o (term_operand x None t) (term_operand y None u) ∷ [] in
+    let first = with_term x None t b in
+    in_turn b.ops (term_ops x None t) (term_ops y None u ++ last) (stored t x y o b).ops
+    (in_turn (b.ops ++ term_ops x None t) (term_ops y None u) last (stored t x y o b).ops
+    (ap (λ ops. ops ++ last) (term-ops y None u first ∙ ap (λ ops. ops ++ term_ops y None u) (term-ops x None t b))))
 
-pub stored-blocks : (t : ℕ) (a e : Expr) (o : Operand → Operand → TacOp) (b : Builder) → (stored t a e o b).blocks ≡ b.blocks
-stored-blocks t a e o b = value-blocks e None (free_from a t) (with_value a None t b) ∙ value-blocks a None t b
+pub stored-blocks : (t : ℕ) (x y : Term) (o : Operand → Operand → TacOp) (b : Builder) → (stored t x y o b).blocks ≡ b.blocks
+stored-blocks t x y o b = term-blocks y None (term_free x t) (with_term x None t b) ∙ term-blocks x None t b
 
 pub compares-blocks : (t : ℕ) (s : Test) (o : Comparison → Operand → Operand → TacOp) (b : Builder) → (compares t s o b).blocks ≡ b.blocks
-compares-blocks t s o b = stored-blocks t s.left s.right (o s.comparison) b
+compares-blocks t s o b = stored-blocks t (term_of s.left) (term_of s.right) (o s.comparison) b
 
 pub used-ops : (t : ℕ) (e : Expr) (o : Operand → TacOp) (b : Builder) → (used t e o b).ops ≡ b.ops ++ (value_ops e None t ++ o (operand_of e None t) ∷ [])
 used-ops t e o b =
@@ -154,8 +162,8 @@ built-blocks t fresh (Set x e rest) exit loop b =
     let c = with_value e (Some x) t b in
     prefix_trans b.blocks c.blocks (built t false rest exit loop c).blocks (same_blocks b c (value-blocks e (Some x) t b)) (built-blocks t false rest exit loop c)
 built-blocks t fresh (Store width a e rest) exit loop b =
-    let c = stored t a e (op.Store width) b in
-    prefix_trans b.blocks c.blocks (built t false rest exit loop c).blocks (same_blocks b c (stored-blocks t a e (op.Store width) b)) (built-blocks t false rest exit loop c)
+    let c = stored t (base_of (term_of a)) (term_of e) (stores_at width a) b in
+    prefix_trans b.blocks c.blocks (built t false rest exit loop c).blocks (same_blocks b c (stored-blocks t (base_of (term_of a)) (term_of e) (stores_at width a) b)) (built-blocks t false rest exit loop c)
 built-blocks t fresh (Check check place e rest) exit loop b =
     let c = compares t (checked_test e) (op.Check check place) b in
     prefix_trans b.blocks c.blocks (built t false rest exit loop c).blocks (same_blocks b c (compares-blocks t (checked_test e) (op.Check check place) b)) (built-blocks t false rest exit loop c)
@@ -261,7 +269,7 @@ built-length t fresh End exit loop b = left-length fresh exit b
 built-length t fresh (Set x e rest) exit loop b =
     built-length t false rest exit loop _ ∙ ap (λ x. length x + block_count false (is_some exit) rest) (value-blocks e (Some x) t b)
 built-length t fresh (Store width a e rest) exit loop b =
-    built-length t false rest exit loop _ ∙ ap (λ x. length x + block_count false (is_some exit) rest) (stored-blocks t a e (op.Store width) b)
+    built-length t false rest exit loop _ ∙ ap (λ x. length x + block_count false (is_some exit) rest) (stored-blocks t (base_of (term_of a)) (term_of e) (stores_at width a) b)
 built-length t fresh (Check check place e rest) exit loop b =
     built-length t false rest exit loop _ ∙ ap (λ x. length x + block_count false (is_some exit) rest) (compares-blocks t (checked_test e) (op.Check check place) b)
 built-length t fresh (Call target i es place rest) exit loop b =

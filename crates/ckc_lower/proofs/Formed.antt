@@ -17,13 +17,16 @@ use Rattle.ckc_tac.specs.declared.code.TacEnd.TheVariants as ends
 use Rattle.ckc_tac.specs.WellFormed as T
 use Rattle.ckc_lower.specs.declared.builder.Builder.{Builder}
 use Rattle.ckc_lower.specs.declared.builder.Targets.{Targets}
-use Rattle.ckc_lower.specs.code.Built.{free_from, target_of, operand_of, registers_of, with_op, with_temporary, with_value, with_values, block_count, body_count, with_end, with_jump, left, passes, goal, stored, used, one_at, two_at, behind_at, forked, join_of, entered, step_at, out_at, targets_of, out_of, step_of, built, bin_of, is_even, is_number, register_of, free_past, with_register, test_of, checked_test, picked, branch_of}
+use Rattle.ckc_lower.specs.code.Terms.{Term, term_of, base_of}
+use Rattle.ckc_lower.specs.code.Terms as term
+use Rattle.ckc_lower.specs.code.Built.{free_from, term_free, target_of, operand_of, term_operand, with_term, stores_at, registers_of, with_op, with_temporary, with_value, with_values, block_count, body_count, with_end, with_jump, left, passes, goal, stored, used, one_at, two_at, behind_at, forked, join_of, entered, step_at, out_at, targets_of, out_of, step_of, built, bin_of, is_even, is_number, register_of, free_past, with_register, test_of, checked_test, picked, branch_of}
+use Rattle.ckc_lower.proofs.Terms.{IsTermOver, term_over, base_over, offset_small}
 use Rattle.ckc_lower.proofs.Arguments.{length-registers_of}
 use Rattle.ckc_lower.specs.code.Lowered.{empty, whole, lowered_function, lowered}
 use Rattle.ckc_lower.proofs.Conditions.{within, checked_within}
 use Rattle.ckc_lower.proofs.Appending.{sides-blocks, ended-length, jump-length, built-length, is_some, body_some, IsExitGood, IsLoopGood, out_good, step_good, goal_good}
 use Rattle.ckc_lower.proofs.Standing.{function_some}
-use Rattle.ckc_lower.proofs.Registers.{temporary-more, value-more, values-more, built-more}
+use Rattle.ckc_lower.proofs.Registers.{term-more, temporary-more, value-more, values-more, built-more}
 
 module _ (functions : List Function) (t blocks regs : ℕ) (room : t ≤ regs) where
   abbrev lowered_all : List TacFunc
@@ -57,14 +60,17 @@ module _ (functions : List Function) (t blocks regs : ℕ) (room : t ≤ regs) w
   target_good (Some d) u b w few = w
   target_good None u b w few = omega arith
 
+  term_good : (x : Term) (want : Option ℕ) (u : ℕ) (b : Builder) → IsTermOver t x → IsWanted want → (with_term x want u b).regs ≤ regs → T.IsOperandOver regs (term_operand x want u)
+  term_good (term.Const n) (Some d) u b over w few = w
+  term_good (term.Const n) None u b over w few = over
+  term_good (term.Local x) (Some d) u b over w few = w
+  term_good (term.Local x) None u b over w few = omega (arith, over)
+  term_good (term.Load width a n) want u b over w few = target_good want u (with_term a None u b) w few
+  term_good (term.Bin o p q) want u b over w few = target_good want u (with_term q None (term_free p u) (with_term p None u b)) w few
+  term_good (term.High s p q) want u b over w few = target_good want u (with_term q None (term_free p u) (with_term p None u b)) w few
+
   operand_good : (e : Expr) (want : Option ℕ) (u : ℕ) (b : Builder) → IsExprOver t e → IsWanted want → (with_value e want u b).regs ≤ regs → T.IsOperandOver regs (operand_of e want u)
-  operand_good (Const n) (Some d) u b over w few = w
-  operand_good (Const n) None u b over w few = over
-  operand_good (Local x) (Some d) u b over w few = w
-  operand_good (Local x) None u b over w few = omega (arith, over)
-  operand_good (Load width a) want u b over w few = target_good want u (with_value a None u b) w few
-  operand_good (Bin o p q) want u b over w few = target_good want u (with_value q None (free_from p u) (with_value p None u b)) w few
-  operand_good (High s p q) want u b over w few = target_good want u (with_value q None (free_from p u) (with_value p None u b)) w few
+  operand_good e want u b over w few = term_good (term_of e) want u b (term_over t e over) w few
 
   either_good : (exchanged : Bool) (o : BinOp) (d : ℕ) (a b : Operand) → d < regs → T.IsOperandOver regs a → T.IsOperandOver regs b
       → T.IsOpOver lowered_all regs (if exchanged then op.Bin o d b a else op.Bin o d a b)
@@ -74,35 +80,38 @@ module _ (functions : List Function) (t blocks regs : ℕ) (room : t ≤ regs) w
   bin_good : (o : BinOp) (d : ℕ) (a b : Operand) → d < regs → T.IsOperandOver regs a → T.IsOperandOver regs b → T.IsOpOver lowered_all regs (bin_of o d a b)
   bin_good o d a b h i j = either_good (is_even o && is_number a) o d a b h i j
 
-  good_value : (e : Expr) (want : Option ℕ) (u : ℕ) (b : Builder) → IsExprOver t e → IsWanted want → (with_value e want u b).regs ≤ regs → IsGood b → IsGood (with_value e want u b)
-  good_value (Const n) (Some d) u b over w few g = good_op b (op.Const d n) g (w, over)
-  good_value (Const n) None u b over w few g = g
-  good_value (Local x) (Some d) u b over w few g = good_op b (op.Copy d x) g (w, omega (arith, over))
-  good_value (Local x) None u b over w few g = g
-  good_value (Load width a) want u b over w few g =
-      let c = with_value a None u b in
+  good_term : (x : Term) (want : Option ℕ) (u : ℕ) (b : Builder) → IsTermOver t x → IsWanted want → (with_term x want u b).regs ≤ regs → IsGood b → IsGood (with_term x want u b)
+  good_term (term.Const n) (Some d) u b over w few g = good_op b (op.Const d n) g (w, over)
+  good_term (term.Const n) None u b over w few g = g
+  good_term (term.Local x) (Some d) u b over w few g = good_op b (op.Copy d x) g (w, omega (arith, over))
+  good_term (term.Local x) None u b over w few g = g
+  good_term (term.Load width a n) want u b over w few g =
+      let c = with_term a None u b in
       let here : c.regs ≤ regs = omega (arith, temporary-more want u c) in
-      good_op (with_temporary want u c) (op.Load width (target_of want u) (operand_of a None u)) (good_temporary want u c (good_value a None u b over tt here g))
-      (target_good want u c w few, operand_good a None u b over tt here)
-  good_value (Bin o p q) want u b over w few g =
-      let v = free_from p u in
-      let c = with_value p None u b in
-      let d = with_value q None v c in
+      good_op (with_temporary want u c) (op.Load width (target_of want u) (term_operand a None u) n) (good_temporary want u c (good_term a None u b over.0 tt here g))
+      (target_good want u c w few, term_good a None u b over.0 tt here, over.1)
+  good_term (term.Bin o p q) want u b over w few g =
+      let v = term_free p u in
+      let c = with_term p None u b in
+      let d = with_term q None v c in
       let second : d.regs ≤ regs = omega (arith, temporary-more want u d) in
-      let first : c.regs ≤ regs = omega (arith, value-more q None v c) in
-      good_op (with_temporary want u d) (bin_of o (target_of want u) (operand_of p None u) (operand_of q None v))
-      (good_temporary want u d (good_value q None v c over.1 tt second (good_value p None u b over.0 tt first g)))
-      (bin_good o (target_of want u) (operand_of p None u) (operand_of q None v) (target_good want u d w few)
-      (operand_good p None u b over.0 tt first) (operand_good q None v c over.1 tt second))
-  good_value (High s p q) want u b over w few g =
-      let v = free_from p u in
-      let c = with_value p None u b in
-      let d = with_value q None v c in
+      let first : c.regs ≤ regs = omega (arith, term-more q None v c) in
+      good_op (with_temporary want u d) (bin_of o (target_of want u) (term_operand p None u) (term_operand q None v))
+      (good_temporary want u d (good_term q None v c over.1 tt second (good_term p None u b over.0 tt first g)))
+      (bin_good o (target_of want u) (term_operand p None u) (term_operand q None v) (target_good want u d w few)
+      (term_good p None u b over.0 tt first) (term_good q None v c over.1 tt second))
+  good_term (term.High s p q) want u b over w few g =
+      let v = term_free p u in
+      let c = with_term p None u b in
+      let d = with_term q None v c in
       let second : d.regs ≤ regs = omega (arith, temporary-more want u d) in
-      let first : c.regs ≤ regs = omega (arith, value-more q None v c) in
-      good_op (with_temporary want u d) (op.High s (target_of want u) (operand_of p None u) (operand_of q None v))
-      (good_temporary want u d (good_value q None v c over.1 tt second (good_value p None u b over.0 tt first g)))
-      (target_good want u d w few, operand_good p None u b over.0 tt first, operand_good q None v c over.1 tt second)
+      let first : c.regs ≤ regs = omega (arith, term-more q None v c) in
+      good_op (with_temporary want u d) (op.High s (target_of want u) (term_operand p None u) (term_operand q None v))
+      (good_temporary want u d (good_term q None v c over.1 tt second (good_term p None u b over.0 tt first g)))
+      (target_good want u d w few, term_good p None u b over.0 tt first, term_good q None v c over.1 tt second)
+
+  good_value : (e : Expr) (want : Option ℕ) (u : ℕ) (b : Builder) → IsExprOver t e → IsWanted want → (with_value e want u b).regs ≤ regs → IsGood b → IsGood (with_value e want u b)
+  good_value e want u b over w few g = good_term (term_of e) want u b (term_over t e over) w few g
 
   register_good : (e : Expr) (u : ℕ) (b : Builder) → IsExprOver t e → (with_register e u b).regs ≤ regs → register_of e u < regs
   register_good (Const n) u b over few = omega arith
@@ -160,16 +169,18 @@ module _ (functions : List Function) (t blocks regs : ℕ) (room : t ≤ regs) w
       good_built rest looped false exit loop c w.2 few short x l some
       (good_value e (Some y) t b w.1 wanted (omega (arith, built-more t false rest exit loop c)) g)
   good_built (Store width a e rest) looped fresh exit loop b w few short x l some g =
-      let u = free_from a t in
-      let first = with_value a None t b in
+      let y = base_of (term_of a) in
+      let over = base_over t (term_of a) (term_over t a w.0) in
+      let u = term_free y t in
+      let first = with_term y None t b in
       let second = with_value e None u first in
-      let c = stored t a e (op.Store width) b in
+      let c = stored t y (term_of e) (stores_at width a) b in
       let few_second : second.regs ≤ regs = omega (arith, built-more t false rest exit loop c) in
       let few_first : first.regs ≤ regs = omega (arith, value-more e None u first) in
       good_built rest looped false exit loop c w.2 few short x l some
-      (good_op second (op.Store width (operand_of a None t) (operand_of e None u))
-      (good_value e None u first w.1 tt few_second (good_value a None t b w.0 tt few_first g))
-      (operand_good a None t b w.0 tt few_first, operand_good e None u first w.1 tt few_second))
+      (good_op second (stores_at width a (term_operand y None t) (operand_of e None u))
+      (good_value e None u first w.1 tt few_second (good_term y None t b over tt few_first g))
+      (term_good y None t b over tt few_first, offset_small (term_of a), operand_good e None u first w.1 tt few_second))
   good_built (Check check place e rest) looped fresh exit loop b w few short x l some g =
       let s = checked_test e in
       let over = (checked_within e).over t w.1 in

@@ -12,7 +12,8 @@ use Rattle.ckc_tac.specs.declared.code.TacEnd.TheVariants as ends
 use Rattle.ckc_tac.specs.declared.code.TacBlock.{TacBlock}
 use Rattle.ckc_lower.specs.declared.builder.Builder.{Builder}
 use Rattle.ckc_lower.specs.declared.builder.Targets.{Targets}
-use Rattle.ckc_lower.specs.code.Built.{free_from, operand_of, registers_of, with_op, with_value, with_values, with_jump, left, passes, goal, one_at, two_at, forked, join_of, entered, targets_of, out_of, step_of, built, test_of, checked_test, branch_of, Test}
+use Rattle.ckc_lower.specs.code.Terms.{term_of, base_of}
+use Rattle.ckc_lower.specs.code.Built.{term_free, term_operand, with_term, stores_at, free_from, operand_of, registers_of, with_op, with_value, with_values, with_jump, left, passes, goal, one_at, two_at, forked, join_of, entered, targets_of, out_of, step_of, built, test_of, checked_test, branch_of, Test}
 use Rattle.ckc_lower.specs.code.Lowered.{empty, whole, lowered_function, lowered}
 use Rattle.ckc_lower.specs.Idle.{jumps_alone, only_jumps, idle_blocks_in, idle_blocks}
 use Rattle.ckc_lower.proofs.Appending.{value-blocks, values-blocks, stored-blocks, sides-blocks}
@@ -74,7 +75,7 @@ left_most fresh None b = omega (arith, idle-push b.blocks (record { ops = b.ops;
 set_owed : (e : Expr) (x t : ℕ) (b : Builder) → owed false (with_value e (Some x) t b).ops ≡ 0
 set_owed (Const n) x t b = pushed b.ops _
 set_owed (Local y) x t b = pushed b.ops _
-set_owed (Load width a) x t b = pushed (with_value a None t b).ops _
+set_owed (Load width a) x t b = pushed (with_term (base_of (term_of a)) None t b).ops _
 set_owed (Bin o p q) x t b = pushed (with_value q None (free_from p t) (with_value p None t b)).ops _
 set_owed (High s p q) x t b = pushed (with_value q None (free_from p t) (with_value p None t b)).ops _
 
@@ -94,9 +95,10 @@ module _ (t : ℕ) where
   built_most (Set x e rest) fresh exit loop b =
       omega (arith, built_most rest false exit loop (with_value e (Some x) t b), set_owed e x t b, ap idle (value-blocks e (Some x) t b))
   built_most (Store width a e rest) fresh exit loop b =
-      let c = with_value e None (free_from a t) (with_value a None t b) in
-      let o = op.Store width (operand_of a None t) (operand_of e None (free_from a t)) in
-      omega (arith, built_most rest false exit loop (with_op c o), pushed c.ops o, ap idle (stored-blocks t a e (op.Store width) b))
+      let x = base_of (term_of a) in
+      let c = with_value e None (term_free x t) (with_term x None t b) in
+      let o = stores_at width a (term_operand x None t) (operand_of e None (term_free x t)) in
+      omega (arith, built_most rest false exit loop (with_op c o), pushed c.ops o, ap idle (stored-blocks t x (term_of e) (stores_at width a) b))
   built_most (Check check at e rest) fresh exit loop b =
       let s = checked_test e in
       let c = with_value s.right None (free_from s.left t) (with_value s.left None t b) in

@@ -1,4 +1,5 @@
 pub mod Parts
+pub mod Terms
 pub mod Values
 pub mod Arguments
 pub mod Conditions

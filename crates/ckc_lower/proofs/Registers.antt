@@ -11,8 +11,12 @@ use Rattle.ckc_tac.specs.declared.code.TacOp.TheVariants as op
 use Rattle.ckc_tac.specs.WellFormed.{HasFewRegisters}
 use Rattle.ckc_lower.specs.declared.builder.Builder.{Builder}
 use Rattle.ckc_lower.specs.declared.builder.Targets.{Targets}
-use Rattle.ckc_lower.specs.code.Built.{free_from, registers_of, with_op, with_temporary, with_value, with_values, with_jump, left, out_of, step_of, passes, goal, stored, used, compares, checked_test, one_at, two_at, forked, join_of, entered, targets_of, built, free_past, with_register, Test, test_of, tested}
+use Rattle.ckc_lower.specs.code.Terms.{Term, term_of, base_of}
+use Rattle.ckc_lower.specs.code.Terms as term
+use Rattle.ckc_lower.specs.code.Built.{free_from, term_free, with_term, stores_at, registers_of, with_op, with_temporary, with_value, with_values, with_jump, left, out_of, step_of, passes, goal, stored, used, compares, checked_test, one_at, two_at, forked, join_of, entered, targets_of, built, free_past, with_register, Test, test_of, tested}
 use Rattle.ckc_lower.proofs.Conditions.{within, checked_within}
+use Rattle.ckc_lower.proofs.Terms.{base_depth, term_depth}
+use Rattle.ckc_lower.proofs.Terms as terms
 use Rattle.ckc_lower.specs.code.Lowered.{empty, lowered_function, lowered}
 
 -- ---- no register is given back
@@ -21,20 +25,23 @@ pub temporary-more : (want : Option ℕ) (t : ℕ) (b : Builder) → b.regs ≤ 
 temporary-more (Some d) t b = omega arith
 temporary-more None t b = omega arith
 
+pub term-more : (x : Term) (want : Option ℕ) (t : ℕ) (b : Builder) → b.regs ≤ (with_term x want t b).regs
+term-more (term.Const n) (Some d) t b = omega arith
+term-more (term.Const n) None t b = omega arith
+term-more (term.Local x) (Some d) t b = omega arith
+term-more (term.Local x) None t b = omega arith
+term-more (term.Load width a n) want t b = omega (arith, term-more a None t b, temporary-more want t (with_term a None t b))
+term-more (term.Bin o p q) want t b =
+    let u = term_free p t in
+    let c = with_term p None t b in
+    omega (arith, term-more p None t b, term-more q None u c, temporary-more want t (with_term q None u c))
+term-more (term.High s p q) want t b =
+    let u = term_free p t in
+    let c = with_term p None t b in
+    omega (arith, term-more p None t b, term-more q None u c, temporary-more want t (with_term q None u c))
+
 pub value-more : (e : Expr) (want : Option ℕ) (t : ℕ) (b : Builder) → b.regs ≤ (with_value e want t b).regs
-value-more (Const n) (Some d) t b = omega arith
-value-more (Const n) None t b = omega arith
-value-more (Local x) (Some d) t b = omega arith
-value-more (Local x) None t b = omega arith
-value-more (Load width a) want t b = omega (arith, value-more a None t b, temporary-more want t (with_value a None t b))
-value-more (Bin o p q) want t b =
-    let u = free_from p t in
-    let c = with_value p None t b in
-    omega (arith, value-more p None t b, value-more q None u c, temporary-more want t (with_value q None u c))
-value-more (High s p q) want t b =
-    let u = free_from p t in
-    let c = with_value p None t b in
-    omega (arith, value-more p None t b, value-more q None u c, temporary-more want t (with_value q None u c))
+value-more e want t b = term-more (term_of e) want t b
 
 register-more : (e : Expr) (t : ℕ) (b : Builder) → b.regs ≤ (with_register e t b).regs
 register-more (Const n) t b = temporary-more None t b
@@ -47,8 +54,8 @@ pub values-more : (es : List Expr) (t : ℕ) (b : Builder) → b.regs ≤ (with_
 values-more [] t b = omega arith
 values-more (e ∷ es) t b = omega (arith, register-more e t b, values-more es (free_past e t) (with_register e t b))
 
-pub stored-more : (t : ℕ) (a e : Expr) (o : Operand → Operand → TacOp) (b : Builder) → b.regs ≤ (stored t a e o b).regs
-stored-more t a e o b = omega (arith, value-more a None t b, value-more e None (free_from a t) (with_value a None t b))
+pub stored-more : (t : ℕ) (x y : Term) (o : Operand → Operand → TacOp) (b : Builder) → b.regs ≤ (stored t x y o b).regs
+stored-more t x y o b = omega (arith, term-more x None t b, term-more y None (term_free x t) (with_term x None t b))
 
 pub tested-more : (t : ℕ) (s : Test) (one two : ℕ) (b : Builder) → b.regs ≤ (tested t s one two b).regs
 tested-more t s one two b = omega (arith, value-more s.left None t b, value-more s.right None (free_from s.left t) (with_value s.left None t b))
@@ -65,11 +72,12 @@ pub built-more : (t : ℕ) (fresh : Bool) (code : Code) (exit : Option ℕ) (loo
 built-more t fresh End exit loop b = left-more fresh exit b
 built-more t fresh (Set x e rest) exit loop b = omega (arith, value-more e (Some x) t b, built-more t false rest exit loop (with_value e (Some x) t b))
 built-more t fresh (Store width a e rest) exit loop b =
-    omega (arith, stored-more t a e (op.Store width) b, built-more t false rest exit loop (stored t a e (op.Store width) b))
+    let c = stored t (base_of (term_of a)) (term_of e) (stores_at width a) b in
+    omega (arith, stored-more t (base_of (term_of a)) (term_of e) (stores_at width a) b, built-more t false rest exit loop c)
 built-more t fresh (Check check place e rest) exit loop b =
     let s = checked_test e in
     let o = op.Check check place s.comparison in
-    omega (arith, stored-more t s.left s.right o b, built-more t false rest exit loop (stored t s.left s.right o b))
+    omega (arith, stored-more t (term_of s.left) (term_of s.right) o b, built-more t false rest exit loop (stored t (term_of s.left) (term_of s.right) o b))
 built-more t fresh (Call target i es place rest) exit loop b =
     omega (arith, values-more es t b, built-more t false rest exit loop (with_op (with_values es t b) (op.Call target i (registers_of es t) place)))
 built-more t fresh (Get x rest) exit loop b = built-more t false rest exit loop (with_op b (op.Get x))
@@ -95,34 +103,40 @@ built-more t fresh (Return e rest) exit loop b = value-more e None t b
 
 -- ---- there are few registers
 
+pub term_free_at_most : (x : Term) (t : ℕ) → term_free x t ≤ t + 1
+term_free_at_most (term.Const n) t = omega arith
+term_free_at_most (term.Local x) t = omega arith
+term_free_at_most (term.Load width a n) t = omega arith
+term_free_at_most (term.Bin o p q) t = omega arith
+term_free_at_most (term.High s p q) t = omega arith
+
 pub free_at_most : (e : Expr) (t : ℕ) → free_from e t ≤ t + 1
-free_at_most (Const n) t = omega arith
-free_at_most (Local x) t = omega arith
-free_at_most (Load width a) t = omega arith
-free_at_most (Bin o p q) t = omega arith
-free_at_most (High s p q) t = omega arith
+free_at_most e t = term_free_at_most (term_of e) t
 
 temporary-few : (most : ℕ) (want : Option ℕ) (t : ℕ) (b : Builder) → t + 1 ≤ most → b.regs ≤ most → (with_temporary want t b).regs ≤ most
 temporary-few most (Some d) t b h few = few
 temporary-few most None t b h few = omega arith
 
+term-few : (most : ℕ) (x : Term) (want : Option ℕ) (t : ℕ) (b : Builder) → t + terms.depth x ≤ most → b.regs ≤ most → (with_term x want t b).regs ≤ most
+term-few most (term.Const n) (Some d) t b h few = few
+term-few most (term.Const n) None t b h few = few
+term-few most (term.Local x) (Some d) t b h few = few
+term-few most (term.Local x) None t b h few = few
+term-few most (term.Load width a n) want t b h few =
+    temporary-few most want t (with_term a None t b) (omega arith) (term-few most a None t b (omega arith) few)
+term-few most (term.Bin o p q) want t b h few =
+    let u = term_free p t in
+    let c = with_term p None t b in
+    temporary-few most want t (with_term q None u c) (omega arith)
+    (term-few most q None u c (omega (arith, term_free_at_most p t)) (term-few most p None t b (omega arith) few))
+term-few most (term.High s p q) want t b h few =
+    let u = term_free p t in
+    let c = with_term p None t b in
+    temporary-few most want t (with_term q None u c) (omega arith)
+    (term-few most q None u c (omega (arith, term_free_at_most p t)) (term-few most p None t b (omega arith) few))
+
 value-few : (most : ℕ) (e : Expr) (want : Option ℕ) (t : ℕ) (b : Builder) → t + depth e ≤ most → b.regs ≤ most → (with_value e want t b).regs ≤ most
-value-few most (Const n) (Some d) t b h few = few
-value-few most (Const n) None t b h few = few
-value-few most (Local x) (Some d) t b h few = few
-value-few most (Local x) None t b h few = few
-value-few most (Load width a) want t b h few =
-    temporary-few most want t (with_value a None t b) (omega arith) (value-few most a None t b (omega arith) few)
-value-few most (Bin o p q) want t b h few =
-    let u = free_from p t in
-    let c = with_value p None t b in
-    temporary-few most want t (with_value q None u c) (omega arith)
-    (value-few most q None u c (omega (arith, free_at_most p t)) (value-few most p None t b (omega arith) few))
-value-few most (High s p q) want t b h few =
-    let u = free_from p t in
-    let c = with_value p None t b in
-    temporary-few most want t (with_value q None u c) (omega arith)
-    (value-few most q None u c (omega (arith, free_at_most p t)) (value-few most p None t b (omega arith) few))
+value-few most e want t b h few = term-few most (term_of e) want t b (omega (arith, term_depth e)) few
 
 past_at_most : (e : Expr) (t : ℕ) → free_past e t ≤ t + 1
 past_at_most (Const n) t = omega arith
@@ -174,8 +188,10 @@ built-few t l fresh End exit loop b k few = left-few fresh exit 4064 b few
 built-few t l fresh (Set x e rest) exit loop b k few =
     built-few t l false rest exit loop (with_value e (Some x) t b) k.1 (value-few 4064 e (Some x) t b (omega (arith, k.0)) few)
 built-few t l fresh (Store width a e rest) exit loop b k few =
-    built-few t l false rest exit loop (stored t a e (op.Store width) b) k.2
-    (value-few 4064 e None (free_from a t) (with_value a None t b) (omega (arith, k.1, free_at_most a t)) (value-few 4064 a None t b (omega (arith, k.0)) few))
+    let x = base_of (term_of a) in
+    built-few t l false rest exit loop (stored t x (term_of e) (stores_at width a) b) k.2
+    (value-few 4064 e None (term_free x t) (with_term x None t b) (omega (arith, k.1, term_free_at_most x t))
+    (term-few 4064 x None t b (omega (arith, k.0, base_depth (term_of a), term_depth a)) few))
 built-few t l fresh (Check check place e rest) exit loop b k few =
     built-few t l false rest exit loop (compares t (checked_test e) (op.Check check place) b) k.1 (checked-few e t b (omega (arith, k.0)) few)
 built-few t l fresh (Call target i es place rest) exit loop b k few =

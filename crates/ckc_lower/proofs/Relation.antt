@@ -16,8 +16,9 @@ use Rattle.ckc_tac.specs.declared.code.TacEnd.{TacEnd}
 use Rattle.ckc_tac.specs.declared.code.TacEnd.TheVariants as ends
 use Rattle.ckc_tac.specs.Meaning as T
 use Rattle.ckc_lower.specs.declared.builder.Targets.{Targets}
-use Rattle.ckc_lower.specs.code.Built.{free_from, operand_of, registers_of, out_of, step_of, Test, test_of, checked_test, branch_of}
-use Rattle.ckc_lower.proofs.Values.{value_ops, Agree}
+use Rattle.ckc_lower.specs.code.Terms.{term_of, base_of}
+use Rattle.ckc_lower.specs.code.Built.{term_free, term_operand, stores_at, free_from, operand_of, registers_of, out_of, step_of, Test, test_of, checked_test, branch_of}
+use Rattle.ckc_lower.proofs.Values.{term_ops, value_ops, Agree}
 use Rattle.ckc_lower.proofs.Arguments.{values_ops}
 use Rattle.ckc_lower.proofs.Appending.{test_ops}
 
@@ -64,7 +65,8 @@ Runs blocks t (Set x e rest) ops end exit loop =
     (more : List TacOp) × (ops ≡ value_ops e (Some x) t ++ more) × IsExprOver t e × Runs blocks t rest more end exit loop
 Runs blocks t (Store width a e rest) ops end exit loop =
     (more : List TacOp)
-    × (ops ≡ value_ops a None t ++ (value_ops e None (free_from a t) ++ (op.Store width (operand_of a None t) (operand_of e None (free_from a t)) ∷ more)))
+    × (ops ≡ term_ops (base_of (term_of a)) None t ++ (value_ops e None (term_free (base_of (term_of a)) t)
+    ++ (stores_at width a (term_operand (base_of (term_of a)) None t) (operand_of e None (term_free (base_of (term_of a)) t)) ∷ more)))
     × IsExprOver t a × IsExprOver t e × Runs blocks t rest more end exit loop
 Runs blocks t (Check check place e rest) ops end exit loop =
     (more : List TacOp)

@@ -6,7 +6,7 @@ use Rattle.ckc_base.specs.declared.places.Pos.{Pos}
 use Rattle.ckc_base.specs.declared.runtime_checks.Check.{Check as CheckName}
 use Rattle.ckc_base.specs.declared.arithmetic.Width.{Width}
 use Rattle.ckc_base.specs.declared.arithmetic.BinOp.{BinOp}
-use Rattle.ckc_base.specs.Sizes.{operation_size, branch_size, const_size, call_size, jump_size, return_size}
+use Rattle.ckc_base.specs.Sizes.{operation_size, store_size, branch_size, const_size, call_size, jump_size, return_size}
 use Rattle.ckc_core.specs.Code.{Expr, Const, Local, Load, Bin, High, Code, End, Set, Store, Check, Call, Get, Put, Alloc, If, Loop, Break, Continue, Return, Function, Program}
 use Rattle.ckc_core.specs.Sizes.{expr_size, exprs_size, set_size, code_size, function_size, program_size}
 use Rattle.ckc_tac.specs.declared.code.TacBlock.{TacBlock}
@@ -19,8 +19,12 @@ use Rattle.ckc_tac.specs.declared.code.TacEnd.TheVariants as ends
 use Rattle.ckc_tac.specs.Sizes as T
 use Rattle.ckc_lower.specs.declared.builder.Builder.{Builder}
 use Rattle.ckc_lower.specs.declared.builder.Targets.{Targets}
-use Rattle.ckc_lower.specs.code.Built.{free_from, target_of, operand_of, registers_of, with_op, with_temporary, with_value, with_values, with_end, with_jump, left, passes, goal, stored, used, compares, checked_test, one_at, two_at, forked, join_of, entered, targets_of, out_of, step_of, built, bin_of, is_even, is_number, free_past, with_register, test_of, branch_of, tested}
+use Rattle.ckc_lower.specs.code.Terms.{Term, term_of, base_of}
+use Rattle.ckc_lower.specs.code.Terms as term
+use Rattle.ckc_lower.specs.code.Built.{free_from, term_free, target_of, operand_of, term_operand, with_term, stores_at, registers_of, with_op, with_temporary, with_value, with_values, with_end, with_jump, left, passes, goal, stored, used, compares, checked_test, one_at, two_at, forked, join_of, entered, targets_of, out_of, step_of, built, bin_of, is_even, is_number, free_past, with_register, test_of, branch_of, tested}
 use Rattle.ckc_lower.proofs.Arguments.{length-registers_of}
+use Rattle.ckc_lower.proofs.Terms.{base_size, term_size, term_set_size}
+use Rattle.ckc_lower.proofs.Terms as terms
 use Rattle.ckc_lower.proofs.Conditions.{side_size, within, checked_within}
 use Rattle.ckc_lower.specs.code.Lowered.{empty, whole, lowered_function, lowered}
 
@@ -46,20 +50,20 @@ unfolding size
 size-temporary (Some d) t b = refl
 size-temporary None t b = refl
 
--- what an expression adds if its value is wanted in a register, or anywhere
-abbrev wanted_size : Option ℕ → Expr → ℕ
-wanted_size (Some d) e = set_size e
-wanted_size None e = expr_size e
+-- what a term adds if its value is wanted in a register, or anywhere
+abbrev wanted_size : Option ℕ → Term → ℕ
+wanted_size (Some d) x = terms.set_size x
+wanted_size None x = terms.size x
 
-wanted-load : (want : Option ℕ) (width : Width) (a : Expr) → wanted_size want (Load width a) ≡ expr_size (Load width a)
-wanted-load (Some d) width a = refl
-wanted-load None width a = refl
+wanted-load : (want : Option ℕ) (width : Width) (a : Term) (n : ℕ) → wanted_size want (term.Load width a n) ≡ terms.size (term.Load width a n)
+wanted-load (Some d) width a n = refl
+wanted-load None width a n = refl
 
-wanted-bin : (want : Option ℕ) (o : BinOp) (p q : Expr) → wanted_size want (Bin o p q) ≡ expr_size (Bin o p q)
+wanted-bin : (want : Option ℕ) (o : BinOp) (p q : Term) → wanted_size want (term.Bin o p q) ≡ terms.size (term.Bin o p q)
 wanted-bin (Some d) o p q = refl
 wanted-bin None o p q = refl
 
-wanted-high : (want : Option ℕ) (s : Bool) (p q : Expr) → wanted_size want (High s p q) ≡ expr_size (High s p q)
+wanted-high : (want : Option ℕ) (s : Bool) (p q : Term) → wanted_size want (term.High s p q) ≡ terms.size (term.High s p q)
 wanted-high (Some d) s p q = refl
 wanted-high None s p q = refl
 
@@ -70,43 +74,49 @@ either-size false o d a b = refl
 bin-size : (o : BinOp) (d : ℕ) (a b : Operand) → T.op_size (bin_of o d a b) ≡ operation_size
 bin-size o d a b = either-size (is_even o && is_number a) o d a b
 
-size-value : (e : Expr) (want : Option ℕ) (t : ℕ) (b : Builder) → size (with_value e want t b) ≤ size b + wanted_size want e
-size-value (Const n) (Some d) t b = let e = size-op b (op.Const d n) in omega (arith, e)
-size-value (Const n) None t b = omega arith
-size-value (Local x) (Some d) t b = let e = size-op b (op.Copy d x) in omega (arith, e)
-size-value (Local x) None t b = omega arith
-size-value (Load width a) want t b =
-    let c = with_value a None t b in
+size-term : (x : Term) (want : Option ℕ) (t : ℕ) (b : Builder) → size (with_term x want t b) ≤ size b + wanted_size want x
+size-term (term.Const n) (Some d) t b = let e = size-op b (op.Const d n) in omega (arith, e)
+size-term (term.Const n) None t b = omega arith
+size-term (term.Local x) (Some d) t b = let e = size-op b (op.Copy d x) in omega (arith, e)
+size-term (term.Local x) None t b = omega arith
+size-term (term.Load width a n) want t b =
+    let c = with_term a None t b in
     let d = with_temporary want t c in
-    let first = size-value a None t b in
+    let first = size-term a None t b in
     let second = size-temporary want t c in
-    let third = size-op d (op.Load width (target_of want t) (operand_of a None t)) in
-    let fourth = wanted-load want width a in
+    let third = size-op d (op.Load width (target_of want t) (term_operand a None t) n) in
+    let fourth = wanted-load want width a n in
     omega (arith, first, second, third, fourth)
-size-value (Bin o p q) want t b =
-    let u = free_from p t in
-    let c = with_value p None t b in
-    let d = with_value q None u c in
+size-term (term.Bin o p q) want t b =
+    let u = term_free p t in
+    let c = with_term p None t b in
+    let d = with_term q None u c in
     let f = with_temporary want t d in
-    let first = size-value p None t b in
-    let second = size-value q None u c in
+    let first = size-term p None t b in
+    let second = size-term q None u c in
     let third = size-temporary want t d in
-    let last = bin_of o (target_of want t) (operand_of p None t) (operand_of q None u) in
+    let last = bin_of o (target_of want t) (term_operand p None t) (term_operand q None u) in
     let fourth = size-op f last in
     let fifth = wanted-bin want o p q in
-    let sixth = bin-size o (target_of want t) (operand_of p None t) (operand_of q None u) in
+    let sixth = bin-size o (target_of want t) (term_operand p None t) (term_operand q None u) in
     omega (arith, first, second, third, fourth, fifth, sixth)
-size-value (High s p q) want t b =
-    let u = free_from p t in
-    let c = with_value p None t b in
-    let d = with_value q None u c in
+size-term (term.High s p q) want t b =
+    let u = term_free p t in
+    let c = with_term p None t b in
+    let d = with_term q None u c in
     let f = with_temporary want t d in
-    let first = size-value p None t b in
-    let second = size-value q None u c in
+    let first = size-term p None t b in
+    let second = size-term q None u c in
     let third = size-temporary want t d in
-    let fourth = size-op f (op.High s (target_of want t) (operand_of p None t) (operand_of q None u)) in
+    let fourth = size-op f (op.High s (target_of want t) (term_operand p None t) (term_operand q None u)) in
     let fifth = wanted-high want s p q in
     omega (arith, first, second, third, fourth, fifth)
+
+size-value : (e : Expr) (t : ℕ) (b : Builder) → size (with_value e None t b) ≤ size b + expr_size e
+size-value e t b = omega (arith, size-term (term_of e) None t b, term_size e)
+
+size-set : (e : Expr) (x t : ℕ) (b : Builder) → size (with_value e (Some x) t b) ≤ size b + set_size e
+size-set e x t b = omega (arith, size-term (term_of e) (Some x) t b, term_set_size e)
 
 sum_by-cons : {X : Type 0} (f : X → ℕ) (x : X) (xs : List X) → sum_by f (x ∷ xs) ≡ f x + sum_by f xs
 sum_by-cons f x xs =
@@ -119,17 +129,17 @@ size-register (Const n) t b =
     let second = size-op (with_temporary None t b) (op.Const t n) in
     omega (arith, first, second)
 size-register (Local x) t b = omega arith
-size-register (Load width a) t b = size-value (Load width a) None t b
-size-register (Bin o p q) t b = size-value (Bin o p q) None t b
-size-register (High s p q) t b = size-value (High s p q) None t b
+size-register (Load width a) t b = size-value (Load width a) t b
+size-register (Bin o p q) t b = size-value (Bin o p q) t b
+size-register (High s p q) t b = size-value (High s p q) t b
 
 -- an expression and what reads its value
 size-side : (e : Expr) (t : ℕ) (b : Builder) → size (with_value e None t b) + T.operand_size (operand_of e None t) ≤ size b + side_size e
 size-side (Const n) t b = omega arith
 size-side (Local x) t b = omega arith
-size-side (Load width a) t b = omega (arith, size-value (Load width a) None t b)
-size-side (Bin o p q) t b = omega (arith, size-value (Bin o p q) None t b)
-size-side (High s p q) t b = omega (arith, size-value (High s p q) None t b)
+size-side (Load width a) t b = omega (arith, size-value (Load width a) t b)
+size-side (Bin o p q) t b = omega (arith, size-value (Bin o p q) t b)
+size-side (High s p q) t b = omega (arith, size-value (High s p q) t b)
 
 size-tested : (e : Expr) (t one two : ℕ) (b : Builder) → size (tested t (test_of e false) one two b) ≤ size b + expr_size e + branch_size
 size-tested e t one two b =
@@ -161,18 +171,20 @@ size-values (e ∷ es) t b =
     let third = sum_by-cons expr_size e es in
     omega (arith, first, second, third)
 
-size-stored : (t : ℕ) (a e : Expr) (o : Operand → Operand → TacOp) (b : Builder) → size (stored t a e o b) ≤ size b + expr_size a + expr_size e + T.op_size (o (operand_of a None t) (operand_of e None (free_from a t)))
-size-stored t a e o b =
-    let u = free_from a t in
-    let c = with_value a None t b in
-    let first = size-value a None t b in
-    let second = size-value e None u c in
-    let third = size-op (with_value e None u c) (o (operand_of a None t) (operand_of e None u)) in
-    omega (arith, first, second, third)
+size-store : (t : ℕ) (width : Width) (a e : Expr) (b : Builder)
+    → size (stored t (base_of (term_of a)) (term_of e) (stores_at width a) b) ≤ size b + expr_size a + expr_size e + store_size
+size-store t width a e b =
+    let x = base_of (term_of a) in
+    let u = term_free x t in
+    let c = with_term x None t b in
+    let first = size-term x None t b in
+    let second = size-value e u c in
+    let third = size-op (with_value e None u c) (stores_at width a (term_operand x None t) (operand_of e None u)) in
+    omega (arith, first, second, third, base_size (term_of a), term_size a)
 
 size-used : (t : ℕ) (e : Expr) (o : Operand → TacOp) (b : Builder) → size (used t e o b) ≤ size b + expr_size e + T.op_size (o (operand_of e None t))
 size-used t e o b =
-    let first = size-value e None t b in
+    let first = size-value e t b in
     let second = size-op (with_value e None t b) (o (operand_of e None t)) in
     omega (arith, first, second)
 
@@ -192,12 +204,12 @@ size-left fresh None b = omega (arith, size-end b (ends.Return (Number 0)))
 size-built : (t : ℕ) (fresh : Bool) (code : Code) (exit : Option ℕ) (loop : Option Targets) (b : Builder) → size (built t fresh code exit loop b) ≤ size b + code_size code + fall_size exit
 size-built t fresh End exit loop b = size-left fresh exit b
 size-built t fresh (Set x e rest) exit loop b =
-    let first = size-value e (Some x) t b in
+    let first = size-set e x t b in
     let second = size-built t false rest exit loop (with_value e (Some x) t b) in
     omega (arith, first, second)
 size-built t fresh (Store width a e rest) exit loop b =
-    let first = size-stored t a e (op.Store width) b in
-    let second = size-built t false rest exit loop (stored t a e (op.Store width) b) in
+    let first = size-store t width a e b in
+    let second = size-built t false rest exit loop (stored t (base_of (term_of a)) (term_of e) (stores_at width a) b) in
     omega (arith, first, second)
 size-built t fresh (Check check place e rest) exit loop b =
     let first = size-checked e t check place b in
@@ -249,7 +261,7 @@ size-built t fresh (Loop body step rest) exit loop b =
 size-built t fresh (Break rest) exit loop b = omega (arith, size-jump fresh (out_of loop) b)
 size-built t fresh (Continue rest) exit loop b = omega (arith, size-jump fresh (step_of loop) b)
 size-built t fresh (Return e rest) exit loop b =
-    let first = size-value e None t b in
+    let first = size-value e t b in
     let second = size-end (with_value e None t b) (ends.Return (operand_of e None t)) in
     omega (arith, first, second)
 

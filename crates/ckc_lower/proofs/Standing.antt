@@ -14,9 +14,10 @@ use Rattle.ckc_tac.specs.declared.code.TacEnd.{TacEnd}
 use Rattle.ckc_tac.specs.declared.code.TacEnd.TheVariants as ends
 use Rattle.ckc_lower.specs.declared.builder.Builder.{Builder}
 use Rattle.ckc_lower.specs.declared.builder.Targets.{Targets}
-use Rattle.ckc_lower.specs.code.Built.{free_from, operand_of, registers_of, with_op, with_value, with_values, passes, goal, block_count, body_count, with_end, stored, used, one_at, two_at, behind_at, forked, join_of, entered, step_at, out_at, targets_of, out_of, step_of, built, test_of, checked_test, branch_of}
+use Rattle.ckc_lower.specs.code.Terms.{term_of, base_of}
+use Rattle.ckc_lower.specs.code.Built.{free_from, term_free, operand_of, term_operand, stores_at, registers_of, with_op, with_value, with_values, passes, goal, block_count, body_count, with_end, stored, used, one_at, two_at, behind_at, forked, join_of, entered, step_at, out_at, targets_of, out_of, step_of, built, test_of, checked_test, branch_of}
 use Rattle.ckc_lower.specs.code.Lowered.{empty, whole}
-use Rattle.ckc_lower.proofs.Values.{value_ops}
+use Rattle.ckc_lower.proofs.Values.{term_ops, value_ops}
 use Rattle.ckc_lower.proofs.Arguments.{values_ops}
 use Rattle.ckc_lower.proofs.Relation.{Runs, RunsAt, LeadsTo, check_op}
 use Rattle.ckc_lower.proofs.Appending.{test_ops, sides, sides-ops, sides-blocks, value-ops, value-blocks, values-ops, values-blocks, stored-ops, stored-blocks, used-ops, used-blocks, built-blocks, built-ops, ended-length, is_some, IsEmptyWhere, empty_where, jump-ops, built-length, some_blocks, body_some, IsExitGood, IsLoopGood, out_good, step_good, goal_good}
@@ -140,14 +141,15 @@ module _ (functions : List Function) (blocks : List TacBlock) (t : ℕ) where
       widened blocks t (Set y e rest) rest exit loop b c (value_ops e (Some y) t) (value-blocks e (Some y) t b) (value-ops e (Some y) t b)
       (λ more end r. (more, refl, w.1, r)) (opens rest looped false exit loop c w.2 p tt tt x l some)
   opens (Store width a e rest) looped fresh exit loop b w p h k x l some =
-      let c = stored t a e (op.Store width) b in
-      let u = free_from a t in
-      let last = op.Store width (operand_of a None t) (operand_of e None u) in
-      widened blocks t (Store width a e rest) rest exit loop b c (value_ops a None t ++ (value_ops e None u ++ last ∷ []))
-      (stored-blocks t a e (op.Store width) b) (stored-ops t a e (op.Store width) b)
+      let y = base_of (term_of a) in
+      let c = stored t y (term_of e) (stores_at width a) b in
+      let u = term_free y t in
+      let last = stores_at width a (term_operand y None t) (operand_of e None u) in
+      widened blocks t (Store width a e rest) rest exit loop b c (term_ops y None t ++ (value_ops e None u ++ last ∷ []))
+      (stored-blocks t y (term_of e) (stores_at width a) b) (stored-ops t y (term_of e) (stores_at width a) b)
       (λ more end r. (
         more,
-        append_assoc (value_ops a None t) (value_ops e None u ++ last ∷ []) more ∙ ap (λ x. value_ops a None t ++ x) (append_assoc (value_ops e None u) (last ∷ []) more),
+        append_assoc (term_ops y None t) (value_ops e None u ++ last ∷ []) more ∙ ap (λ x. term_ops y None t ++ x) (append_assoc (value_ops e None u) (last ∷ []) more),
         w.0,
         w.1,
         r,
@@ -155,11 +157,11 @@ module _ (functions : List Function) (blocks : List TacBlock) (t : ℕ) where
   opens (Check check place e rest) looped fresh exit loop b w p h k x l some =
       let s = checked_test e in
       let o = op.Check check place s.comparison in
-      let c = stored t s.left s.right o b in
+      let c = stored t (term_of s.left) (term_of s.right) o b in
       let u = free_from s.left t in
       let last = check_op check place t s in
       widened blocks t (Check check place e rest) rest exit loop b c (value_ops s.left None t ++ (value_ops s.right None u ++ last ∷ []))
-      (stored-blocks t s.left s.right o b) (stored-ops t s.left s.right o b)
+      (stored-blocks t (term_of s.left) (term_of s.right) o b) (stored-ops t (term_of s.left) (term_of s.right) o b)
       (λ more end r. (
         more,
         append_assoc (value_ops s.left None t) (value_ops s.right None u ++ last ∷ []) more

@@ -25,12 +25,14 @@ use Rattle.ckc_tac.specs.declared.code.TacOp.TheVariants as op
 use Rattle.ckc_tac.specs.declared.code.TacEnd.{TacEnd}
 use Rattle.ckc_tac.specs.declared.code.TacEnd.TheVariants as ends
 use Rattle.ckc_base.specs.Words.{applied}
-use Rattle.ckc_tac.specs.Operations.{operation_of, value_in, compared}
+use Rattle.ckc_tac.specs.Operations.{at_offset, operation_of, value_in, compared}
 use Rattle.ckc_tac.specs.Meaning.{tac_step, tac_system, extra_of}
 use Rattle.ckc_tac.specs.Meaning as T
 use Rattle.ckc_lower.specs.declared.builder.Targets.{Targets}
-use Rattle.ckc_lower.specs.code.Built.{free_from, operand_of, registers_of, out_of, step_of, picked, test_of, checked_test, branch_of}
-use Rattle.ckc_lower.proofs.Values.{value_ops, free_more, operand_stays, written_like, result_like, Agree, at, computes}
+use Rattle.ckc_lower.specs.code.Terms.{term_of, base_of, offset_of}
+use Rattle.ckc_lower.specs.code.Built.{term_free, term_operand, free_from, operand_of, registers_of, out_of, step_of, picked, test_of, checked_test, branch_of}
+use Rattle.ckc_lower.proofs.Terms.{base_over, term_over, base_nodes, term_nodes, address_goes}
+use Rattle.ckc_lower.proofs.Values.{term_ops, term_free_more, term_stays, computes_term, value_ops, free_more, operand_stays, written_like, result_like, Agree, at, computes}
 use Rattle.ckc_lower.proofs.Appending.{test_ops}
 use Rattle.ckc_lower.proofs.Conditions.{within, decides, flipped, checked_within, checked_agrees}
 use Rattle.ckc_lower.proofs.Arguments.{length-registers_of, values_ops, computes_all}
@@ -265,24 +267,29 @@ module _ (functions : List Function) (lowered : List TacFunc) (s : C.State) (blo
   by_store width a e code end ops registers exit loop None w r c agree h k = inl refl
   by_store width a e code end ops registers exit loop (Some p) None r c agree h k = inl refl
   by_store width a e code end ops registers exit loop (Some p) (Some x) r c agree h k =
-      let b = free_from a t in
-      let i = operand_of a None t in
+      let base = base_of (term_of a) in
+      let n = offset_of (term_of a) in
+      let b = term_free base t in
+      let i = term_operand base None t in
       let j = operand_of e None b in
-      let o = op.Store width i j in
-      let first = computes lowered blocks end callers s.world t values a None t p (value_ops e None b ++ (o ∷ r.0)) registers (le_self t) r.2 agree h in
+      let o = op.Store width i n j in
+      let found = address_goes values s.world.memory a p h in
+      let over = base_over t (term_of a) (term_over t a r.2) in
+      let first = computes_term lowered blocks end callers s.world t values base None t found.0 (value_ops e None b ++ (o ∷ r.0)) registers (le_self t) over agree found.1 in
       let agree_first : Agree t first.after values = λ y less. first.same y less ∙ agree y less in
-      let second = computes lowered blocks end callers s.world t values e None b x (o ∷ r.0) first.after (free_more a t) r.3 agree_first k in
-      let agree_second : Agree t second.after values = λ y less. second.same y (omega (arith, free_more a t)) ∙ agree_first y less in
-      let there : value_in second.after i ≡ Some p = operand_stays a t t first.after second.after (le_self t) r.2 second.same ∙ first.value in
+      let second = computes lowered blocks end callers s.world t values e None b x (o ∷ r.0) first.after (term_free_more base t) r.3 agree_first k in
+      let agree_second : Agree t second.after values = λ y less. second.same y (omega (arith, term_free_more base t)) ∙ agree_first y less in
+      let there : value_in second.after i ≡ Some found.0 = term_stays base t t first.after second.after (le_self t) over second.same ∙ first.value in
       let v = point end (o ∷ r.0) second.after in
       let step : tac_step lowered v ≡ T.goes_by v r.0 (stores s.world width p x) =
-      ap (λ z. T.goes_by v r.0 (by_value z (λ p. by_value (value_in second.after j) (stores s.world width p)))) there
-      ∙ ap (λ z. T.goes_by v r.0 (by_value z (stores s.world width p))) second.value in
-      let path = then_stretch (tac_system lowered) first.count second.count [] [] (point end (value_ops a None t ++ (value_ops e None b ++ (o ∷ r.0))) registers)
+      ap (λ z. T.goes_by v r.0 (by_value z (λ p. by_value (value_in second.after j) (stores s.world width (at_offset p n))))) there
+      ∙ ap (λ z. T.goes_by v r.0 (by_value z (stores s.world width (at_offset found.0 n)))) second.value
+      ∙ ap (λ p. T.goes_by v r.0 (stores s.world width p x)) found.2 in
+      let path = then_stretch (tac_system lowered) first.count second.count [] [] (point end (term_ops base None t ++ (value_ops e None b ++ (o ∷ r.0))) registers)
       (point end (value_ops e None b ++ (o ∷ r.0)) first.after) v first.path second.path in
       by_outcome end (point end ops registers) (first.count + second.count) (4 * (nodes a + nodes e + 1)) code o r.0 second.after exit loop (stores s.world width p x)
       (subst (λ o. Stretch (tac_system lowered) (first.count + second.count) [] (point end o registers) v) (sym r.1) path)
-      step refl (omega (arith, first.few, second.few)) r.4 c agree_second
+      step refl (omega (arith, first.few, second.few, base_nodes (term_of a), term_nodes a)) r.4 c agree_second
 
   by_check : (check : CheckName) (place : Pos) (e : Expr) (code : Code) (end : TacEnd) (ops : List TacOp) (registers : Values) (exit : Option ℕ) (loop : Option Targets) (v : Option ℕ)
       → Runs blocks t (Check check place e code) ops end exit loop → Continues blocks t s.frame.rest exit loop → Agree t registers values

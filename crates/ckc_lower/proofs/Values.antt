@@ -16,8 +16,9 @@ use Rattle.ckc_base.specs.Memory.{value_at}
 use Rattle.ckc_base.specs.Actions.{World, Gives, with_value as by_value}
 use Rattle.ckc_base.specs.Activations.{Values, with_written, with_result}
 use Rattle.ckc_base.proofs.Runs.{one_step, no_step, then_stretch}
-use Rattle.ckc_core.specs.Code.{Expr, Const, Local, Load, Bin, High}
-use Rattle.ckc_core.specs.Meaning.{value_of, both, nodes}
+use Rattle.ckc_core.specs.Code.{Expr}
+use Rattle.ckc_core.specs.Meaning.{value_of, both}
+use Rattle.ckc_core.specs.Meaning as meaning
 use Rattle.ckc_core.specs.WellFormed.{IsExprOver}
 use Rattle.ckc_tac.specs.declared.code.TacFunc.{TacFunc}
 use Rattle.ckc_tac.specs.declared.code.TacBlock.{TacBlock}
@@ -26,41 +27,54 @@ use Rattle.ckc_tac.specs.declared.code.Operand.TheVariants.{Register}
 use Rattle.ckc_tac.specs.declared.code.TacOp.{TacOp}
 use Rattle.ckc_tac.specs.declared.code.TacOp.TheVariants as op
 use Rattle.ckc_tac.specs.declared.code.TacEnd.{TacEnd}
-use Rattle.ckc_tac.specs.Operations.{value_in}
+use Rattle.ckc_tac.specs.Operations.{value_in, at_offset}
 use Rattle.ckc_tac.specs.Meaning.{State, Caller, tac_step, tac_system, extra_of, goes_by}
-use Rattle.ckc_lower.specs.code.Built.{free_from, target_of, operand_of, is_even, is_number, bin_of}
+use Rattle.ckc_lower.specs.code.Terms.{Term, Const, Local, Load, Bin, High, term_of}
+use Rattle.ckc_lower.specs.code.Built.{term_free, free_from, target_of, term_operand, operand_of, is_even, is_number, bin_of}
+use Rattle.ckc_lower.proofs.Terms.{nodes, term_nodes, IsTermOver, term_over, value_in_term, term_value}
+
+-- the operations that compute a term
+abbrev pub term_ops : Term → Option ℕ → ℕ → List TacOp
+term_ops (Const n) (Some d) t = op.Const d n ∷ []
+term_ops (Const n) None t = []
+term_ops (Local x) (Some d) t = op.Copy d x ∷ []
+term_ops (Local x) None t = []
+term_ops (Load width a n) want t = term_ops a None t ++ op.Load width (target_of want t) (term_operand a None t) n ∷ []
+term_ops (Bin o p q) want t =
+    term_ops p None t ++ (term_ops q None (term_free p t)
+    ++ bin_of o (target_of want t) (term_operand p None t) (term_operand q None (term_free p t)) ∷ [])
+term_ops (High is_signed p q) want t =
+    term_ops p None t ++ (term_ops q None (term_free p t)
+    ++ op.High is_signed (target_of want t) (term_operand p None t) (term_operand q None (term_free p t)) ∷ [])
 
 -- the operations that compute an expression
 abbrev pub value_ops : Expr → Option ℕ → ℕ → List TacOp
-value_ops (Const n) (Some d) t = op.Const d n ∷ []
-value_ops (Const n) None t = []
-value_ops (Local x) (Some d) t = op.Copy d x ∷ []
-value_ops (Local x) None t = []
-value_ops (Load width a) want t = value_ops a None t ++ op.Load width (target_of want t) (operand_of a None t) ∷ []
-value_ops (Bin o p q) want t =
-    value_ops p None t ++ (value_ops q None (free_from p t)
-    ++ bin_of o (target_of want t) (operand_of p None t) (operand_of q None (free_from p t)) ∷ [])
-value_ops (High is_signed p q) want t =
-    value_ops p None t ++ (value_ops q None (free_from p t)
-    ++ op.High is_signed (target_of want t) (operand_of p None t) (operand_of q None (free_from p t)) ∷ [])
+value_ops e want t = term_ops (term_of e) want t
 
 -- ---- numbers of registers
 
-pub free_more : (e : Expr) (t : ℕ) → t ≤ free_from e t
-free_more (Const n) t = omega arith
-free_more (Local x) t = omega arith
-free_more (Load width a) t = omega arith
-free_more (Bin o p q) t = omega arith
-free_more (High s p q) t = omega arith
+pub term_free_more : (x : Term) (t : ℕ) → t ≤ term_free x t
+term_free_more (Const n) t = omega arith
+term_free_more (Local x) t = omega arith
+term_free_more (Load width a n) t = omega arith
+term_free_more (Bin o p q) t = omega arith
+term_free_more (High s p q) t = omega arith
 
--- the value of an expression stays if the registers below the temporaries that are free beside it stay
+pub free_more : (e : Expr) (t : ℕ) → t ≤ free_from e t
+free_more e t = term_free_more (term_of e) t
+
+-- a value stays if the registers below the temporaries that are free beside it stay
+pub term_stays : (x : Term) (locals t : ℕ) (after later : Values) → locals ≤ t → IsTermOver locals x → ((y : ℕ) → y < term_free x t → later y ≡ after y)
+    → value_in later (term_operand x None t) ≡ value_in after (term_operand x None t)
+term_stays (Const n) locals t after later l h same = refl
+term_stays (Local x) locals t after later l h same = same x (omega (arith, h))
+term_stays (Load width a n) locals t after later l h same = same t (omega arith)
+term_stays (Bin o p q) locals t after later l h same = same t (omega arith)
+term_stays (High s p q) locals t after later l h same = same t (omega arith)
+
 pub operand_stays : (e : Expr) (locals t : ℕ) (after later : Values) → locals ≤ t → IsExprOver locals e → ((x : ℕ) → x < free_from e t → later x ≡ after x)
     → value_in later (operand_of e None t) ≡ value_in after (operand_of e None t)
-operand_stays (Const n) locals t after later l h same = refl
-operand_stays (Local x) locals t after later l h same = same x (omega (arith, h))
-operand_stays (Load width a) locals t after later l h same = same t (omega arith)
-operand_stays (Bin o p q) locals t after later l h same = same t (omega arith)
-operand_stays (High s p q) locals t after later l h same = same t (omega arith)
+operand_stays e locals t after later l h same = term_stays (term_of e) locals t after later l (term_over locals e h) same
 
 -- ---- operations
 
@@ -170,16 +184,20 @@ module _ (functions : List TacFunc) (blocks : List TacBlock) (end : TacEnd) (cal
   at ops registers =
       record { frame = record { blocks = blocks; ops = ops; end = end; registers = registers }; callers = callers; world = world }
 
-  -- The operations of an expression lead, in at most as many steps as it has nodes, to the operations after them, with
-  -- the value in its register; of the registers below t only the wanted one is another.
-  pub record Computes (e : Expr) (want : Option ℕ) (t v : ℕ) (more : List TacOp) (registers : Values) : Type 0 where
+  -- Operations lead, in at most so many steps, to the operations after them, with a value in an operand; of the
+  -- registers below t only the wanted one is another.
+  pub record Computes (ops : List TacOp) (o : Operand) (most : ℕ) (want : Option ℕ) (t v : ℕ) (more : List TacOp) (registers : Values) : Type 0 where
     pub count : ℕ
     pub after : Values
     pub some : least want ≤ count
-    pub few : count ≤ nodes e
-    pub path : Stretch (tac_system functions) count [] (at (value_ops e want t ++ more) registers) (at more after)
-    pub value : value_in after (operand_of e want t) ≡ Some v
+    pub few : count ≤ most
+    pub path : Stretch (tac_system functions) count [] (at (ops ++ more) registers) (at more after)
+    pub value : value_in after o ≡ Some v
     pub same : (x : ℕ) → x < t → after x ≡ with_result registers want v x
+
+  -- those of a term, in at most as many steps as it has nodes
+  abbrev pub ComputesTerm : (x : Term) (want : Option ℕ) (t v : ℕ) (more : List TacOp) (registers : Values) → Type 0
+  ComputesTerm x want t = Computes (term_ops x want t) (term_operand x want t) (nodes x) want t
 
   -- an operation that gives a value
   abbrev pub IsStep : TacOp → List TacOp → Values → ℕ → ℕ → Type 0
@@ -201,11 +219,12 @@ module _ (functions : List TacFunc) (blocks : List TacBlock) (end : TacEnd) (cal
   copy_step d a v more registers e =
       ap (λ r. goes_by (at (op.Copy d a ∷ more) registers) more (by_value r (λ x. Gives [] d x world))) e
 
-  load_step : (width : Width) (d : ℕ) (a : Operand) (p v : ℕ) (more : List TacOp) (registers : Values) → value_in registers a ≡ Some p → value_at width world.memory p ≡ Some v → IsStep (op.Load width d a) more registers d v
+  load_step : (width : Width) (d : ℕ) (a : Operand) (n p v : ℕ) (more : List TacOp) (registers : Values) → value_in registers a ≡ Some p → value_at width world.memory (at_offset p n) ≡ Some v
+      → IsStep (op.Load width d a n) more registers d v
   unfolding tac_step
-  load_step width d a p v more registers e h =
-      ap (λ r. goes_by (at (op.Load width d a ∷ more) registers) more (by_value r (λ p. by_value (value_at width world.memory p) (λ x. Gives [] d x world)))) e
-      ∙ ap (λ r. goes_by (at (op.Load width d a ∷ more) registers) more (by_value r (λ x. Gives [] d x world))) h
+  load_step width d a n p v more registers e h =
+      ap (λ r. goes_by (at (op.Load width d a n ∷ more) registers) more (by_value r (λ p. by_value (value_at width world.memory (at_offset p n)) (λ x. Gives [] d x world)))) e
+      ∙ ap (λ r. goes_by (at (op.Load width d a n ∷ more) registers) more (by_value r (λ x. Gives [] d x world))) h
 
   plain_step : (o : BinOp) (d : ℕ) (a b : Operand) (x y : ℕ) (more : List TacOp) (registers : Values) → value_in registers a ≡ Some x → value_in registers b ≡ Some y
       → IsStep (op.Bin o d a b) more registers d (applied o x y)
@@ -228,44 +247,44 @@ module _ (functions : List TacFunc) (blocks : List TacBlock) (end : TacEnd) (cal
       ∙ ap (λ r. goes_by (at (op.High s d a b ∷ more) registers) more (by_value r (λ y. Gives [] d (high_product s x y) world))) h
 
   module _ (locals : ℕ) (values : Values) where
-    abbrev Claim : Expr → Type 0
-    Claim e = (want : Option ℕ) (t v : ℕ) (more : List TacOp) (registers : Values) → locals ≤ t → IsExprOver locals e
-        → Agree locals registers values → value_of values world.memory e ≡ Some v → Computes e want t v more registers
+    abbrev Claim : Term → Type 0
+    Claim x = (want : Option ℕ) (t v : ℕ) (more : List TacOp) (registers : Values) → locals ≤ t → IsTermOver locals x
+        → Agree locals registers values → value_in_term values world.memory x ≡ Some v → ComputesTerm x want t v more registers
 
     agree_after : (t v : ℕ) (registers after : Values) → locals ≤ t → Agree locals registers values
         → ((x : ℕ) → x < t → after x ≡ with_result registers None v x) → Agree locals after values
     agree_after t v registers after l agree same = λ x h. same x (omega arith) ∙ agree x h
 
     -- an operation on two values
-    two : (e p q : Expr) (make : ℕ → Operand → Operand → TacOp) (f : ℕ → ℕ → ℕ) → Claim p → Claim q
+    two : (e p q : Term) (make : ℕ → Operand → Operand → TacOp) (f : ℕ → ℕ → ℕ) → Claim p → Claim q
         → ((d : ℕ) (a b : Operand) → extra_of (make d a b) ≡ 0)
         → ((d : ℕ) (a b : Operand) (x y : ℕ) (more : List TacOp) (registers : Values) → value_in registers a ≡ Some x → value_in registers b ≡ Some y → IsStep (make d a b) more registers d (f x y))
         → nodes e ≡ 1 + nodes p + nodes q
         → (want : Option ℕ) (t v : ℕ) (more : List TacOp) (registers : Values)
-        → operand_of e want t ≡ Register (target_of want t)
-        → value_ops e want t ≡ value_ops p None t ++ (value_ops q None (free_from p t) ++ make (target_of want t) (operand_of p None t) (operand_of q None (free_from p t)) ∷ [])
-        → locals ≤ t → IsExprOver locals p → IsExprOver locals q → Agree locals registers values
-        → both f (value_of values world.memory p) (value_of values world.memory q) ≡ Some v → Computes e want t v more registers
+        → term_operand e want t ≡ Register (target_of want t)
+        → term_ops e want t ≡ term_ops p None t ++ (term_ops q None (term_free p t) ++ make (target_of want t) (term_operand p None t) (term_operand q None (term_free p t)) ∷ [])
+        → locals ≤ t → IsTermOver locals p → IsTermOver locals q → Agree locals registers values
+        → both f (value_in_term values world.memory p) (value_in_term values world.memory q) ≡ Some v → ComputesTerm e want t v more registers
     two e p q make f claim_p claim_q plain step size want t v more registers reg ops l over_p over_q agree h =
-        let found = both_some f (value_of values world.memory p) (value_of values world.memory q) v h in
-        let u = free_from p t in
+        let found = both_some f (value_in_term values world.memory p) (value_in_term values world.memory q) v h in
+        let u = term_free p t in
         let d = target_of want t in
-        let a = operand_of p None t in
-        let b = operand_of q None u in
+        let a = term_operand p None t in
+        let b = term_operand q None u in
         let last = make d a b in
-        let first = claim_p None t found.0 (value_ops q None u ++ (last ∷ more)) registers l over_p agree found.2 in
+        let first = claim_p None t found.0 (term_ops q None u ++ (last ∷ more)) registers l over_p agree found.2 in
         let agree_first = agree_after t found.0 registers first.after l agree first.same in
-        let less : locals ≤ u = omega (arith, free_more p t) in
+        let less : locals ≤ u = omega (arith, term_free_more p t) in
         let second = claim_q None u found.1 (last ∷ more) first.after less over_q agree_first found.3 in
-        let left : value_in second.after a ≡ Some found.0 = operand_stays p locals t first.after second.after l over_p second.same ∙ first.value in
+        let left : value_in second.after a ≡ Some found.0 = term_stays p locals t first.after second.after l over_p second.same ∙ first.value in
         let done : IsStep last more second.after d (f found.0 found.1) = step d a b found.0 found.1 more second.after left second.value in
         let result = with_written second.after d (f found.0 found.1) in
-        let regroup : value_ops e want t ++ more ≡ value_ops p None t ++ (value_ops q None u ++ (last ∷ more)) =
-        ap (λ x. x ++ more) ops ∙ append_assoc (value_ops p None t) (value_ops q None u ++ last ∷ []) more
-        ∙ ap (λ x. value_ops p None t ++ x) (append_assoc (value_ops q None u) (last ∷ []) more) in
-        let path = then_stretch (tac_system functions) first.count (second.count + 1) [] [] (at (value_ops p None t ++ (value_ops q None u ++ (last ∷ more))) registers) (at (value_ops q None u ++ (last ∷ more)) first.after) (at more result)
+        let regroup : term_ops e want t ++ more ≡ term_ops p None t ++ (term_ops q None u ++ (last ∷ more)) =
+        ap (λ x. x ++ more) ops ∙ append_assoc (term_ops p None t) (term_ops q None u ++ last ∷ []) more
+        ∙ ap (λ x. term_ops p None t ++ x) (append_assoc (term_ops q None u) (last ∷ []) more) in
+        let path = then_stretch (tac_system functions) first.count (second.count + 1) [] [] (at (term_ops p None t ++ (term_ops q None u ++ (last ∷ more))) registers) (at (term_ops q None u ++ (last ∷ more)) first.after) (at more result)
         first.path
-        (then_stretch (tac_system functions) second.count 1 [] [] (at (value_ops q None u ++ (last ∷ more)) first.after) (at (last ∷ more) second.after) (at more result)
+        (then_stretch (tac_system functions) second.count 1 [] [] (at (term_ops q None u ++ (last ∷ more)) first.after) (at (last ∷ more) second.after) (at more result)
         second.path (one_op last more second.after d (f found.0 found.1) (plain d a b) done)) in
         record {
           count = first.count + (second.count + 1);
@@ -275,14 +294,14 @@ module _ (functions : List TacFunc) (blocks : List TacBlock) (end : TacEnd) (cal
           path = subst (λ x. Stretch (tac_system functions) (first.count + (second.count + 1)) [] (at x registers) (at more result)) (sym regroup) path;
           value = subst (λ r. value_in result r ≡ Some v) (sym reg) (written_same second.after d (f found.0 found.1) ∙ ap Some found.4);
           same = λ x below.
-              let two_same : second.after x ≡ registers x = second.same x (omega (arith, free_more p t)) ∙ first.same x below in
+              let two_same : second.after x ≡ registers x = second.same x (omega (arith, term_free_more p t)) ∙ first.same x below in
               target_written second.after want t (f found.0 found.1) x below
               ∙ result_like second.after registers want (f found.0 found.1) x two_same
               ∙ ap (λ w. with_result registers want w x) found.4;
         }
 
-    pub computes : (e : Expr) → Claim e
-    computes (Const n) (Some d) t v more registers l over agree h =
+    pub computes_term : (x : Term) → Claim x
+    computes_term (Const n) (Some d) t v more registers l over agree h =
         let same : n ≡ v = some_same n v h in
         record {
           count = 1;
@@ -293,7 +312,7 @@ module _ (functions : List TacFunc) (blocks : List TacBlock) (end : TacEnd) (cal
           value = written_same registers d n ∙ ap Some same;
           same = λ x below. ap (λ w. with_written registers d w x) same;
         }
-    computes (Const n) None t v more registers l over agree h = record {
+    computes_term (Const n) None t v more registers l over agree h = record {
       count = 0;
       after = registers;
       some = omega arith;
@@ -302,7 +321,7 @@ module _ (functions : List TacFunc) (blocks : List TacBlock) (end : TacEnd) (cal
       value = h;
       same = λ x below. refl;
     }
-    computes (Local y) (Some d) t v more registers l over agree h =
+    computes_term (Local y) (Some d) t v more registers l over agree h =
         let there : registers y ≡ Some v = agree y over ∙ h in
         record {
           count = 1;
@@ -313,7 +332,7 @@ module _ (functions : List TacFunc) (blocks : List TacBlock) (end : TacEnd) (cal
           value = written_same registers d v;
           same = λ x below. refl;
         }
-    computes (Local y) None t v more registers l over agree h = record {
+    computes_term (Local y) None t v more registers l over agree h = record {
       count = 0;
       after = registers;
       some = omega arith;
@@ -322,28 +341,43 @@ module _ (functions : List TacFunc) (blocks : List TacBlock) (end : TacEnd) (cal
       value = agree y over ∙ h;
       same = λ x below. refl;
     }
-    computes (Load width a) want t v more registers l over agree h =
-        let found = and_then_some (value_at width world.memory) (value_of values world.memory a) v h in
+    computes_term (Load width a n) want t v more registers l over agree h =
+        let found = and_then_some (λ p. value_at width world.memory (at_offset p n)) (value_in_term values world.memory a) v h in
         let d = target_of want t in
-        let r = operand_of a None t in
-        let last = op.Load width d r in
-        let first = computes a None t found.0 (last ∷ more) registers l over agree found.1 in
-        let done : IsStep last more first.after d v = load_step width d r found.0 v more first.after first.value found.2 in
+        let r = term_operand a None t in
+        let last = op.Load width d r n in
+        let first = computes_term a None t found.0 (last ∷ more) registers l over.0 agree found.1 in
+        let done : IsStep last more first.after d v = load_step width d r n found.0 v more first.after first.value found.2 in
         let result = with_written first.after d v in
-        let path = then_stretch (tac_system functions) first.count 1 [] [] (at (value_ops a None t ++ (last ∷ more)) registers) (at (last ∷ more) first.after) (at more result)
+        let path = then_stretch (tac_system functions) first.count 1 [] [] (at (term_ops a None t ++ (last ∷ more)) registers) (at (last ∷ more) first.after) (at more result)
         first.path (one_op last more first.after d v refl done) in
         record {
           count = first.count + 1;
           after = result;
           some = least_one want (first.count + 1) (omega arith);
           few = omega (arith, first.few);
-          path = subst (λ x. Stretch (tac_system functions) (first.count + 1) [] (at x registers) (at more result)) (sym (append_assoc (value_ops a None t) (last ∷ []) more)) path;
+          path = subst (λ x. Stretch (tac_system functions) (first.count + 1) [] (at x registers) (at more result)) (sym (append_assoc (term_ops a None t) (last ∷ []) more)) path;
           value = written_same first.after d v;
           same = λ x below. target_written first.after want t v x below ∙ result_like first.after registers want v x (first.same x below);
         }
-    computes (Bin o p q) want t v more registers l over agree h =
-        two (Bin o p q) p q (bin_of o) (applied o) (computes p) (computes q) (bin_plain o) (bin_step o) refl
+    computes_term (Bin o p q) want t v more registers l over agree h =
+        two (Bin o p q) p q (bin_of o) (applied o) (computes_term p) (computes_term q) (bin_plain o) (bin_step o) refl
         want t v more registers refl refl l over.0 over.1 agree h
-    computes (High s p q) want t v more registers l over agree h =
-        two (High s p q) p q (op.High s) (high_product s) (computes p) (computes q) (λ d a b. refl) (high_step s) refl
+    computes_term (High s p q) want t v more registers l over agree h =
+        two (High s p q) p q (op.High s) (high_product s) (computes_term p) (computes_term q) (λ d a b. refl) (high_step s) refl
         want t v more registers refl refl l over.0 over.1 agree h
+
+    -- those of an expression
+    pub computes : (e : Expr) (want : Option ℕ) (t v : ℕ) (more : List TacOp) (registers : Values) → locals ≤ t → IsExprOver locals e
+        → Agree locals registers values → value_of values world.memory e ≡ Some v → Computes (value_ops e want t) (operand_of e want t) (meaning.nodes e) want t v more registers
+    computes e want t v more registers l over agree h =
+        let c = computes_term (term_of e) want t v more registers l (term_over locals e over) agree (term_value values world.memory e ∙ h) in
+        record {
+          count = c.count;
+          after = c.after;
+          some = c.some;
+          few = omega (arith, c.few, term_nodes e);
+          path = c.path;
+          value = c.value;
+          same = c.same;
+        }

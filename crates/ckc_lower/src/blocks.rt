@@ -2,9 +2,10 @@ ghost use Rattle.std.specs.Prelude.{◌≡◌, ◌+◌, ◌<◌, ◌≤◌, ◌^
 ghost use Rattle.ckc_core.specs.Code.{expr_of, code_of, Const};
 ghost use Rattle.ckc_core.specs.Limits.{depth, IsShallow, KeepsLimits};
 ghost use Rattle.ckc_tac.specs.declared.code.Comparison.TheVariants as comparison;
-ghost use Rattle.ckc_lower.specs.code.Built.{is_zero as is_zero_of, test, test_of, picked as picked_of, tested, registers_of, with_op, with_value, with_values, with_end, with_jump, left, out_of, step_of, stored, used, compares, checked_test, passes, goal as goal_of, forked, join_of, entered, step_at, targets_of, block_count, built};
+ghost use Rattle.ckc_lower.specs.code.Terms.{base_of, term_of};
+ghost use Rattle.ckc_lower.specs.code.Built.{is_zero as is_zero_of, test, test_of, picked as picked_of, tested, registers_of, with_op, with_value, with_values, with_end, with_jump, left, out_of, step_of, stored, stores_at, used, compares, checked_test, passes, goal as goal_of, forked, join_of, entered, step_at, targets_of, block_count, built};
 
-use crate::builder::{Builder, Targets, free_after, operand, register_after};
+use crate::builder::{Builder, Targets, base, free_after, offset, operand, register_after};
 use ckc_base::{BinOp, Check, Pos, Seq, Width, sum};
 use ckc_core::{CoreExpr, CoreStmt};
 use ckc_tac::{Comparison, Operand, TacEnd, TacOp};
@@ -148,13 +149,14 @@ impl Builder {
         requires address { IsShallow (expr_of a.now) }
         requires value { IsShallow (expr_of e.now) }
         ensures { OnOk result
-            (self.new ≡ stored locals (expr_of a.now) (expr_of e.now) (TacOp.Store width)
-            self.old) }
+            (self.new ≡ stored locals (base_of (term_of (expr_of a.now))) (term_of (expr_of e.now))
+            (stores_at width (expr_of a.now)) self.old) }
     {
-        let t = free_after(a, locals);
-        self.value(a, None, locals)?;
+        let p = base(a);
+        let t = free_after(p, locals);
+        self.base_value(a, locals)?;
         self.value(e, None, t)?;
-        self.op(TacOp::Store(width, operand(a, locals), operand(e, t)))
+        self.op(TacOp::Store(width, operand(p, locals), offset(a), operand(e, t)))
     }
 
     /// Checks that a comparison of two expressions holds.

@@ -1,7 +1,8 @@
 ghost use Rattle.std.specs.Prelude.{◌≡◌, ℕ, ◌+◌, ◌<◌, ◌≤◌, ◌^◌, IfOk, OnOk, None};
 ghost use Rattle.ckc_core.specs.Code.{expr_of, Const, Local};
 ghost use Rattle.ckc_core.specs.Limits.{depth};
-ghost use Rattle.ckc_lower.specs.code.Built.{free_from, operand_of, is_even as is_even_of, bin_of, free_past, register_of, target_of, with_op, with_temporary, with_value, with_register, with_end};
+ghost use Rattle.ckc_lower.specs.code.Terms.{base_of, near_in, offset_of, small_of, term_of};
+ghost use Rattle.ckc_lower.specs.code.Built.{free_from, operand_of, with_term, is_even as is_even_of, bin_of, free_past, register_of, target_of, with_op, with_temporary, with_value, with_register, with_end};
 
 use ckc_base::{BinOp, Seq};
 use ckc_core::CoreExpr;
@@ -80,6 +81,46 @@ fn bin(op: BinOp, d: u32, a: Operand, b: Operand) -> TacOp
     }
 }
 
+/// A number from -2,048 to 2,047, or 0.
+fn small(e: &CoreExpr) -> u32
+    ensures { result ≡ small_of (term_of (expr_of e.now)) }
+{
+    match e {
+        CoreExpr::Const(n) => { if n.wrapping_add(2048) < 4096 { *n } else { 0 } }
+        _ => 0,
+    }
+}
+
+/// The small number that an operation adds, or 0.
+fn near(op: BinOp, q: &CoreExpr) -> u32
+    ensures { result ≡ near_in op (term_of (expr_of q.now)) }
+{
+    match op {
+        BinOp::Add => small(q),
+        _ => 0,
+    }
+}
+
+/// The offset of an address.
+pub fn offset(a: &CoreExpr) -> u32
+    ensures { result ≡ offset_of (term_of (expr_of a.now)) }
+{
+    match a {
+        CoreExpr::Bin(op, _, q) => near(*op, q.get()),
+        _ => 0,
+    }
+}
+
+/// What an address is without its offset.
+pub fn base(a: &CoreExpr) -> &CoreExpr
+    ensures { term_of (expr_of result.now) ≡ base_of (term_of (expr_of a.now)) }
+{
+    match a {
+        CoreExpr::Bin(op, p, q) => { if near(*op, q.get()) == 0 { a } else { p.get() } }
+        _ => a,
+    }
+}
+
 impl Builder {
     /// Adds an operation to the open block.
     pub fn op(&mut self, op: TacOp) -> Result<(), AllocError>
@@ -113,7 +154,27 @@ impl Builder {
         }
     }
 
+    /// Computes the base of an address.
+    #[cycle(value)]
+    pub fn base_value(&mut self, a: &CoreExpr, t: u32) -> Result<(), AllocError>
+        requires { t + depth (expr_of a.now) < 2 ^ 32 }
+        ensures { OnOk result
+            (self.new ≡ with_term (base_of (term_of (expr_of a.now))) None t self.old) }
+    {
+        match a {
+            CoreExpr::Bin(op, p, q) => {
+                if near(*op, q.get()) == 0 {
+                    self.value(a, None, t)
+                } else {
+                    self.value(p.get(), None, t)
+                }
+            }
+            _ => self.value(a, None, t),
+        }
+    }
+
     /// Computes a value into the wanted register, or to where `operand` tells; temporaries from t on are free.
+    #[cycle(value)]
     pub fn value(&mut self, e: &CoreExpr, want: Option<u32>, t: u32) -> Result<(), AllocError>
         requires { t + depth (expr_of e.now) < 2 ^ 32 }
         ensures { OnOk result (self.new ≡ with_value (expr_of e.now) want t self.old) }
@@ -122,9 +183,10 @@ impl Builder {
             CoreExpr::Const(n) => self.constant(*n, want),
             CoreExpr::Local(x) => self.copy(*x, want),
             CoreExpr::Load(width, a) => {
-                self.value(a.get(), None, t)?;
+                self.base_value(a.get(), t)?;
                 let d = self.target(want, t);
-                self.op(TacOp::Load(*width, d, operand(a.get(), t)))
+                let p = operand(base(a.get()), t);
+                self.op(TacOp::Load(*width, d, p, offset(a.get())))
             }
             CoreExpr::Bin(op, a, b) => {
                 let u = free_after(a.get(), t);

@@ -13,7 +13,7 @@ use Rattle.ckc_tac.specs.declared.code.TacOp.{TacOp}
 use Rattle.ckc_tac.specs.declared.code.TacOp.TheVariants.{Const, Copy, Bin, High, Load, Store, Check, Call, Get, Put, Alloc}
 use Rattle.ckc_tac.specs.declared.code.TacEnd.{TacEnd}
 use Rattle.ckc_tac.specs.declared.code.TacEnd.TheVariants.{Jump, Branch, Return}
-use Rattle.ckc_tac.specs.Operations.{outcome_of, value_in, values_in, compared}
+use Rattle.ckc_tac.specs.Operations.{outcome_of, value_in, values_in, compared, at_offset}
 use Rattle.ckc_flow.specs.Live.{target_of}
 use Rattle.ckc_passes.specs.Values.{computed}
 use Rattle.ckc_passes.specs.Rewrites.{Rewrite, pass_by}
@@ -66,13 +66,13 @@ module _ (x : Values) where
       by_value (GivesTarget x (High is_signed t a b)) tt (value_in x a) _ (λ v e.
       by_value (GivesTarget x (High is_signed t a b)) tt (value_in x b) _ (λ w g.
       (refl, computed_of (high_product is_signed) (value_in x a) (value_in x b) v w e g)))
-  gives_target world (Load width t a) =
-      by_value (GivesTarget x (Load width t a)) tt (value_in x a) _ (λ p e.
-      by_value (GivesTarget x (Load width t a)) tt (value_at width world.memory p) _ (λ v g. (refl, tt)))
-  gives_target world (Store width a b) =
-      by_value (GivesTarget x (Store width a b)) tt (value_in x a) _ (λ p e.
-      by_value (GivesTarget x (Store width a b)) tt (value_in x b) _ (λ v g.
-      gives_store (Store width a b) world _ (memory_with width world.memory p v) refl))
+  gives_target world (Load width t a n) =
+      by_value (GivesTarget x (Load width t a n)) tt (value_in x a) _ (λ p e.
+      by_value (GivesTarget x (Load width t a n)) tt (value_at width world.memory (at_offset p n)) _ (λ v g. (refl, tt)))
+  gives_target world (Store width a n b) =
+      by_value (GivesTarget x (Store width a n b)) tt (value_in x a) _ (λ p e.
+      by_value (GivesTarget x (Store width a n b)) tt (value_in x b) _ (λ v g.
+      gives_store (Store width a n b) world _ (memory_with width world.memory (at_offset p n) v) refl))
   gives_target world (Check check at comparison a b) =
       by_value (GivesTarget x (Check check at comparison a b)) tt (compared comparison (value_in x a) (value_in x b)) _ (λ v e.
       by_if (GivesTarget x (Check check at comparison a b)) (v == 0) (Stops check at) (Done [] world) tt refl)

@@ -46,8 +46,8 @@ target_over functions regs (Const q n) t h e = subst (λ x. x < regs) (let f : q
 target_over functions regs (Copy q a) t h e = subst (λ x. x < regs) (let f : q ≡ t = cc in f) h.0
 target_over functions regs (Bin op q a b) t h e = subst (λ x. x < regs) (let f : q ≡ t = cc in f) h.0
 target_over functions regs (High is_signed q a b) t h e = subst (λ x. x < regs) (let f : q ≡ t = cc in f) h.0
-target_over functions regs (Load width q a) t h e = subst (λ x. x < regs) (let f : q ≡ t = cc in f) h.0
-target_over functions regs (Store width a b) t h e = absurd cc
+target_over functions regs (Load width q a n) t h e = subst (λ x. x < regs) (let f : q ≡ t = cc in f) h.0
+target_over functions regs (Store width a n b) t h e = absurd cc
 target_over functions regs (Check check at comparison a b) t h e = absurd cc
 target_over functions regs (Call (Some q) callee arguments at) t h e = subst (λ x. x < regs) (let f : q ≡ t = cc in f) h.0
 target_over functions regs (Call None callee arguments at) t h e = absurd cc

@@ -15,8 +15,8 @@ pub fn copy_of(alloc: Global, op: &TacOp) -> Result<TacOp, AllocError>
         TacOp::Copy(t, a) => Ok(TacOp::Copy(*t, *a)),
         TacOp::Bin(op, t, a, b) => Ok(TacOp::Bin(*op, *t, *a, *b)),
         TacOp::High(signed, t, a, b) => Ok(TacOp::High(*signed, *t, *a, *b)),
-        TacOp::Load(width, t, a) => Ok(TacOp::Load(*width, *t, *a)),
-        TacOp::Store(width, a, b) => Ok(TacOp::Store(*width, *a, *b)),
+        TacOp::Load(width, t, a, n) => Ok(TacOp::Load(*width, *t, *a, *n)),
+        TacOp::Store(width, a, n, b) => Ok(TacOp::Store(*width, *a, *n, *b)),
         TacOp::Check(check, at, c, a, b) => Ok(TacOp::Check(*check, *at, *c, *a, *b)),
         TacOp::Call(t, callee, args, at) => {
             let args = Seq::from_slice(alloc, args.as_slice())?;
@@ -37,8 +37,8 @@ pub fn target(op: &TacOp) -> Option<u32>
         TacOp::Copy(t, _) => Some(*t),
         TacOp::Bin(_, t, _, _) => Some(*t),
         TacOp::High(_, t, _, _) => Some(*t),
-        TacOp::Load(_, t, _) => Some(*t),
-        TacOp::Store(_, _, _) => None,
+        TacOp::Load(_, t, _, _) => Some(*t),
+        TacOp::Store(_, _, _, _) => None,
         TacOp::Check(_, _, _, _, _) => None,
         TacOp::Call(t, _, _, _) => *t,
         TacOp::Get(t) => Some(*t),

@@ -20,7 +20,7 @@ use Rattle.ckc_tac.specs.declared.code.TacOp.{TacOp}
 use Rattle.ckc_tac.specs.declared.code.TacOp.TheVariants.{Const, Copy, Bin, High, Load, Store, Check, Call, Get, Put, Alloc}
 use Rattle.ckc_tac.specs.declared.code.TacEnd.{TacEnd}
 use Rattle.ckc_tac.specs.declared.code.TacEnd.TheVariants.{Jump, Branch, Return}
-use Rattle.ckc_tac.specs.Operations.{outcome_of, value_in, values_in, compared}
+use Rattle.ckc_tac.specs.Operations.{outcome_of, value_in, values_in, compared, at_offset}
 use Rattle.ckc_tac.specs.WellFormed.{IsOpOver, IsEndOver, IsOperandOver, HasParams}
 use Rattle.ckc_tac.specs.Sizes.{op_size, operand_size, end_size}
 use Rattle.ckc_flow.specs.Live.{target_of}
@@ -167,9 +167,9 @@ module _ (before : List TacOp) (x : Values) (traces : Traces before x) where
   copied_same (Copy t a) = λ world. inr (ap (λ o. with_value o (λ v. Gives [] t v world)) (origin_same a))
   copied_same (Bin op t a b) = λ world. inr (two_same (λ v u. Gives [] t (applied op v u) world) a b)
   copied_same (High is_signed t a b) = λ world. inr (two_same (λ v u. Gives [] t (high_product is_signed v u) world) a b)
-  copied_same (Load width t a) = λ world.
-      inr (ap (λ o. with_value o (λ p. with_value (value_at width world.memory p) (λ v. Gives [] t v world))) (operand_same a))
-  copied_same (Store width a b) = λ world. inr (two_same (λ p. stores world width p) a b)
+  copied_same (Load width t a n) = λ world.
+      inr (ap (λ o. with_value o (λ p. with_value (value_at width world.memory (at_offset p n)) (λ v. Gives [] t v world))) (operand_same a))
+  copied_same (Store width a n b) = λ world. inr (two_same (λ p. stores world width (at_offset p n)) a b)
   copied_same (Check check at comparison a b) = λ world. inr (ap (λ o. with_value o (checks world check at)) (compared_same comparison a b))
   copied_same (Call target callee arguments at) = record {
     others = map (origin w) arguments;
@@ -266,8 +266,8 @@ module _ (functions : List TacFunc) (regs : ℕ) where
     op_over (Copy t a) h = (h.0, origin_over a h.1)
     op_over (Bin op t a b) h = (h.0, operand_over a h.1, operand_over b h.2)
     op_over (High is_signed t a b) h = (h.0, operand_over a h.1, operand_over b h.2)
-    op_over (Load width t a) h = (h.0, operand_over a h.1)
-    op_over (Store width a b) h = (operand_over a h.0, operand_over b h.1)
+    op_over (Load width t a n) h = (h.0, operand_over a h.1, h.2)
+    op_over (Store width a n b) h = (operand_over a h.0, h.1, operand_over b h.2)
     op_over (Check check at comparison a b) h = (h.0, operand_over a h.1, operand_over b h.2)
     op_over (Call target callee arguments at) h = (
       h.0,

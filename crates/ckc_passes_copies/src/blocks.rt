@@ -72,9 +72,9 @@ fn made_op(alloc: Global, op: &TacOp, table: &[Last]) -> Result<TacOp, AllocErro
         TacOp::High(signed, t, a, b) => {
             Ok(TacOp::High(*signed, *t, operand(*a, table), operand(*b, table)))
         }
-        TacOp::Load(width, t, a) => Ok(TacOp::Load(*width, *t, operand(*a, table))),
-        TacOp::Store(width, a, b) => {
-            Ok(TacOp::Store(*width, operand(*a, table), operand(*b, table)))
+        TacOp::Load(width, t, a, n) => Ok(TacOp::Load(*width, *t, operand(*a, table), *n)),
+        TacOp::Store(width, a, n, b) => {
+            Ok(TacOp::Store(*width, operand(*a, table), *n, operand(*b, table)))
         }
         TacOp::Check(check, at, c, a, b) => {
             let (a, b) = (operand(*a, table), operand(*b, table));

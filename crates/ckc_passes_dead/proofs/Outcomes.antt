@@ -61,8 +61,8 @@ module _ (x y : Values) where
   outcome_same world (Copy t a) h = ap (λ o. with_value o (λ v. Gives [] t v world)) (sym (h a (same_test a a refl)))
   outcome_same world (Bin op t a b) h = two_same a b h _
   outcome_same world (High is_signed t a b) h = two_same a b h _
-  outcome_same world (Load width t a) h = one_same a _ h
-  outcome_same world (Store width a b) h = two_same a b h _
+  outcome_same world (Load width t a n) h = one_same a _ h
+  outcome_same world (Store width a n b) h = two_same a b h _
   outcome_same world (Check check at comparison a b) h = ap (λ o. with_value o (checks world check at)) (compared_same a b h comparison)
   outcome_same world (Call target callee arguments at) h = refl
   outcome_same world (Get t) h = refl

@@ -91,8 +91,8 @@ old_given n values h (High is_signed t a b) =
     old_known n (computed (high_product is_signed) (number_in (term_of values a)) (number_in (term_of values b))) (Upper is_signed (term_of values a) (term_of values b))
     (old_operand n values h a, old_operand n values h b) in
     older n (upper is_signed (term_of values a) (term_of values b)) s
-old_given n values h (Load width t a) = omega arith
-old_given n values h (Store width a b) = omega arith
+old_given n values h (Load width t a k) = omega arith
+old_given n values h (Store width a k b) = omega arith
 old_given n values h (Check check at comparison a b) = omega arith
 old_given n values h (Call target callee arguments at) = omega arith
 old_given n values h (Get t) = omega arith
@@ -116,8 +116,8 @@ old_looks done (Const t n) kind value h = absurd h
 old_looks done (Copy t a) kind value h = absurd h
 old_looks done (Bin op t a b) kind value h = absurd h
 old_looks done (High is_signed t a b) kind value h = absurd h
-old_looks done (Load width t a) kind value h = absurd h
-old_looks done (Store width a b) kind value h = absurd h
+old_looks done (Load width t a n) kind value h = absurd h
+old_looks done (Store width a n b) kind value h = absurd h
 old_looks done (Call target callee arguments at) kind value h = absurd h
 old_looks done (Get t) kind value h = absurd h
 old_looks done (Put a) kind value h = absurd h

@@ -35,8 +35,8 @@ holds_given done (High is_signed s a b) x t v target is h =
     holds_written done (High is_signed s a b) x (λ kind value l. l) h t v target
     (upper_worth h.environment is_signed (operand_after done a) (operand_after done b)
     ∙ (λ i. computed (high_product is_signed) (sym (operand_worth done x h a) i) (sym (operand_worth done x h b) i)) ∙ is)
-holds_given done (Load width s a) x t v target is h = holds_new done (Load width s a) x (λ kind value l. l) h t v target refl
-holds_given done (Store width a b) x t v target is h = absurd cc
+holds_given done (Load width s a n) x t v target is h = holds_new done (Load width s a n) x (λ kind value l. l) h t v target refl
+holds_given done (Store width a n b) x t v target is h = absurd cc
 holds_given done (Check check at comparison a b) x t v target is h = absurd cc
 holds_given done (Call target callee arguments at) x t v to is h = holds_new done (Call target callee arguments at) x (λ kind value l. l) h t v to refl
 holds_given done (Get s) x t v target is h = holds_new done (Get s) x (λ kind value l. l) h t v target refl
@@ -96,8 +96,8 @@ module _ (blocks : List TacBlock) (done ops : List TacOp) (end : TacEnd) (x : Va
   stands (Copy t a) = quiet_acts (Copy t a) (λ kind value l. l)
   stands (Bin op t a b) = quiet_acts (Bin op t a b) (λ kind value l. l)
   stands (High is_signed t a b) = quiet_acts (High is_signed t a b) (λ kind value l. l)
-  stands (Load width t a) = quiet_acts (Load width t a) (λ kind value l. l)
-  stands (Store width a b) = quiet_acts (Store width a b) (λ kind value l. l)
+  stands (Load width t a n) = quiet_acts (Load width t a n) (λ kind value l. l)
+  stands (Store width a n b) = quiet_acts (Store width a n b) (λ kind value l. l)
   stands (Check check at comparison a b) = λ world. check_acts check at comparison a b world (compared comparison (value_in x a) (value_in x b)) refl
   stands (Call target callee arguments at) = record {
     others = arguments;
@@ -129,8 +129,8 @@ module _ (blocks : List TacBlock) (done ops : List TacOp) (end : TacEnd) (x : Va
   idle (Copy t a) y same r = absurd r
   idle (Bin op t a b) y same r = absurd r
   idle (High is_signed t a b) y same r = absurd r
-  idle (Load width t a) y same r = absurd r
-  idle (Store width a b) y same r = absurd r
+  idle (Load width t a n) y same r = absurd r
+  idle (Store width a n b) y same r = absurd r
   idle (Call target callee arguments at) y same r = absurd r
   idle (Get t) y same r = absurd r
   idle (Put a) y same r = absurd r

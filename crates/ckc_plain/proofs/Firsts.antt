@@ -4,7 +4,7 @@ use Rattle.std.specs.Prelude.{Option, Some, None}
 use Rattle.std.proofs.lemmas.List.{drop_all}
 use Rattle.ckc_base.specs.declared.places.Pos.{Pos}
 use Rattle.ckc_syntax.specs.Inside.{listed, inside_each}
-use Rattle.ckc_plain.specs.code.First.{first}
+use Rattle.ckc_plain.specs.code.First.{first, either}
 
 pub first_here : (xs ys : List Pos) (p : Pos) → first xs ≡ Some p → first (xs ++ ys) ≡ Some p
 first_here [] ys p e = cc
@@ -31,3 +31,11 @@ module _ {X : Type 0} (f : X → List Pos) (xs : List X) (i : ℕ) (x : X) (here
 
 pub turn_ends : {X : Type 0} (f : X → List Pos) (xs : List X) (i : ℕ) (p : Option Pos) → length xs ≤ i → p ≡ first (inside_each listed f (drop i xs)) → p ≡ None
 turn_ends f xs i p h kept = kept ∙ ap (λ ys. first (inside_each listed f ys)) (drop_all i xs h)
+
+pub first_both : (xs ys : List Pos) → first (xs ++ ys) ≡ either (first xs) (first ys)
+first_both [] ys = refl
+first_both (x ∷ xs) ys = refl
+
+-- the first of two parts, each of which gives the first of its own
+pub both_are : (r a b : Option Pos) (xs ys : List Pos) → r ≡ either a b → a ≡ first xs → b ≡ first ys → r ≡ first (xs ++ ys)
+both_are r a b xs ys e p q = e ∙ ap (λ z. either z b) p ∙ ap (λ z. either (first xs) z) q ∙ sym (first_both xs ys)

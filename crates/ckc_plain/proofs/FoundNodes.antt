@@ -100,17 +100,12 @@ module _ (known : Integers) where
   pub whole_found : (e : NamedExpr) (b : Bool) → in_whole known e b ≡ (if is_call (form_of e) then (found_in known e).inside b else in_expr known e b)
   whole_found e b = ap (λ f. if is_call f then (found_in known e).inside b else in_expr known e b) (form_found e)
 
-  sets_inside : (w : Work) (x e : NamedExpr) (b : Bool) → binary_inside w (found_in known x) (found_in known e) b ≡ in_expr known x (b || is_set w) ++ (if is_set w then in_right known x e b else in_expr known e b)
-  sets_inside work.Sets x e true = refl
-  sets_inside work.Sets x e false = refl
-  sets_inside (work.Steps by) x e true = refl
-  sets_inside (work.Steps by) x e false = refl
-  sets_inside work.IfTrue x e true = refl
-  sets_inside work.IfTrue x e false = refl
-  sets_inside work.IfFalse x e true = refl
-  sets_inside work.IfFalse x e false = refl
-  sets_inside work.Computes x e true = refl
-  sets_inside work.Computes x e false = refl
+  others_inside : (w : Work) (x e : NamedExpr) (b : Bool) → ¬ (w ≡ work.Sets) → binary_inside w (found_in known x) (found_in known e) b ≡ in_expr known x b ++ in_expr known e b
+  others_inside work.Sets x e b differs = absurd (differs refl)
+  others_inside (work.Steps by) x e b differs = refl
+  others_inside work.IfTrue x e b differs = refl
+  others_inside work.IfFalse x e b differs = refl
+  others_inside work.Computes x e b differs = refl
 
   module _ (e : NamedExpr) (b : Bool) where
     abbrev inside : List Pos
@@ -155,10 +150,13 @@ module _ (known : Integers) where
     pub calloc_inside : (t : NamedTypeTree) (x : NamedExpr) (u : NamedTypeTree) → e.node ≡ node.Calloc t x u → inside ≡ in_expr known x b
     calloc_inside t x u is = by (Node-F.Calloc t x u) (is ∙ sym (node.rolls-Calloc t x u))
 
-    pub binary_found : (o : TreeOp) (x f : NamedExpr) → e.node ≡ node.Bin o x f → inside ≡ in_expr known x (b || is_set (work_of o)) ++ (if is_set (work_of o) then right_by known (form_of x) f b else in_expr known f b)
-    binary_found o x f is =
-        by (Node-F.Bin o x f) (is ∙ sym (node.rolls-Bin o x f)) ∙ sets_inside (work_of o) x f b
-        ∙ ap (λ r. in_expr known x (b || is_set (work_of o)) ++ (if is_set (work_of o) then r else in_expr known f b)) (right_found x f b)
+    pub sets_found : (o : TreeOp) (x f : NamedExpr) → e.node ≡ node.Bin o x f → work_of o ≡ work.Sets → inside ≡ in_expr known x true ++ right_by known (form_of x) f b
+    sets_found o x f is w =
+        by (Node-F.Bin o x f) (is ∙ sym (node.rolls-Bin o x f)) ∙ ap (λ v. binary_inside v (found_in known x) (found_in known f) b) w
+        ∙ ap (λ r. in_expr known x true ++ r) (right_found x f b)
+
+    pub others_found : (o : TreeOp) (x f : NamedExpr) → e.node ≡ node.Bin o x f → ¬ (work_of o ≡ work.Sets) → inside ≡ in_expr known x b ++ in_expr known f b
+    others_found o x f is differs = by (Node-F.Bin o x f) (is ∙ sym (node.rolls-Bin o x f)) ∙ others_inside (work_of o) x f b differs
 
     pub call_inside : (n : Name) (es : List NamedExpr) → e.node ≡ node.Call n es → inside ≡ in_exprs known es b
     call_inside n es is = by (Node-F.Call n es) (is ∙ sym (node.rolls-Call n es)) ∙ each_found listed (λ f. all_in f b) (found_in known) es

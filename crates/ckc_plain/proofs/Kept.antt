@@ -18,7 +18,7 @@ use Rattle.ckc_plain.specs.Expressions.{OfLimits, OfNode, OfExpr, limits_parts, 
 use Rattle.ckc_plain.specs.Statements.{OfAct, OfStmt, act_plain, stmt_plain}
 use Rattle.ckc_plain.specs.Statements as statements
 
-abbrev Layer : Type 0
+abbrev pub Layer : Type 0
 Layer = Node-F Name (Unit {0}) NamedLimits NamedNode NamedExpr
 
 abbrev StmtLayer : Type 0

@@ -1,6 +1,6 @@
 -- What each form of statement becomes, by what its parts become.
 use Rattle.std.proofs.Common.{◌≡◌, refl, sym, ap, ◌∙◌}
-use Rattle.std.specs.Prelude.{List, Option, Some, None}
+use Rattle.std.specs.Prelude.{ℕ, List, Option, Some, None}
 use Rattle.ckc_base.specs.declared.arithmetic.Mode.{Mode}
 use Rattle.ckc_syntax.specs.declared.tree.Act.{Act-F}
 use Rattle.ckc_syntax.specs.declared.tree.Act.TheVariants as act
@@ -9,7 +9,7 @@ use Rattle.ckc_plain.specs.declared.integers.Integers.{Integers}
 use Rattle.ckc_plain.specs.declared.pending.Pending.{Pending}
 use Rattle.ckc_plain.specs.Taken.{after, none_pending}
 use Rattle.ckc_plain.specs.Expressions.{expr_plain, whole_plain, maybe_plain}
-use Rattle.ckc_plain.specs.Statements.{alone, loop_condition, loop_body, with_next, act_plain, stmt_plain, block_plain}
+use Rattle.ckc_plain.specs.Statements.{alone, loop_condition, loop_body, for_condition, for_body, with_next, act_plain, stmt_plain, block_plain}
 use Rattle.ckc_plain.specs.code.Statements.{local_act, assign_act, part_plain, part_made, for_after}
 use Rattle.ckc_plain.proofs.Kept.{act_by}
 
@@ -58,3 +58,14 @@ module _ (known : Integers) (a : NamedAct) (p : Pending) where
   for_made None e (Some t) b is = act_by known a p (Act-F.For None e (Some t) b) (is ∙ sym (act.rolls-For None e (Some t) b))
   for_made (Some f) e None b is = act_by known a p (Act-F.For (Some f) e None b) (is ∙ sym (act.rolls-For (Some f) e None b))
   for_made (Some f) e (Some t) b is = act_by known a p (Act-F.For (Some f) e (Some t) b) (is ∙ sym (act.rolls-For (Some f) e (Some t) b))
+
+  pub for_steps : (f : Option NamedStmt) (e : Option NamedExpr) (t : Option NamedStmt) (b : NamedStmt) → a ≡ act.For f e t b
+      → (g : Option NamedStmt) (q : Pending) (c : Option NamedExpr) (r : Pending) (s : NamedStmt) (m : ℕ) (u : Option NamedStmt) (k : ℕ)
+      → part_made known f p ≡ (g, q) → maybe_plain known e (none_pending q.next) ≡ (c, r) → alone (stmt_plain known b) r.next ≡ (s, m) → part_plain known t m ≡ (u, k)
+      → act_plain known a p ≡ (act.For g (for_condition r.stmts c) u (for_body r.stmts c s), with_next q k)
+  for_steps f e t b is g q c r s m u k one two three four =
+      for_made f e t b is
+      ∙ ap (λ (z : Option NamedStmt × Pending). after z (λ h o. after (for_after known h e t b o.next) (λ d n. (d, with_next o n)))) one
+      ∙ ap (λ (z : Option NamedExpr × Pending). after (after z (λ d o. after (alone (stmt_plain known b) o.next) (λ v n. after (part_plain known t n) (λ w l. (act.For g (for_condition o.stmts d) w (for_body o.stmts d v), l))))) (λ d n. (d, with_next q n))) two
+      ∙ ap (λ (z : NamedStmt × ℕ). after (after z (λ v n. after (part_plain known t n) (λ w l. (act.For g (for_condition r.stmts c) w (for_body r.stmts c v), l)))) (λ d n. (d, with_next q n))) three
+      ∙ ap (λ (z : Option NamedStmt × ℕ). after (after z (λ w l. (act.For g (for_condition r.stmts c) w (for_body r.stmts c s), l))) (λ d n. (d, with_next q n))) four

@@ -32,8 +32,8 @@ module _ (known : Integers) (e : NamedExpr) (p : Pending) where
   pub unary_kept : (o : TreeOp) (x : NamedExpr) → e.node ≡ node.Un o x → expr_kept known e p ≡ after (expr_plain known x p) (λ a q. (expr_at (node.Un o a) e.pos, q))
   unary_kept o x is = kept_by known e p (Node-F.Un o x) (is ∙ sym (node.rolls-Un o x))
 
-  pub binary_kept : (o : TreeOp) (x : NamedExpr) (f : NamedExpr) → e.node ≡ node.Bin o x f → expr_kept known e p ≡ binary_kept known o x f e.pos p
-  binary_kept o x f is = kept_by known e p (Node-F.Bin o x f) (is ∙ sym (node.rolls-Bin o x f))
+  pub two_kept : (o : TreeOp) (x : NamedExpr) (f : NamedExpr) → e.node ≡ node.Bin o x f → expr_kept known e p ≡ binary_kept known o x f e.pos p
+  two_kept o x f is = kept_by known e p (Node-F.Bin o x f) (is ∙ sym (node.rolls-Bin o x f))
 
   pub pick_kept : (x : NamedExpr) (f : NamedExpr) (g : NamedExpr) → e.node ≡ node.Pick x f g → expr_kept known e p ≡ after (expr_plain known x p) (λ a q. after (expr_plain known f q) (λ b r. after (expr_plain known g r) (λ c s. (expr_at (node.Pick a b c) e.pos, s))))
   pick_kept x f g is = kept_by known e p (Node-F.Pick x f g) (is ∙ sym (node.rolls-Pick x f g))

@@ -8,4 +8,5 @@ pub mod KeptNodes
 pub mod Locals
 pub mod Named
 pub mod Relimiting
+pub mod Stays
 pub mod Turns

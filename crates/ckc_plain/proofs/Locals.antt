@@ -8,7 +8,7 @@ use Rattle.ckc_syntax.specs.declared.tree.Act.{Act-F, map-Act, roll-Act, fold-ro
 use Rattle.ckc_syntax.specs.declared.tree.Act.TheVariants as act
 use Rattle.ckc_syntax.specs.declared.tree.Stmt.{fold-roll-Stmt}
 use Rattle.ckc_syntax.specs.Inside.{listed, inside_run}
-use Rattle.ckc_syntax.proofs.Insides.{each_found, if_found, none_found}
+use Rattle.ckc_syntax.proofs.Insides.{each_found, none_found}
 use Rattle.ckc_syntax.specs.Trees.{NamedDecl, NamedExpr, NamedStmt, NamedAct}
 use Rattle.ckc_plain.specs.declared.integers.Integer.{Integer}
 use Rattle.ckc_plain.specs.Integers.{declared_integer, locals_of_stmt, locals_of_act, locals_of_stmt_parts}
@@ -35,8 +35,8 @@ pub bundle_locals : (s : NamedStmt) (ss : List NamedStmt) → s.body ≡ act.Bun
 bundle_locals s ss is = locals_by s (Act-F.Bundle ss) (is ∙ sym (act.rolls-Bundle ss)) ∙ each_found listed (λ d. d) locals_of_stmt ss
 
 pub if_locals : (s : NamedStmt) (e : NamedExpr) (t : NamedStmt) (o : Option NamedStmt) → s.body ≡ act.If e t o → locals_of_stmt s ≡ locals_of_stmt t ++ locals_of_part o
-if_locals s e t o is =
-    locals_by s (Act-F.If e t o) (is ∙ sym (act.rolls-If e t o)) ∙ ap (λ ds. locals_of_stmt t ++ ds) (if_found listed (λ d. d) locals_of_stmt o)
+if_locals s e t None is = locals_by s (Act-F.If e t None) (is ∙ sym (act.rolls-If e t None))
+if_locals s e t (Some u) is = locals_by s (Act-F.If e t (Some u)) (is ∙ sym (act.rolls-If e t (Some u)))
 
 pub for_locals : (s : NamedStmt) (f : Option NamedStmt) (e : Option NamedExpr) (t : Option NamedStmt) (b : NamedStmt) → s.body ≡ act.For f e t b
     → locals_of_stmt s ≡ locals_of_part f ++ (locals_of_stmt b ++ locals_of_part t)

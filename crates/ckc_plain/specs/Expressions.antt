@@ -75,9 +75,11 @@ if_none (s ∷ ss) none some = some
 -- is not evaluated, and an `if` that evaluates b. What holds t has a lower number than the fresh locals of b.
 abbrev pub choice : TreeOp → ℕ → (NamedExpr → NamedStmt → Pos → NamedStmt) → Pos → NamedExpr → NamedExpr × Pending → Pending → NamedNode × Pending
 choice o start chosen pos a b p =
-    if_none b.1.stmts (node.Bin o a b.0, p)
-    (node.Name (name.Local p.next), with_stmt (record (with_fresh integer.Int (number_at start pos) pos p) { next = b.1.next })
-        (chosen a (block_at (b.1.stmts ++ truth_at p.next b.0 pos ∷ []) pos) pos))
+    if_none b.1.stmts (node.Bin o a b.0, p) (
+      node.Name (name.Local p.next),
+      with_stmt (record (with_fresh integer.Int (number_at start pos) pos p) { next = b.1.next })
+          (chosen a (block_at (b.1.stmts ++ truth_at p.next b.0 pos ∷ []) pos) pos),
+    )
 
 -- two operands, by what their operator does
 abbrev pub binary_parts : Integers → Work → TreeOp → OfExpr → OfExpr → Pos → Pending → NamedNode × Pending

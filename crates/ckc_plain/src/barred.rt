@@ -6,6 +6,7 @@ ghost use Rattle.ckc_plain.specs.code.First.{first, in_part, in_each, in_decls, 
 
 use crate::effects::{
     first_in, first_in_bounds, first_in_exprs, first_in_maybe, first_in_right, first_in_whole,
+    first_of,
 };
 use crate::forms::form_of;
 use crate::integers::{Integers, locals_of};
@@ -24,13 +25,14 @@ fn first_in_init(known: &Integers, init: &Init<Name, ()>, barred: bool) -> Optio
     }
 }
 
+#[tactic(auto, using(crate::proofs::Firsts::first_both))]
 fn first_in_local(known: &Integers, d: &Decl<Name, ()>, barred: bool) -> Option<Pos>
     ensures { result ≡ first (in_local known.now d.now barred) }
 {
-    if let Some(pos) = first_in_bounds(known, &d.bounds) {
-        return Some(pos);
-    }
-    first_in_init(known, &d.init, barred)
+    first_of(
+        first_in_bounds(known, &d.bounds),
+        first_in_init(known, &d.init, barred),
+    )
 }
 
 /// The first effect that is refused in what a statement does.
@@ -42,40 +44,34 @@ fn first_in_act(known: &Integers, act: &Act<Name, ()>, barred: bool) -> Option<P
         Act::Block(_, ss) => first_in_each(known, ss.as_slice(), barred),
         Act::Empty => None,
         Act::Local(d) => first_in_local(known, d.get(), barred),
-        Act::Assign(x, e) => {
-            if let Some(pos) = first_in(known, x.get(), true) {
-                return Some(pos);
-            }
-            first_in_right(known, form_of(x.get()), e.get(), barred)
-        }
+        Act::Assign(x, e) => first_of(
+            first_in(known, x.get(), true),
+            first_in_right(known, form_of(x.get()), e.get(), barred),
+        ),
         Act::Call(e) => first_in_whole(known, e.get(), barred),
-        Act::If(e, s, t) => {
-            if let Some(pos) = first_in(known, e.get(), barred) {
-                return Some(pos);
-            }
-            if let Some(pos) = first_in_stmt(known, s.get(), barred) {
-                return Some(pos);
-            }
-            first_in_part(known, t, barred)
-        }
+        Act::If(e, s, t) => first_of(
+            first_in(known, e.get(), barred),
+            first_of(
+                first_in_stmt(known, s.get(), barred),
+                first_in_part(known, t, barred),
+            ),
+        ),
         Act::While(e, s) => {
-            if let Some(pos) = first_in(known, e.get(), barred) {
-                return Some(pos);
-            }
-            first_in_stmt(known, s.get(), barred)
+            first_of(
+                first_in(known, e.get(), barred),
+                first_in_stmt(known, s.get(), barred),
+            )
         }
-        Act::For(first, e, step, body) => {
-            if let Some(pos) = first_in_part(known, first, barred) {
-                return Some(pos);
-            }
-            if let Some(pos) = first_in_maybe(known, e, barred) {
-                return Some(pos);
-            }
-            if let Some(pos) = first_in_stmt(known, body.get(), barred) {
-                return Some(pos);
-            }
-            first_in_part(known, step, barred)
-        }
+        Act::For(first, e, step, body) => first_of(
+            first_in_part(known, first, barred),
+            first_of(
+                first_in_maybe(known, e, barred),
+                first_of(
+                    first_in_stmt(known, body.get(), barred),
+                    first_in_part(known, step, barred),
+                ),
+            ),
+        ),
         Act::Return(e) => first_in_maybe(known, e, barred),
         Act::Break => None,
         Act::Continue => None,
@@ -127,13 +123,14 @@ fn first_in_static_init(known: &Integers, init: &Init<Name, ()>) -> Option<Pos>
     }
 }
 
+#[tactic(auto, using(crate::proofs::Firsts::first_both))]
 fn first_in_decl(known: &Integers, d: &Decl<Name, ()>) -> Option<Pos>
     ensures { result ≡ first (in_decl known.now d.now) }
 {
-    if let Some(pos) = first_in_bounds(known, &d.bounds) {
-        return Some(pos);
-    }
-    first_in_static_init(known, &d.init)
+    first_of(
+        first_in_bounds(known, &d.bounds),
+        first_in_static_init(known, &d.init),
+    )
 }
 
 fn first_in_decls(known: &Integers, ds: &[Decl<Name, ()>]) -> Option<Pos>
@@ -147,15 +144,17 @@ fn first_in_decls(known: &Integers, ds: &[Decl<Name, ()>]) -> Option<Pos>
     None
 }
 
+#[tactic(auto, using(crate::proofs::Firsts::first_both))]
 fn first_in_head(known: &Integers, h: &Head<Name, ()>) -> Option<Pos>
     ensures { result ≡ first (in_head known.now h.now) }
 {
-    if let Some(pos) = first_in_decls(known, h.params.as_slice()) {
-        return Some(pos);
-    }
-    first_in_bounds(known, &h.bounds)
+    first_of(
+        first_in_decls(known, h.params.as_slice()),
+        first_in_bounds(known, &h.bounds),
+    )
 }
 
+#[tactic(auto, using(crate::proofs::Firsts::first_both))]
 fn first_in_function(
     alloc: Global,
     known: &mut Integers,
@@ -165,14 +164,12 @@ fn first_in_function(
     ensures first { IfOk result (λ r. r ≡ first (in_function known.old h.now body.now)) }
     ensures kept { OnOk result (known.new ≡ known.old) }
 {
-    if let Some(pos) = first_in_head(known, h) {
-        return Ok(Some(pos));
-    }
+    let in_head = first_in_head(known, h);
     let locals = locals_of(alloc, h, body)?;
     let outer = replace(&mut known.locals, locals);
     let found = first_in_stmt(known, body, false);
     known.locals = outer;
-    Ok(found)
+    Ok(first_of(in_head, found))
 }
 
 fn first_in_item(

@@ -2,10 +2,10 @@
 
 ghost use Rattle.std.specs.Prelude.{◌≡◌};
 ghost use Rattle.ckc_plain.specs.Effects.{found_in, in_limits, in_expr, in_whole, in_right, in_exprs, in_bounds, in_maybe};
-ghost use Rattle.ckc_plain.specs.code.First.{first};
+ghost use Rattle.ckc_plain.specs.code.First.{first, either};
 ghost use Rattle.ckc_plain.specs.code.Refused.{sets_refused, steps_refused, expr_refused, right_by};
 
-use crate::forms::{Form, Work, form_of, is_call, is_calloc, is_set, stays, work_of};
+use crate::forms::{Form, Work, form_of, is_call, is_calloc, stays, work_of};
 use crate::integers::{Integers, integer_local, result_of};
 use ckc_base::{Boxed, Pos};
 use ckc_syntax::{Expr, Limits, Name, Node};
@@ -37,7 +37,13 @@ fn is_refused(known: &Integers, e: &Expr<Name, ()>, barred: bool) -> bool
     match &e.node {
         Node::Un(op, x) => unary_refused(known, work_of(*op), form_of(x.get()), barred),
         Node::Bin(op, x, f) => {
-            binary_refused(known, work_of(*op), form_of(x.get()), form_of(f.get()), barred)
+            binary_refused(
+                known,
+                work_of(*op),
+                form_of(x.get()),
+                form_of(f.get()),
+                barred,
+            )
         }
         Node::Call(n, _) => barred || result_of(known, *n).is_none(),
         _ => false,
@@ -45,6 +51,7 @@ fn is_refused(known: &Integers, e: &Expr<Name, ()>, barred: bool) -> bool
 }
 
 /// The place of an expression, if it is an effect that is refused.
+#[tactic(auto, using(crate::proofs::FoundNodes::own_found))]
 fn own_place(known: &Integers, e: &Expr<Name, ()>, barred: bool) -> Option<Pos>
     ensures { result ≡ first ((found_in known.now e.now).itself barred) }
 {
@@ -52,6 +59,16 @@ fn own_place(known: &Integers, e: &Expr<Name, ()>, barred: bool) -> Option<Pos>
         return Some(e.pos);
     }
     None
+}
+
+/// The first of two places, of which the one goes before the other.
+pub fn first_of(a: Option<Pos>, b: Option<Pos>) -> Option<Pos>
+    ensures { result ≡ either a b }
+{
+    match a {
+        Some(pos) => Some(pos),
+        None => b,
+    }
 }
 
 /// The first effect that is refused in the parts of an expression.
@@ -65,46 +82,44 @@ fn first_inside(known: &Integers, e: &Expr<Name, ()>, barred: bool) -> Option<Po
         Node::Null => None,
         Node::Name(_) => None,
         Node::Un(_, x) => first_in(known, x.get(), barred),
-        Node::Bin(op, x, f) => {
-            let sets = is_set(work_of(*op));
-            if let Some(pos) = first_in(known, x.get(), barred || sets) {
-                return Some(pos);
-            }
-            if sets {
-                return first_in_right(known, form_of(x.get()), f.get(), barred);
-            }
-            first_in(known, f.get(), barred)
-        }
-        Node::Pick(x, f, g) => {
-            if let Some(pos) = first_in(known, x.get(), barred) {
-                return Some(pos);
-            }
-            if let Some(pos) = first_in(known, f.get(), true) {
-                return Some(pos);
-            }
-            first_in(known, g.get(), true)
-        }
+        Node::Bin(op, x, f) => match work_of(*op) {
+            Work::Sets => first_of(
+                first_in(known, x.get(), true),
+                first_in_right(known, form_of(x.get()), f.get(), barred),
+            ),
+            _ => first_of(
+                first_in(known, x.get(), barred),
+                first_in(known, f.get(), barred),
+            ),
+        },
+        Node::Pick(x, f, g) => first_of(
+            first_in(known, x.get(), barred),
+            first_of(
+                first_in(known, f.get(), true),
+                first_in(known, g.get(), true),
+            ),
+        ),
         Node::Index(x, f) => {
-            if let Some(pos) = first_in(known, x.get(), barred) {
-                return Some(pos);
-            }
-            first_in(known, f.get(), barred)
+            first_of(
+                first_in(known, x.get(), barred),
+                first_in(known, f.get(), barred),
+            )
         }
         Node::Dot(x, _, _) => first_in(known, x.get(), barred),
         Node::Arrow(x, _, _) => first_in(known, x.get(), barred),
         Node::Cast(_, x) => first_in(known, x.get(), barred),
         Node::Size(_) => None,
         Node::Trusted(_, x, limits) => {
-            if let Some(pos) = first_in(known, x.get(), barred) {
-                return Some(pos);
-            }
-            first_in_bounds(known, limits)
+            first_of(
+                first_in(known, x.get(), barred),
+                first_in_bounds(known, limits),
+            )
         }
         Node::Tested(_, x, limits) => {
-            if let Some(pos) = first_in(known, x.get(), barred) {
-                return Some(pos);
-            }
-            first_in_bounds(known, limits)
+            first_of(
+                first_in(known, x.get(), barred),
+                first_in_bounds(known, limits),
+            )
         }
         Node::Call(_, es) => first_in_exprs(known, es.as_slice(), barred),
         Node::Calloc(_, x, _) => first_in(known, x.get(), barred),
@@ -112,14 +127,12 @@ fn first_inside(known: &Integers, e: &Expr<Name, ()>, barred: bool) -> Option<Po
 }
 
 /// The first effect of an expression that is refused.
+#[tactic(auto, using(crate::proofs::Firsts::first_both))]
 #[cycle(effects)]
 pub fn first_in(known: &Integers, e: &Expr<Name, ()>, barred: bool) -> Option<Pos>
     ensures { result ≡ first (in_expr known.now e.now barred) }
 {
-    if let Some(pos) = first_inside(known, e, barred) {
-        return Some(pos);
-    }
-    own_place(known, e, barred)
+    first_of(first_inside(known, e, barred), own_place(known, e, barred))
 }
 
 /// The same of the right side of an assignment to a target.
@@ -132,13 +145,10 @@ pub fn first_in_right(
 ) -> Option<Pos>
     ensures { result ≡ first (right_by known.now target e.now barred) }
 {
-    if let Some(pos) = first_inside(known, e, barred) {
-        return Some(pos);
-    }
     if stays(target, form_of(e)) {
-        return None;
+        return first_inside(known, e, barred);
     }
-    own_place(known, e, barred)
+    first_in(known, e, barred)
 }
 
 /// The same of expressions from left to right.
@@ -156,10 +166,7 @@ pub fn first_in_exprs(known: &Integers, es: &[Expr<Name, ()>], barred: bool) -> 
 
 /// The same in bounds that may be left out.
 #[cycle(effects)]
-pub fn first_in_bounds(
-    known: &Integers,
-    bounds: &Option<Boxed<Limits<Name, ()>>>,
-) -> Option<Pos>
+pub fn first_in_bounds(known: &Integers, bounds: &Option<Boxed<Limits<Name, ()>>>) -> Option<Pos>
     ensures { result ≡ first (in_bounds known.now bounds.now) }
 {
     match bounds {
@@ -176,16 +183,17 @@ fn first_in_limits(known: &Integers, limits: &Limits<Name, ()>) -> Option<Pos>
         Limits::Count(e, _) => first_in(known, e.get(), true),
         Limits::ByteCount(e, _) => first_in(known, e.get(), true),
         Limits::Between(e, f, _) => {
-            if let Some(pos) = first_in(known, e.get(), true) {
-                return Some(pos);
-            }
-            first_in(known, f.get(), true)
+            first_of(
+                first_in(known, e.get(), true),
+                first_in(known, f.get(), true),
+            )
         }
         Limits::Unknown(_) => None,
     }
 }
 
 /// The same of an expression that is no effect if it is a call.
+#[tactic(auto, using(crate::proofs::FoundNodes::whole_found))]
 pub fn first_in_whole(known: &Integers, e: &Expr<Name, ()>, barred: bool) -> Option<Pos>
     ensures { result ≡ first (in_whole known.now e.now barred) }
 {

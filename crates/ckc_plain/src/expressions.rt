@@ -2,7 +2,7 @@
 
 ghost use Rattle.ckc_plain.specs.Expressions.{bounds_plain, limits_plain, expr_kept, expr_plain, exprs_plain, whole_plain, maybe_plain, if_true, if_false, truth_at};
 ghost use Rattle.ckc_plain.specs.Taken.{expr_at};
-ghost use Rattle.ckc_plain.specs.code.Parts.{chosen_by, start_by, choice_by, choice_at, right_by, binary_kept};
+ghost use Rattle.ckc_plain.specs.code.Parts.{chosen_by, start_by, choice_by, choice_at, right_by};
 ghost use Rattle.ckc_plain.specs.code.Steps.{Steps};
 ghost use Rattle.std.specs.Prelude.{◌≡◌, ◌+◌, IfOk};
 
@@ -60,7 +60,12 @@ fn calloc_at(
 }
 
 /// `t = b != 0;`
-fn truth_at(alloc: Global, k: u32, b: Expr<Name, ()>, pos: Pos) -> Result<Stmt<Name, ()>, AllocError>
+fn truth_at(
+    alloc: Global,
+    k: u32,
+    b: Expr<Name, ()>,
+    pos: Pos,
+) -> Result<Stmt<Name, ()>, AllocError>
     ensures { IfOk result (λ s. s ≡ truth_at k b pos) }
 {
     let truth = binary_at(alloc, TreeOp::Ne, b, number_at(0, pos), pos)?;
@@ -140,7 +145,13 @@ fn choice_taken(
     let truth = truth_at(alloc, k, b, pos)?;
     stmts.push(truth)?;
     let made = chosen(alloc, all, a, block_at(stmts, pos), pos)?;
-    let name = add_fresh(alloc, Integer::Int, number_at(start_of(all), pos), pos, pending)?;
+    let name = add_fresh(
+        alloc,
+        Integer::Int,
+        number_at(start_of(all), pos),
+        pos,
+        pending,
+    )?;
     pending.stmts.push(made)?;
     pending.next = next;
     Ok(name)
@@ -175,42 +186,6 @@ fn number_after(next: u32) -> Result<u32, AllocError>
     Ok(next + 1)
 }
 
-/// Two operands without effects, with their operator.
-#[cycle(plain)]
-fn kept_binary(
-    alloc: Global,
-    known: &Integers,
-    op: TreeOp,
-    x: &Expr<Name, ()>,
-    e: &Expr<Name, ()>,
-    pos: Pos,
-    pending: &mut Pending,
-) -> Result<Expr<Name, ()>, AllocError>
-    ensures { Steps result pending.new (binary_kept known.now op x.now e.now pos pending.old) }
-{
-    let a = plain_expr(alloc, known, x, pending)?;
-    match work_of(op) {
-        Work::Sets => {
-            let b = right_expr(alloc, known, form_of(&a), e, pending)?;
-            binary_at(alloc, op, a, b, pos)
-        }
-        Work::IfTrue => {
-            let mut inner = Pending::none(alloc, number_after(pending.next)?);
-            let b = plain_expr(alloc, known, e, &mut inner)?;
-            choice(alloc, op, true, pos, a, b, inner, pending)
-        }
-        Work::IfFalse => {
-            let mut inner = Pending::none(alloc, number_after(pending.next)?);
-            let b = plain_expr(alloc, known, e, &mut inner)?;
-            choice(alloc, op, false, pos, a, b, inner, pending)
-        }
-        _ => {
-            let b = plain_expr(alloc, known, e, pending)?;
-            binary_at(alloc, op, a, b, pos)
-        }
-    }
-}
-
 /// An expression without the effects in its parts.
 #[cycle(plain)]
 fn kept(
@@ -230,9 +205,30 @@ fn kept(
             let x = boxed_expr(alloc, known, x.get(), pending)?;
             Ok(expr_at(Node::Un(*op, x), e.pos))
         }
-        Node::Bin(op, x, f) => {
-            kept_binary(alloc, known, *op, x.get(), f.get(), e.pos, pending)
-        }
+        Node::Bin(op, x, f) => match work_of(*op) {
+            Work::Sets => {
+                let a = plain_expr(alloc, known, x.get(), pending)?;
+                let b = right_expr(alloc, known, form_of(&a), f.get(), pending)?;
+                binary_at(alloc, *op, a, b, e.pos)
+            }
+            Work::IfTrue => {
+                let a = plain_expr(alloc, known, x.get(), pending)?;
+                let mut inner = Pending::none(alloc, number_after(pending.next)?);
+                let b = plain_expr(alloc, known, f.get(), &mut inner)?;
+                choice(alloc, *op, true, e.pos, a, b, inner, pending)
+            }
+            Work::IfFalse => {
+                let a = plain_expr(alloc, known, x.get(), pending)?;
+                let mut inner = Pending::none(alloc, number_after(pending.next)?);
+                let b = plain_expr(alloc, known, f.get(), &mut inner)?;
+                choice(alloc, *op, false, e.pos, a, b, inner, pending)
+            }
+            _ => {
+                let a = plain_expr(alloc, known, x.get(), pending)?;
+                let b = plain_expr(alloc, known, f.get(), pending)?;
+                binary_at(alloc, *op, a, b, e.pos)
+            }
+        },
         Node::Pick(x, f, g) => {
             let x = boxed_expr(alloc, known, x.get(), pending)?;
             let f = boxed_expr(alloc, known, f.get(), pending)?;

@@ -3,7 +3,7 @@
 ghost use Rattle.std.specs.Prelude.{◌≡◌, ◌++◌, IfOk, OnOk};
 ghost use Rattle.ckc_plain.specs.Taken.{none_pending};
 ghost use Rattle.ckc_plain.specs.Statements.{joined, placed, alone, loop_condition, loop_body, for_condition, for_body, init_plain, act_plain, stmt_plain, block_plain};
-ghost use Rattle.ckc_plain.specs.code.Statements.{first_pos, or_break, tested_body, local_act, assign_act, pieces, part_plain, part_made, for_after};
+ghost use Rattle.ckc_plain.specs.code.Statements.{first_pos, or_break, tested_body, local_act, assign_act, pieces, part_plain, part_made};
 ghost use Rattle.ckc_plain.specs.code.Steps.{Steps};
 
 use crate::expressions::{
@@ -242,7 +242,12 @@ fn plain_act(
         }
         Act::For(first, e, step, body) => {
             let first = part_before(alloc, known, first, pending)?;
-            plain_for(alloc, known, first, e, step, body.get(), &mut pending.next)
+            let mut before = Pending::none(alloc, pending.next);
+            let condition = maybe_expr(alloc, known, e, &mut before)?;
+            pending.next = before.next;
+            let body = stmt_alone(alloc, known, body.get(), &mut pending.next)?;
+            let step = part_alone(alloc, known, step, &mut pending.next)?;
+            for_at(alloc, first, before, condition, step, body)
         }
         Act::Return(e) => {
             let value = maybe_expr(alloc, known, e, pending)?;
@@ -259,27 +264,6 @@ fn plain_act(
             Ok(Act::Bundle(all))
         }
     }
-}
-
-/// A `for` after its first part.
-#[cycle(plain)]
-fn plain_for(
-    alloc: Global,
-    known: &Integers,
-    first: Option<Boxed<Stmt<Name, ()>>>,
-    e: &Option<Boxed<Expr<Name, ()>>>,
-    step: &Option<Boxed<Stmt<Name, ()>>>,
-    body: &Stmt<Name, ()>,
-    next: &mut u32,
-) -> Result<Act<Name, ()>, AllocError>
-    ensures { Steps result next.new (for_after known.now first e.now step.now body.now next.old) }
-{
-    let mut before = Pending::none(alloc, *next);
-    let condition = maybe_expr(alloc, known, e, &mut before)?;
-    *next = before.next;
-    let body = stmt_alone(alloc, known, body, next)?;
-    let step = part_alone(alloc, known, step, next)?;
-    for_at(alloc, first, before, condition, step, body)
 }
 
 /// A statement.

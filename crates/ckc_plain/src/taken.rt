@@ -174,8 +174,10 @@ fn set_name(
     pos: Pos,
     pending: &mut Pending,
 ) -> Result<Expr<Name, ()>, AllocError>
-    ensures { Steps result pending.new (expr_at (Node.Name n) at,
-        with_stmt pending.old (assign_at (expr_at (Node.Name n) at) value pos)) }
+    ensures { Steps result pending.new (
+      expr_at (Node.Name n) at,
+      with_stmt pending.old (assign_at (expr_at (Node.Name n) at) value pos),
+    ) }
 {
     let assignment = assign_at(alloc, name_at(n, at), value, pos)?;
     pending.stmts.push(assignment)?;
@@ -216,10 +218,12 @@ fn step_name(
     pos: Pos,
     pending: &mut Pending,
 ) -> Result<Expr<Name, ()>, AllocError>
-    ensures { Steps result pending.new (local_at pending.old.next pos,
-        with_stmt (with_fresh t (expr_at (Node.Name n) at) pos pending.old)
-        (assign_at (expr_at (Node.Name n) at)
-        (expr_at (Node.Bin by (expr_at (Node.Name n) at) (number_at 1 pos)) pos) pos)) }
+    ensures { Steps result pending.new (
+      local_at pending.old.next pos,
+      with_stmt (with_fresh t (expr_at (Node.Name n) at) pos pending.old)
+          (assign_at (expr_at (Node.Name n) at)
+          (expr_at (Node.Bin by (expr_at (Node.Name n) at) (number_at 1 pos)) pos) pos),
+    ) }
 {
     let old = add_fresh(alloc, t, name_at(n, at), pos, pending)?;
     let value = binary_at(alloc, by, name_at(n, at), number_at(1, pos), pos)?;

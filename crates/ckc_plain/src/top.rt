@@ -97,7 +97,7 @@ fn judged(alloc: Global, known: &mut Integers, tree: &Tree<Name, ()>) -> Result<
 /// The text without effects in its expressions: calls, assignments and increments within expressions become statements
 /// of their own. Or E408 at the first effect in walk order that stands where it may not, or cannot be taken out.
 pub fn plain(alloc: Global, named: NamedText) -> Result<NamedText, Fault>
-    ensures exact { Exact plaining named.entry result }
+    ensures exact { Exact plaining named result }
 {
     plained(alloc, named)
 }
@@ -119,7 +119,7 @@ fn plained(alloc: Global, named: NamedText) -> Result<NamedText, Fault>
 /// The text, if its tree keeps the limits of a text (E202 to E205). One that does not is left to the end of the process.
 #[tactic(auto, using(crate::proofs::Relimiting::limits_kept, crate::proofs::Relimiting::limits_broken))]
 pub fn limited(named: NamedText) -> Result<NamedText, Fault>
-    ensures exact { Exact relimiting named.entry result }
+    ensures exact { Exact relimiting named result }
 {
     match fits(&named.tree) {
         Ok(()) => Ok(named),
@@ -132,10 +132,7 @@ pub fn limited(named: NamedText) -> Result<NamedText, Fault>
 
 /// All phases from a tree of spellings to the plain tree within the limits: names (E301 to E304), effects (E408), and
 /// the limits again (E202 to E205).
-pub fn resolve_plainly<'a>(
-    alloc: Global,
-    tree: Tree<Spelling<'a>, ()>,
-) -> Result<NamedText, Fault>
+pub fn resolve_plainly<'a>(alloc: Global, tree: Tree<Spelling<'a>, ()>) -> Result<NamedText, Fault>
     ensures exact { Exact resolving tree.entry result }
 {
     let named = resolve(alloc, tree)?;

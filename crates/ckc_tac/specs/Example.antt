@@ -30,7 +30,7 @@ abbrev pub example_callee : TacFunc
 example_callee = record {
   params = 1;
   regs = 2;
-  blocks = record { ops = Const 1 0x02000008 ∷ Store Word (Register 1) (Register 0) ∷ []; end = Return (Register 0) } ∷ [];
+  blocks = record { ops = Const 1 0x02000008 ∷ Store Word (Register 1) 0 (Register 0) ∷ []; end = Return (Register 0) } ∷ [];
 }
 
 abbrev pub example : Tac

@@ -1,5 +1,5 @@
 -- What single operations of three-address code do, over registers that are read by a function.
-use Rattle.std.specs.Prelude.{ℕ, List, [], ◌∷◌, Option, Some, None, option_and_then}
+use Rattle.std.specs.Prelude.{ℕ, ◌+◌, ◌%◌, ◌^◌, ◌==◌, if◌then◌else◌, List, [], ◌∷◌, Option, Some, None, option_and_then}
 use Rattle.std.specs.Option.{option_map}
 use Rattle.ckc_base.specs.declared.arithmetic.BinOp.{BinOp}
 use Rattle.ckc_base.specs.declared.arithmetic.BinOp.TheVariants as binary
@@ -33,6 +33,10 @@ compared comparison (Some x) (Some y) = Some (applied (operation_of comparison) 
 compared comparison (Some x) None = None
 compared comparison None b = None
 
+-- the address so many bytes past another one, modulo 2 ^ 32
+abbrev pub at_offset : ℕ → ℕ → ℕ
+at_offset p n = if n == 0 then p else (p + n) % 2 ^ 32
+
 -- what an operation that is no call comes to; one that reads a register without a value is lost
 abbrev pub outcome_of : Values → World → TacOp → Outcome
 outcome_of registers world (Const t n) = Gives [] t n world
@@ -41,10 +45,10 @@ outcome_of registers world (Bin op t a b) =
     with_value (value_in registers a) (λ x. with_value (value_in registers b) (λ y. Gives [] t (applied op x y) world))
 outcome_of registers world (High is_signed t a b) =
     with_value (value_in registers a) (λ x. with_value (value_in registers b) (λ y. Gives [] t (high_product is_signed x y) world))
-outcome_of registers world (Load width t a) =
-    with_value (value_in registers a) (λ p. with_value (value_at width world.memory p) (λ x. Gives [] t x world))
-outcome_of registers world (Store width a b) =
-    with_value (value_in registers a) (λ p. with_value (value_in registers b) (stores world width p))
+outcome_of registers world (Load width t a n) =
+    with_value (value_in registers a) (λ p. with_value (value_at width world.memory (at_offset p n)) (λ x. Gives [] t x world))
+outcome_of registers world (Store width a n b) =
+    with_value (value_in registers a) (λ p. with_value (value_in registers b) (stores world width (at_offset p n)))
 outcome_of registers world (Check check at comparison a b) =
     with_value (compared comparison (value_in registers a) (value_in registers b)) (checks world check at)
 outcome_of registers world (Call target callee arguments at) = Lost

@@ -1,5 +1,5 @@
 -- Which three-address code names only what is there.
-use Rattle.std.specs.Prelude.{◌≡◌, ℕ, ◌≤◌, ◌<◌, ◌^◌, List, length, slice_get, Option, Some, None, All, IfSome}
+use Rattle.std.specs.Prelude.{◌≡◌, ℕ, ◌+◌, ◌%◌, ◌≤◌, ◌<◌, ◌^◌, List, length, slice_get, Option, Some, None, All, IfSome}
 use Rattle.ckc_base.specs.declared.places.Pos.{Pos}
 use Rattle.ckc_tac.specs.declared.code.Tac.{Tac}
 use Rattle.ckc_tac.specs.declared.code.TacFunc.{TacFunc}
@@ -24,15 +24,19 @@ abbrev pub IsOperandOver : ℕ → Operand → Type 0
 IsOperandOver regs (Register r) = r < regs
 IsOperandOver regs (Number n) = n < 2 ^ 32
 
--- every register is one of so many, every number is a word, and a call names a function that is there, with as many
--- arguments as it has parameters
+-- a word whose signed view is from -2,048 to 2,047
+abbrev pub IsOffset : ℕ → Type 0
+IsOffset n = (n + 2048) % 2 ^ 32 < 4096
+
+-- every register is one of so many, every number is a word, every offset is a small one, and a call names a function
+-- that is there, with as many arguments as it has parameters
 abbrev pub IsOpOver : List TacFunc → ℕ → TacOp → Type 0
 IsOpOver functions regs (Const t n) = (t < regs) × (n < 2 ^ 32)
 IsOpOver functions regs (Copy t a) = (t < regs) × (a < regs)
 IsOpOver functions regs (Bin op t a b) = (t < regs) × IsOperandOver regs a × IsOperandOver regs b
 IsOpOver functions regs (High is_signed t a b) = (t < regs) × IsOperandOver regs a × IsOperandOver regs b
-IsOpOver functions regs (Load width t a) = (t < regs) × IsOperandOver regs a
-IsOpOver functions regs (Store width a b) = IsOperandOver regs a × IsOperandOver regs b
+IsOpOver functions regs (Load width t a n) = (t < regs) × IsOperandOver regs a × IsOffset n
+IsOpOver functions regs (Store width a n b) = IsOperandOver regs a × IsOffset n × IsOperandOver regs b
 IsOpOver functions regs (Check check at comparison a b) = IsPlace at × IsOperandOver regs a × IsOperandOver regs b
 IsOpOver functions regs (Call target callee arguments at) =
     IfSome target (λ t. t < regs) × HasParams (length arguments) (slice_get functions callee)

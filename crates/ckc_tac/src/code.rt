@@ -34,7 +34,7 @@ pub enum Operand {
 /// An operation. A register that is written comes first, then what is read.
 ///
 /// - `High` is the upper word of a product, signed if the flag says so.
-/// - `Store` has the address, then the value.
+/// - `Load` and `Store` have an address, then an offset, and `Store` then the value.
 /// - `Check` stops unless a comparison of its two operands holds.
 /// - `Call` has the number of the function, the registers of the arguments, and the place at which a call too deep
 ///   stops.
@@ -45,8 +45,8 @@ pub enum TacOp {
     Copy(u32, u32),
     Bin(BinOp, u32, Operand, Operand),
     High(bool, u32, Operand, Operand),
-    Load(Width, u32, Operand),
-    Store(Width, Operand, Operand),
+    Load(Width, u32, Operand, u32),
+    Store(Width, Operand, u32, Operand),
     Check(Check, Pos, Comparison, Operand, Operand),
     Call(Option<u32>, u32, Seq<u32>, Pos),
     Get(u32),

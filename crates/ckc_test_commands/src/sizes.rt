@@ -12,7 +12,7 @@ fn size_of_op(op: &TacOp) -> Option<u32>
         TacOp::Const(_, _) => Some(5),
         TacOp::Copy(_, _) | TacOp::Get(_) => Some(6),
         TacOp::Bin(_, _, _, _) | TacOp::High(_, _, _, _) => Some(11),
-        TacOp::Load(_, _, _) | TacOp::Store(_, _, _) | TacOp::Put(_) => Some(7),
+        TacOp::Load(_, _, _, _) | TacOp::Store(_, _, _, _) | TacOp::Put(_) => Some(7),
         TacOp::Check(_, _, _, a, b) => Some(size_of_operand(*a) + size_of_operand(*b) + 10),
         TacOp::Alloc(_, _, _) => Some(32),
         TacOp::Call(_, _, args, _) => size_of_call(args.len()),

@@ -340,7 +340,7 @@ k_called s es h = (ap (λ (f : Form). f.call) (called_is s es h), ap (λ (f : Fo
 k_calloc : (w : TypeTree) (e : Expr) (u : TypeTree) (pos : Pos) → C e → K (expr_at (node.Calloc w e u) pos)
 k_calloc w e u pos h =
     let is : expr_form (expr_at (node.Calloc w e u) pos) ≡ record { inner = false; right = (expr_form e).inner; call = (expr_form e).inner } =
-        formed (Node-F.Calloc w e u) _ pos (node.rolls-Calloc w e u) in
+    formed (Node-F.Calloc w e u) _ pos (node.rolls-Calloc w e u) in
     (ap (λ (f : Form). f.call) is ∙ h.0, ap (λ (f : Form). f.right) is ∙ h.0)
 
 c_literal : (k : TokenKind) (pos : Pos) → C (expr_at (literal k) pos)

@@ -1,6 +1,6 @@
 -- The lines that are emitted for each piece of placed code, each in front of the lines that follow it. The code is
 -- proved against these; what they come to is said of the machine that runs them (specs/Promise.antt).
-use Rattle.std.specs.Prelude.{ℕ, ◌+◌, ◌-◌, ◌*◌, ◌%◌, ◌^◌, ◌==◌, ◌&&◌, ◌||◌, not, Bool, true, false, if◌then◌else◌, pos, List, ◌∷◌}
+use Rattle.std.specs.Prelude.{ℕ, ◌+◌, ◌-◌, ◌*◌, ◌%◌, ◌^◌, ◌==◌, ◌&&◌, ◌||◌, not, Bool, true, false, if◌then◌else◌, ℤ, pos, List, ◌∷◌}
 use Rattle.std.specs.Int.{w32, trailing_zeros}
 use Rattle.ckc_base.specs.declared.arithmetic.BinOp.{BinOp}
 use Rattle.ckc_base.specs.declared.arithmetic.BinOp.TheVariants as op
@@ -25,6 +25,7 @@ use Rattle.ckc_asm_lines.specs.declared.lines.Line.{Line}
 use Rattle.ckc_asm_lines.specs.declared.lines.Line.TheVariants.{Plain}
 use Rattle.ckc_tac.specs.declared.code.Comparison.{Comparison}
 use Rattle.ckc_tac.specs.declared.code.Comparison.TheVariants as comparison
+use Rattle.ckc_tac.specs.Operations.{at_offset}
 use Rattle.ckc_frame.specs.declared.code.Place.{Place}
 use Rattle.ckc_frame.specs.declared.code.Place.TheVariants as place
 unfoldable pub use Rattle.ckc_emit_templates.specs.code.Templates.{upper_of, lower_of}
@@ -265,17 +266,39 @@ abbrev pub store_op : Width → StoreOp
 store_op Byte = Sb
 store_op Word = Sw
 
-abbrev pub data_load_lines : Width → Place → PlacedOperand → List Line → List Line
-data_load_lines width t a rest =
-    operand_lines a 5
-    (Plain (Load (load_op width) (source_of t 5) (register_with a 5) (pos 0)) ∷
+-- ---- addresses with an offset
+
+-- the upper bits of a number are set, if there are some
+abbrev pub upper_lines : ℕ → ℕ → List Line → List Line
+upper_lines v scratch rest =
+    if upper_of v == 0 then rest else Plain (Lui scratch (upper_of v)) ∷ rest
+
+abbrev pub address_lines : PlacedOperand → (offset scratch : ℕ) → List Line → List Line
+address_lines (At p) offset scratch rest = read_lines p scratch rest
+address_lines (Number n) offset scratch rest = upper_lines (at_offset n offset) scratch rest
+
+-- the register from which an instruction goes on by `rest_of`
+abbrev pub base_with : PlacedOperand → (offset scratch : ℕ) → ℕ
+base_with (At p) offset scratch = source_of p scratch
+base_with (Number n) offset scratch = if upper_of (at_offset n offset) == 0 then 0 else scratch
+
+abbrev pub rest_of : PlacedOperand → (offset : ℕ) → ℤ
+rest_of (At p) offset = lower_of offset
+rest_of (Number n) offset = lower_of (at_offset n offset)
+
+abbrev pub data_load_lines : Width → Place → PlacedOperand → (offset : ℕ) → List Line → List Line
+data_load_lines width t a offset rest =
+    address_lines a offset 5
+    (Plain (Load (load_op width) (source_of t 5) (base_with a offset 5) (rest_of a offset)) ∷
     write_lines t 5 rest)
 
-abbrev pub data_store_lines : Width → PlacedOperand → PlacedOperand → List Line → List Line
-data_store_lines width a b rest =
-    operand_lines a 5
+abbrev pub data_store_lines : Width → PlacedOperand → (offset : ℕ) → PlacedOperand → List Line
+    → List Line
+data_store_lines width a offset b rest =
+    address_lines a offset 5
     (operand_lines b 6
-    (Plain (Store (store_op width) (register_with a 5) (register_with b 6) (pos 0)) ∷ rest))
+    (Plain (Store (store_op width) (base_with a offset 5) (register_with b 6) (rest_of a offset)) ∷
+    rest))
 
 abbrev pub test_lines : Check → Pos → Comparison → PlacedOperand → PlacedOperand → List Line
     → List Line

@@ -1,6 +1,6 @@
 -- The lines of blocks, functions and programs. Labels are numbers: 0 is the start, then each function has one, and
 -- after it one for each of its blocks.
-use Rattle.std.specs.Prelude.{ℕ, ◌+◌, ◌==◌, nat_lt, not, ◌&&◌, if◌then◌else◌, Bool, true, false, List, [], ◌∷◌, ◌++◌, length, slice_get, sum_by, take, Option, Some, None, pos, ◌≡◌, ◌<◌, map, slice_index}
+use Rattle.std.specs.Prelude.{ℕ, ◌+◌, ◌==◌, nat_lt, not, ◌&&◌, ◌||◌, if◌then◌else◌, Bool, true, false, List, [], ◌∷◌, ◌++◌, length, slice_get, sum_by, take, Option, Some, None, pos, ◌≡◌, ◌<◌, map, slice_index}
 use Rattle.ckc_rv_operations.specs.declared.operations.BranchOp.{BranchOp}
 use Rattle.ckc_rv_operations.specs.declared.operations.BranchOp.TheVariants.{Beq, Bne, Bge, Bgeu}
 use Rattle.ckc_rv.specs.declared.instructions.Instr.TheVariants.{Jalr, Branch as BranchInstr}
@@ -57,10 +57,10 @@ op_lines functions f n (Bin op t a b) rest =
     bin_lines op (place_at f.homes t) (operand_at f.homes a) (operand_at f.homes b) rest
 op_lines functions f n (High is_signed t a b) rest =
     high_lines is_signed (place_at f.homes t) (operand_at f.homes a) (operand_at f.homes b) rest
-op_lines functions f n (Load width t a) rest =
-    data_load_lines width (place_at f.homes t) (operand_at f.homes a) rest
-op_lines functions f n (Store width a b) rest =
-    data_store_lines width (operand_at f.homes a) (operand_at f.homes b) rest
+op_lines functions f n (Load width t a offset) rest =
+    data_load_lines width (place_at f.homes t) (operand_at f.homes a) offset rest
+op_lines functions f n (Store width a offset b) rest =
+    data_store_lines width (operand_at f.homes a) offset (operand_at f.homes b) rest
 op_lines functions f n (Check check at c a b) rest =
     test_lines check at c (operand_at f.homes a) (operand_at f.homes b) rest
 op_lines functions f n (Call target callee arguments at) rest =
@@ -138,55 +138,125 @@ is_passing None = true
 abbrev pub falls_through : List TacBlock → (next b : ℕ) → Bool
 falls_through blocks next b = b == next && not (is_passing (slice_get blocks b))
 
-abbrev pub pass_lines : (near : Bool) → List TacBlock → (first next b : ℕ) → List Line → List Line
-pass_lines near blocks first next b rest =
-    if falls_through blocks next b then rest else jump_line near (first + b) ∷ rest
+-- an operation that computes, copies, loads or checks
+abbrev pub is_plain : TacOp → Bool
+is_plain (Const t v) = true
+is_plain (Copy t a) = true
+is_plain (Bin op t a b) = true
+is_plain (High is_signed t a b) = true
+is_plain (Load width t a offset) = true
+is_plain (Check check at c a b) = true
+is_plain op = false
+
+abbrev pub are_plain : List TacOp → Bool
+are_plain [] = true
+are_plain (op ∷ ops) = is_plain op && are_plain ops
+
+-- a block that branches after at most five such operations
+abbrev pub is_test : List TacOp → TacEnd → Bool
+is_test ops (Branch c x y one two) = nat_lt (length ops) 6 && are_plain ops
+is_test ops (Jump to) = false
+is_test ops (Return a) = false
+
+-- the branch of a block
+abbrev pub fork_lines : (near : Bool) → PlacedFunc → (first next : ℕ) → TacEnd → List Line → List Line
+fork_lines near f first next (Branch c x y one two) rest =
+    branch_lines near c (operand_at f.homes x) (operand_at f.homes y) first next one two rest
+fork_lines near f first next (Jump to) rest = rest
+fork_lines near f first next (Return a) rest = rest
+
+-- A jump to a block. In a function in which blocks are copied, a copy of a block that tests stands in its place.
+abbrev pub lead_lines : (near turned : Bool) → List PlacedFunc → PlacedFunc → (first next b : ℕ)
+    → List TacOp → TacEnd → List Line → List Line
+lead_lines near turned functions f first next b ops end rest =
+    if turned && is_test ops end then ops_lines functions f 0 ops (fork_lines near f first next end rest)
+    else jump_line near (first + b) ∷ rest
+
+abbrev pub away_lines : (near turned : Bool) → List PlacedFunc → PlacedFunc → (first next b : ℕ)
+    → Option TacBlock → List Line → List Line
+away_lines near turned functions f first next b (Some block) rest =
+    lead_lines near turned functions f first next b block.ops block.end rest
+away_lines near turned functions f first next b None rest = jump_line near (first + b) ∷ rest
+
+abbrev pub pass_lines : (near turned : Bool) → List PlacedFunc → PlacedFunc → (first next b : ℕ)
+    → List Line → List Line
+pass_lines near turned functions f first next b rest =
+    if falls_through f.code.blocks next b then rest
+    else away_lines near turned functions f first next b (slice_get f.code.blocks b) rest
 
 -- back to the caller, with a value in x10
 abbrev pub return_lines : PlacedOperand → List Line → List Line
 return_lines a rest = take_lines 10 a (load_lines 1 2 0 (Plain (Jalr 0 1 (pos 0)) ∷ rest))
 
-abbrev pub end_lines : (near : Bool) → PlacedFunc → (first next : ℕ) → TacEnd → List Line
-    → List Line
-end_lines near f first next (Jump b) rest = pass_lines near f.code.blocks first next b rest
-end_lines near f first next (Branch c a b one two) rest =
+abbrev pub end_lines : (near turned : Bool) → List PlacedFunc → PlacedFunc → (first next : ℕ) → TacEnd
+    → List Line → List Line
+end_lines near turned functions f first next (Jump b) rest =
+    pass_lines near turned functions f first next b rest
+end_lines near turned functions f first next (Branch c a b one two) rest =
     branch_lines near c (operand_at f.homes a) (operand_at f.homes b) first next one two rest
-end_lines near f first next (Return a) rest = return_lines (operand_at f.homes a) rest
+end_lines near turned functions f first next (Return a) rest = return_lines (operand_at f.homes a) rest
 
 -- ---- blocks, functions, programs
 
 -- a block before which so many calls stand in the function
-abbrev pub block_lines : (near : Bool) → List PlacedFunc → PlacedFunc → (first b calls_before : ℕ)
-    → TacBlock → List Line → List Line
-block_lines near functions f first b n block rest =
+abbrev pub block_lines : (near turned : Bool) → List PlacedFunc → PlacedFunc
+    → (first b calls_before : ℕ) → TacBlock → List Line → List Line
+block_lines near turned functions f first b n block rest =
     Label (first + b) ∷ ops_lines functions f n block.ops
-    (end_lines near f first (b + 1) block.end rest)
+    (end_lines near turned functions f first (b + 1) block.end rest)
 
 -- the blocks from one on
-abbrev pub blocks_lines : (near : Bool) → List PlacedFunc → PlacedFunc
+abbrev pub blocks_lines : (near turned : Bool) → List PlacedFunc → PlacedFunc
     → (first b calls_before : ℕ) → List TacBlock → List Line → List Line
-blocks_lines near functions f first b n [] rest = rest
-blocks_lines near functions f first b n (block ∷ blocks) rest =
-    block_lines near functions f first b n block
-    (blocks_lines near functions f first (b + 1) (n + calls_in block) blocks rest)
+blocks_lines near turned functions f first b n [] rest = rest
+blocks_lines near turned functions f first b n (block ∷ blocks) rest =
+    block_lines near turned functions f first b n block
+    (blocks_lines near turned functions f first (b + 1) (n + calls_in block) blocks rest)
 
--- the lines of a function, which stores the return address first; jumps and branches to its blocks are near or far
-abbrev pub body_lines : (near : Bool) → List PlacedFunc → PlacedFunc → (label : ℕ) → List Line
-body_lines near functions f label =
+-- The lines of a function, which stores the return address first. Jumps and branches to its blocks are near or far, and
+-- blocks that test may be copied.
+abbrev pub body_lines : (near turned : Bool) → List PlacedFunc → PlacedFunc → (label : ℕ) → List Line
+body_lines near turned functions f label =
     Label label ∷ store_lines 1 2 0
-    (blocks_lines near functions f (label + 1) 0 0 f.code.blocks [])
+    (blocks_lines near turned functions f (label + 1) 0 0 f.code.blocks [])
 
 -- lines that take less than 4,096 bytes: a branch leads from each of them to each other
 abbrev pub are_near : List Line → Bool
 are_near lines = nat_lt (sum_by size_of lines) 4096
 
--- the jumps and branches of a function are near if its lines are short with them
+-- Bytes that operations and blocks may take in any case, so many beside, but no more than 4,096.
+abbrev pub capped : ℕ → ℕ
+capped n = if nat_lt n 4096 then n else 4096
+
+abbrev pub op_room : TacOp → ℕ
+op_room (Check check at c a b) = 40
+op_room (Call target callee arguments at) = 256
+op_room (Alloc t a size) = 128
+op_room op = 20
+
+abbrev pub ops_room : ℕ → List TacOp → ℕ
+ops_room room [] = room
+ops_room room (op ∷ ops) = ops_room (capped (room + op_room op)) ops
+
+abbrev pub room_from : ℕ → List TacBlock → ℕ
+room_from room [] = room
+room_from room (block ∷ blocks) = room_from (capped (ops_room room block.ops + 8)) blocks
+
+-- Blocks are copied if the lines of the function are near with the copies and take no more than it may.
+unfoldable pub is_turned : List PlacedFunc → PlacedFunc → (label : ℕ) → Bool
+is_turned functions f label =
+    nat_lt (sum_by size_of (body_lines true true functions f label)) (room_from 0 f.code.blocks)
+
+-- else its jumps and branches are near if its lines are short with them
+unfoldable pub has_near : List PlacedFunc → PlacedFunc → (label : ℕ) → Bool
+has_near functions f label = are_near (body_lines true false functions f label)
+
 unfoldable pub is_near : List PlacedFunc → PlacedFunc → (label : ℕ) → Bool
-is_near functions f label = are_near (body_lines true functions f label)
+is_near functions f label = is_turned functions f label || has_near functions f label
 
 abbrev pub function_lines : List PlacedFunc → PlacedFunc → (label : ℕ) → List Line → List Line
 function_lines functions f label rest =
-    body_lines (is_near functions f label) functions f label ++ rest
+    body_lines (is_near functions f label) (is_turned functions f label) functions f label ++ rest
 
 abbrev pub functions_lines : List PlacedFunc → (label : ℕ) → List PlacedFunc → List Line → List Line
 functions_lines functions label [] rest = rest

@@ -3,6 +3,7 @@ use Rattle.std.specs.Prelude.{ℕ, ◌+◌, max, ◌==◌, ◌&&◌, if◌then�
 use Rattle.ckc_base.specs.declared.arithmetic.BinOp.{BinOp}
 use Rattle.ckc_base.specs.declared.arithmetic.BinOp.TheVariants as binary
 use Rattle.ckc_core.specs.Code.{Expr, Const, Local, Load, Bin, High, Code, End, Set, Store, Check, Call, Get, Put, Alloc, If, Loop, Break, Continue, Return}
+use Rattle.ckc_base.specs.declared.arithmetic.Width.{Width}
 use Rattle.ckc_tac.specs.declared.code.Comparison.{Comparison}
 use Rattle.ckc_tac.specs.declared.code.Comparison.TheVariants.{LtS, LtU, Eq, Ne}
 use Rattle.ckc_tac.specs.declared.code.Operand.{Operand}
@@ -11,18 +12,23 @@ use Rattle.ckc_tac.specs.declared.code.TacOp.{TacOp}
 use Rattle.ckc_tac.specs.declared.code.TacOp.TheVariants as op
 use Rattle.ckc_tac.specs.declared.code.TacEnd.{TacEnd}
 use Rattle.ckc_tac.specs.declared.code.TacEnd.TheVariants as ends
+use Rattle.ckc_lower.specs.code.Terms.{Term, term_of, base_of, offset_of}
+use Rattle.ckc_lower.specs.code.Terms as term
 use Rattle.ckc_lower.specs.declared.builder.Builder.{Builder}
 use Rattle.ckc_lower.specs.declared.builder.Targets.{Targets}
 
 -- ---- expressions
 
 -- the first temporary that is free beside the value of an expression, which was computed from t on
+abbrev pub term_free : Term → ℕ → ℕ
+term_free (term.Const n) t = t
+term_free (term.Local x) t = t
+term_free (term.Load width a n) t = t + 1
+term_free (term.Bin op a b) t = t + 1
+term_free (term.High is_signed a b) t = t + 1
+
 abbrev pub free_from : Expr → ℕ → ℕ
-free_from (Const n) t = t
-free_from (Local x) t = t
-free_from (Load width a) t = t + 1
-free_from (Bin op a b) t = t + 1
-free_from (High is_signed a b) t = t + 1
+free_from e t = term_free (term_of e) t
 
 -- the register that an operation writes: the one that is wanted, or the temporary t
 abbrev pub target_of : Option ℕ → ℕ → ℕ
@@ -30,14 +36,17 @@ target_of (Some d) t = d
 target_of None t = t
 
 -- where the value of an expression is
+abbrev pub term_operand : Term → Option ℕ → ℕ → Operand
+term_operand (term.Const n) (Some d) t = Register d
+term_operand (term.Const n) None t = Number n
+term_operand (term.Local x) (Some d) t = Register d
+term_operand (term.Local x) None t = Register x
+term_operand (term.Load width a n) want t = Register (target_of want t)
+term_operand (term.Bin op a b) want t = Register (target_of want t)
+term_operand (term.High is_signed a b) want t = Register (target_of want t)
+
 abbrev pub operand_of : Expr → Option ℕ → ℕ → Operand
-operand_of (Const n) (Some d) t = Register d
-operand_of (Const n) None t = Number n
-operand_of (Local x) (Some d) t = Register d
-operand_of (Local x) None t = Register x
-operand_of (Load width a) want t = Register (target_of want t)
-operand_of (Bin op a b) want t = Register (target_of want t)
-operand_of (High is_signed a b) want t = Register (target_of want t)
+operand_of e want t = term_operand (term_of e) want t
 
 -- whether an operation gives the same with its operands exchanged
 abbrev pub is_even : BinOp → Bool
@@ -67,19 +76,22 @@ with_temporary (Some d) t b = b
 with_temporary None t b = record b { regs = max b.regs (t + 1) }
 
 -- the value of an expression is computed into the wanted register, or to where `operand_of` tells
+abbrev pub with_term : Term → Option ℕ → ℕ → Builder → Builder
+with_term (term.Const n) (Some d) t b = with_op b (op.Const d n)
+with_term (term.Const n) None t b = b
+with_term (term.Local x) (Some d) t b = with_op b (op.Copy d x)
+with_term (term.Local x) None t b = b
+with_term (term.Load width a n) want t b =
+    with_op (with_temporary want t (with_term a None t b)) (op.Load width (target_of want t) (term_operand a None t) n)
+with_term (term.Bin o p q) want t b =
+    with_op (with_temporary want t (with_term q None (term_free p t) (with_term p None t b)))
+    (bin_of o (target_of want t) (term_operand p None t) (term_operand q None (term_free p t)))
+with_term (term.High is_signed p q) want t b =
+    with_op (with_temporary want t (with_term q None (term_free p t) (with_term p None t b)))
+    (op.High is_signed (target_of want t) (term_operand p None t) (term_operand q None (term_free p t)))
+
 abbrev pub with_value : Expr → Option ℕ → ℕ → Builder → Builder
-with_value (Const n) (Some d) t b = with_op b (op.Const d n)
-with_value (Const n) None t b = b
-with_value (Local x) (Some d) t b = with_op b (op.Copy d x)
-with_value (Local x) None t b = b
-with_value (Load width a) want t b =
-    with_op (with_temporary want t (with_value a None t b)) (op.Load width (target_of want t) (operand_of a None t))
-with_value (Bin o p q) want t b =
-    with_op (with_temporary want t (with_value q None (free_from p t) (with_value p None t b)))
-    (bin_of o (target_of want t) (operand_of p None t) (operand_of q None (free_from p t)))
-with_value (High is_signed p q) want t b =
-    with_op (with_temporary want t (with_value q None (free_from p t) (with_value p None t b)))
-    (op.High is_signed (target_of want t) (operand_of p None t) (operand_of q None (free_from p t)))
+with_value e want t b = with_term (term_of e) want t b
 
 -- the register of an argument: that of a local, or the temporary t
 abbrev pub register_of : Expr → ℕ → ℕ
@@ -207,17 +219,22 @@ abbrev pub left : (fresh : Bool) → Option ℕ → Builder → Builder
 left fresh (Some to) b = with_jump fresh to b
 left fresh None b = with_end b (ends.Return (Number 0))
 
-abbrev pub stored : ℕ → Expr → Expr → (Operand → Operand → TacOp) → Builder → Builder
-stored t a e o b =
-    with_op (with_value e None (free_from a t) (with_value a None t b))
-    (o (operand_of a None t) (operand_of e None (free_from a t)))
+-- two values are computed, and what reads both comes next
+abbrev pub stored : ℕ → (x y : Term) → (Operand → Operand → TacOp) → Builder → Builder
+stored t x y o b =
+    with_op (with_term y None (term_free x t) (with_term x None t b))
+    (o (term_operand x None t) (term_operand y None (term_free x t)))
+
+-- the store of a value at an address
+abbrev pub stores_at : Width → Expr → Operand → Operand → TacOp
+stores_at width a p v = op.Store width p (offset_of (term_of a)) v
 
 abbrev pub used : ℕ → Expr → (Operand → TacOp) → Builder → Builder
 used t e o b = with_op (with_value e None t b) (o (operand_of e None t))
 
 -- both sides of a test are computed, and what compares them comes next
 abbrev pub compares : ℕ → Test → (Comparison → Operand → Operand → TacOp) → Builder → Builder
-compares t s o b = stored t s.left s.right (o s.comparison) b
+compares t s o b = stored t (term_of s.left) (term_of s.right) (o s.comparison) b
 
 -- the branch of a test to one of two blocks
 abbrev pub branch_of : Test → (t one two : ℕ) → TacEnd
@@ -273,7 +290,8 @@ targets_of body step rest exit loop head = record {
 abbrev pub built : ℕ → (fresh : Bool) → Code → Option ℕ → Option Targets → Builder → Builder
 built t fresh End exit loop b = left fresh exit b
 built t fresh (Set x e rest) exit loop b = built t false rest exit loop (with_value e (Some x) t b)
-built t fresh (Store width a e rest) exit loop b = built t false rest exit loop (stored t a e (op.Store width) b)
+built t fresh (Store width a e rest) exit loop b =
+    built t false rest exit loop (stored t (base_of (term_of a)) (term_of e) (stores_at width a) b)
 built t fresh (Check check at e rest) exit loop b =
     built t false rest exit loop (compares t (checked_test e) (op.Check check at) b)
 built t fresh (Call target callee es at rest) exit loop b =

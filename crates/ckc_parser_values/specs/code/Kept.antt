@@ -236,13 +236,13 @@ abbrev pub allocation_at : Spelled → Allocated → Expr
 allocation_at name a = expr_at (node.Calloc a.element a.count a.sized) name.pos
 
 abbrev pub unary_of : NameRest → Spelled → Expr
-unary_of n name = with_increment (posted (called_or_named name n.call) n.posts) n.increment
+unary_of more name = with_increment (posted (called_or_named name more.call) more.posts) more.increment
 
 abbrev pub rested : Expr → Rest → Expr
 rested e r = finished e r.steps r.arms r.setting
 
 abbrev pub value_expr : ValueRest → Spelled → Expr
-value_expr (going n r) name = rested (unary_of n name) r
+value_expr (going more r) name = rested (unary_of more name) r
 value_expr (allocating a) name = allocation_at name a
 
 abbrev pub less_expr : LessRest → Spelled → Pos → Expr
@@ -270,7 +270,7 @@ bounds_at (between e f) pos = bounds.Between e f pos
 
 abbrev pub unknown_rest : UnknownRest → Spelled → BoundsRest
 unknown_rest ended name = unknown
-unknown_rest (going_on n r e) name = between (rested (unary_of n name) r) e
+unknown_rest (going_on more r e) name = between (rested (unary_of more name) r) e
 
 abbrev pub head_item : HeadRest → Option Mode → TypeTree → Spelled → Item
 head_item h m result name = function_of (record { mode = m; result = result; name = name.text; params = h.params; bounds = h.bounds; pos = name.pos }) h.body
@@ -403,10 +403,10 @@ abbrev pub put_rest : Rest → Held → Held
 put_rest r w = record w { steps = r.steps ∷ w.steps; arms = r.arms ∷ w.arms; settings = r.setting ∷ w.settings }
 
 abbrev pub put_name : NameRest → Held → Held
-put_name n w = record w { calls = n.call ∷ w.calls; posts = n.posts ∷ w.posts; increments = n.increment ∷ w.increments }
+put_name more w = record w { calls = more.call ∷ w.calls; posts = more.posts ∷ w.posts; increments = more.increment ∷ w.increments }
 
 abbrev pub put_value : ValueRest → Held → Held
-put_value (going n r) w = mark form.First (put_name n (put_rest r w))
+put_value (going more r) w = mark form.First (put_name more (put_rest r w))
 put_value (allocating a) w = mark form.Second (put_allocated a w)
 
 abbrev pub put_less : LessRest → Held → Held
@@ -440,7 +440,7 @@ put_bounds (between e f) w = record w { forms = form.Second ∷ w.forms; exprs =
 
 abbrev pub put_unknown : UnknownRest → Held → Held
 put_unknown ended w = mark form.First w
-put_unknown (going_on n r e) w = mark form.Second (put_name n (put_rest r (record w { exprs = e ∷ w.exprs })))
+put_unknown (going_on more r e) w = mark form.Second (put_name more (put_rest r (record w { exprs = e ∷ w.exprs })))
 
 abbrev pub put_head : HeadRest → Held → Held
 put_head h w = record w { decl_lists = h.params ∷ w.decl_lists; bounds = h.bounds ∷ w.bounds; parts = h.body ∷ w.parts }
@@ -639,10 +639,10 @@ close g.Count (c, (a, (e, (b, z)))) = bounds.Count e c.pos
 close g.ByteCount (c, (a, (e, (b, z)))) = bounds.ByteCount e c.pos
 close g.BoundsOf (b, (a, (r, z))) = bounds_at r b.pos
 close g.Unknown (u, (r, z)) = unknown_rest r u
-close g.BetweenNamed (name, (n, (r, (d, (e, (b, z)))))) = between (rested (unary_of n name) r) e
+close g.BetweenNamed (name, (more, (r, (d, (e, (b, z)))))) = between (rested (unary_of more name) r) e
 close g.Between (f, (r, (d, (e, (b, z))))) = between (rested f r) e
 close g.UnknownEnd (b, z) = ended
-close g.UnknownName (n, (r, (d, (e, (b, z))))) = going_on n r e
+close g.UnknownName (more, (r, (d, (e, (b, z))))) = going_on more r e
 close g.EndBlock (b, z) = []
 close g.Locals (ds, (ss, z)) = locals ds ++ ss
 close g.Stmts (s, (ss, z)) = s ∷ ss
@@ -653,7 +653,7 @@ close g.LocalName (ps, (name, (b, (i, z)))) = slot_of ps name (record { length =
 close g.LocalInitial (e, (x, z)) = inits.One x
 close g.NoLocalInitial z = inits.Nothing
 close g.CallocValue (name, (x, z)) = value_expr x name
-close g.NamedValue (name, (n, (r, z))) = rested (unary_of n name) r
+close g.NamedValue (name, (more, (r, z))) = rested (unary_of more name) r
 close g.Value (f, (r, z)) = rested f r
 close g.CallocCall (a, (es, (ps, (i, (r, z))))) = going (record { call = Some es; posts = ps; increment = i }) r
 close g.CallocLess (a, (x, z)) = less_rest x a.pos
@@ -729,7 +729,7 @@ close g.Operator (a, z) = record { op = binary_op (kind_of_token a); pos = a.pos
 close g.Greater (a, (b, z)) = record { op = if is_second b then op.Shr else op.Gt; pos = a.pos }
 close g.Second (a, z) = form.Second
 close g.NoSecond z = form.First
-close g.Named (name, (n, z)) = unary_of n name
+close g.Named (name, (more, z)) = unary_of more name
 close g.NameRest (c, (ps, (i, z))) = record { call = c; posts = ps; increment = i }
 close g.CallRest (a, (es, z)) = Some es
 close g.NoCall z = None

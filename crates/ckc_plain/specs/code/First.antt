@@ -10,6 +10,11 @@ abbrev pub first : List Pos → Option Pos
 first [] = None
 first (p ∷ ps) = Some p
 
+-- the first of two places, of which the one goes before the other
+abbrev pub either : Option Pos → Option Pos → Option Pos
+either (Some p) b = Some p
+either None b = b
+
 -- the refused effects of a statement that may be left out, of statements, of declarations and of items
 abbrev pub in_part : Integers → Option NamedStmt → Bool → List Pos
 in_part known s barred = inside_if listed (λ t. in_stmt known t barred) s

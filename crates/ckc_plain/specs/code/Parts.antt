@@ -22,9 +22,11 @@ start_by false = 1
 
 -- `&&` or `||` with effects in the right operand
 abbrev pub choice_by : Bool → Pos → NamedExpr → NamedExpr → Pending → Pending → NamedExpr × Pending
-choice_by all pos a b inner p =
-    (local_at p.next pos, with_stmt (record (with_fresh integer.Int (number_at (start_by all) pos) pos p) { next = inner.next })
-        (chosen_by all a (block_at (inner.stmts ++ truth_at p.next b pos ∷ []) pos) pos))
+choice_by all pos a b inner p = (
+  local_at p.next pos,
+  with_stmt (record (with_fresh integer.Int (number_at (start_by all) pos) pos p) { next = inner.next })
+      (chosen_by all a (block_at (inner.stmts ++ truth_at p.next b pos ∷ []) pos) pos),
+)
 
 abbrev pub choice_at : TreeOp → Bool → Pos → NamedExpr → NamedExpr → Pending → Pending → NamedExpr × Pending
 choice_at o all pos a b inner p = after (choice o (start_by all) (chosen_by all) pos a (b, inner) p) (λ n q. (expr_at n pos, q))

@@ -2,7 +2,8 @@ use Rattle.std.proofs.Common.{◌+◌, refl, sym, ap, ◌∙◌, true, false, no
 use Rattle.ckc_core.specs.declared.code.CoreStmt.TheVariants as stmt
 use Rattle.ckc_core.specs.Code.{Code, Set, Store, Check, Call, Get, Put, Alloc, If, Loop, expr_of, code_of}
 use Rattle.ckc_tac.specs.declared.code.TacOp.TheVariants as op
-use Rattle.ckc_lower.specs.code.Built.{with_op, with_value, with_values, registers_of, stored, used, compares, checked_test, join_of, targets_of}
+use Rattle.ckc_lower.specs.code.Terms.{base_of, term_of}
+use Rattle.ckc_lower.specs.code.Built.{with_op, with_value, with_values, registers_of, stored, stores_at, used, compares, checked_test, join_of, targets_of}
 use Rattle.ckc_lower.proofs.Onward.{IsKeptFrom, go_on, set-of, store-of, check-of, call-of, get-of, put-of, alloc-of, if-of, loop-of, if-built, loop-built}
 use Rattle.ckc_lower.proofs.builder.Builder.+code.Goals.{in-Set+in_ok-value-in-Set, in-Store+in_ok-store-in-Store, in-Check+in_ok-check-in-Check, in-Call+in_ok-call-in-Call, in-Get+in_ok-op-in-Get, in-Put+in_ok-put-in-Put, in-Alloc+in_ok-allocate-in-Alloc, in-If+in_ok-join-in-If+in_ok-code-in-If+in_ok-code-in-If-2, in-Loop+in_ok-head-in-Loop+in_ok-here-in-Loop+in_ok-code-in-Loop+in_ok-code-in-Loop-2}
 use Rattle.ckc_lower.proofs.builder.Builder.+code.Goals as goal
@@ -15,7 +16,7 @@ loop-i-preserved t c =
     let done : IsKeptFrom c.args.locals c.args.stmts.now c.args.exit c.args.loop_at _ (c.loop-i.i + 1) c.match-s.fresh c.match-s.self = elim c.match-s.branch [
       | in-Set+in_ok-value-in-Set w ↦ go (stmt.Set w.in-Set.x w.in-Set.e) w.in-Set.is (Set w.in-Set.x (expr_of w.in-Set.e) rest) (set-of w.in-Set.x w.in-Set.e rest) false (with_value (expr_of w.in-Set.e) (Some w.in-Set.x) c.args.locals c.loop-i.self) (λ k. k.1) refl
           w.fresh-is (w.self-is ∙ w.in_ok-value-in-Set.ensures)
-      | in-Store+in_ok-store-in-Store w ↦ go (stmt.Store w.in-Store.width w.in-Store.a w.in-Store.e) w.in-Store.is (Store w.in-Store.width (expr_of w.in-Store.a) (expr_of w.in-Store.e) rest) (store-of w.in-Store.width w.in-Store.a w.in-Store.e rest) false (stored c.args.locals (expr_of w.in-Store.a) (expr_of w.in-Store.e) (op.Store w.in-Store.width) c.loop-i.self) (λ k. k.2) refl
+      | in-Store+in_ok-store-in-Store w ↦ go (stmt.Store w.in-Store.width w.in-Store.a w.in-Store.e) w.in-Store.is (Store w.in-Store.width (expr_of w.in-Store.a) (expr_of w.in-Store.e) rest) (store-of w.in-Store.width w.in-Store.a w.in-Store.e rest) false (stored c.args.locals (base_of (term_of (expr_of w.in-Store.a))) (term_of (expr_of w.in-Store.e)) (stores_at w.in-Store.width (expr_of w.in-Store.a)) c.loop-i.self) (λ k. k.2) refl
           w.fresh-is (w.self-is ∙ w.in_ok-store-in-Store.ensures)
       | in-Check+in_ok-check-in-Check w ↦ go (stmt.Check w.in-Check.check w.in-Check.at w.in-Check.e) w.in-Check.is (Check w.in-Check.check w.in-Check.at (expr_of w.in-Check.e) rest) (check-of w.in-Check.check w.in-Check.at w.in-Check.e rest) false (compares c.args.locals (checked_test (expr_of w.in-Check.e)) (op.Check w.in-Check.check w.in-Check.at) c.loop-i.self) (λ k. k.1) refl
           w.fresh-is (w.self-is ∙ w.in_ok-check-in-Check.ensures)

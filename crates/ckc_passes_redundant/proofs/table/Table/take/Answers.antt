@@ -36,7 +36,7 @@ pub returns-in-Load : goal.returns-in-Load
 returns-in-Load c =
     let a = c.in-Load in
     subst (λ (o : TacOp). IfOk c.give-in-Load.result (IsTaken o c.args.place c.args.self.now c.give-in-Load.new.self)) (sym a.is)
-    (taken_written (Load a.field-0 a.t a.field-2) (record { looks = λ done kind v l. l; repeats = λ done l. l }) c.args.place c.args.self.now c.give-in-Load.new.self a.t (GivenAt c.args.place) c.give-in-Load.result refl (λ done long k. given_here c.args.self.now.works.keys (length done) c.args.place long) c.give-in-Load.ensures.never c.give-in-Load.ensures.writes)
+    (taken_written (Load a.field-0 a.t a.field-2 a.field-3) (record { looks = λ done kind v l. l; repeats = λ done l. l }) c.args.place c.args.self.now c.give-in-Load.new.self a.t (GivenAt c.args.place) c.give-in-Load.result refl (λ done long k. given_here c.args.self.now.works.keys (length done) c.args.place long) c.give-in-Load.ensures.never c.give-in-Load.ensures.writes)
 
 pub returns-in-Get : goal.returns-in-Get
 returns-in-Get c =
@@ -54,7 +54,7 @@ pub returns-in-Store : goal.returns-in-Store
 returns-in-Store c =
     let a = c.in-Store in
     subst (λ (o : TacOp). IsTaken o c.args.place c.args.self.now c.args.self.now false) (sym a.is)
-    (taken_idle (Store a.field-0 a.field-1 a.field-2) (record { looks = λ done kind v l. l; repeats = λ done l. l }) refl c.args.place c.args.self.now)
+    (taken_idle (Store a.field-0 a.field-1 a.field-2 a.field-3) (record { looks = λ done kind v l. l; repeats = λ done l. l }) refl c.args.place c.args.self.now)
 
 pub returns-in-Put : goal.returns-in-Put
 returns-in-Put c =
