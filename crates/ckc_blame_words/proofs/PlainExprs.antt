@@ -1,17 +1,14 @@
 -- Expressions without effects have only words as literals if those with effects have.
 use Rattle.std.proofs.Common.{◌≡◌, ◌∙◌, sym, ap, refl, subst, Bool, true, false, ◌&&◌, ℕ, ◌+◌, List, [], ◌∷◌, ◌++◌, map, rules}
 use Rattle.std.specs.Prelude.{Option, Some, None, if◌then◌else◌}
-use Rattle.std.specs.Option.{option_map}
 use Rattle.std.specs.List.{list_all}
 use Rattle.std.proofs.lemmas.List.Folds.{list_all-append}
 use Rattle.ckc_base.specs.declared.places.Pos.{Pos}
-use Rattle.ckc_syntax.specs.Inside.{all_have, inside_each, inside_if}
+use Rattle.ckc_syntax.specs.Inside.{all_have, inside_each}
 use Rattle.ckc_syntax.specs.declared.tree.Name.{Name}
 use Rattle.ckc_syntax.specs.declared.tree.Name.TheVariants as name
 use Rattle.ckc_syntax.specs.declared.tree.TreeOp.{TreeOp}
 use Rattle.ckc_syntax.specs.declared.tree.TreeOp.TheVariants as op
-use Rattle.ckc_syntax.specs.declared.tree.Init.TheVariants as init
-use Rattle.ckc_syntax.specs.declared.tree.Length.TheVariants as array
 use Rattle.ckc_syntax.specs.declared.tree.Limits.{Limits-F, map-Limits, ind-Limits, roll-Limits, fold-roll-Limits}
 use Rattle.ckc_syntax.specs.declared.tree.Limits.TheVariants as limits
 use Rattle.ckc_syntax.specs.declared.tree.Node.{Node-F, map-Node, out-Node, roll-Node, fold-Node, fold-roll-Node, the_lemmas}
@@ -27,12 +24,12 @@ use Rattle.ckc_plain.specs.declared.integers.Integers.{Integers}
 use Rattle.ckc_plain.specs.declared.pending.Pending.{Pending}
 use Rattle.ckc_plain.specs.declared.forms.Work.{Work}
 use Rattle.ckc_plain.specs.declared.forms.Work.TheVariants as work
-use Rattle.ckc_plain.specs.Integers.{type_of, result_of}
+use Rattle.ckc_plain.specs.Integers.{result_of}
 use Rattle.ckc_plain.specs.Forms.{work_of, form_of, is_call, stays}
 use Rattle.ckc_plain.specs.Effects.{integer_local}
-use Rattle.ckc_plain.specs.Taken.{expr_at, stmt_at, local_at, number_at, block_at, assign_at, declare_at, after, none_pending, with_stmt, with_fresh, call_taken, set_taken, step_taken, binary_taken, unary_taken, node_taken, taken}
-use Rattle.ckc_plain.specs.Expressions.{OfLimits, OfNode, OfExpr, rest, unless_call, unless_stays, each_rest, if_bounds, truth_at, if_true, if_false, if_none, choice, binary_parts, node_parts, expr_parts, limits_parts, limits_plain, node_kept, expr_kept, expr_plain, exprs_plain, whole_plain, right_plain, maybe_plain}
-use Rattle.ckc_blame_words.specs.Literals.{is_word, limits_by_parts, node_by_parts, expr_by_parts, limits_have_words, expr_has_words, init_has_words, decl_has_words, act_by_parts, stmt_by_parts, stmt_has_words}
+use Rattle.ckc_plain.specs.Taken.{expr_at, stmt_at, local_at, number_at, block_at, assign_at, declare_at, none_pending, call_taken, set_taken, step_taken, binary_taken, unary_taken, node_taken, taken}
+use Rattle.ckc_plain.specs.Expressions.{OfLimits, OfNode, OfExpr, rest, each_rest, if_true, if_false, if_none, choice, binary_parts, node_parts, expr_parts, limits_parts, limits_plain, node_kept, expr_kept, expr_plain, whole_plain, right_plain}
+use Rattle.ckc_blame_words.specs.Literals.{is_word, limits_by_parts, node_by_parts, expr_by_parts, limits_have_words, expr_has_words, act_by_parts, stmt_by_parts, stmt_has_words}
 
 abbrev pub Layer : Type 0
 Layer = Node-F Name (Unit {0}) NamedLimits NamedNode NamedExpr
@@ -126,7 +123,7 @@ record MadeNode (r : NamedNode × Pending) : Type 0 where
   pub is : node_has_words r.0 ≡ true
   pub pending : AllHave r.1.stmts
 
-record MadeLimits (r : NamedLimits × Pending) : Type 0 where
+pub record MadeLimits (r : NamedLimits × Pending) : Type 0 where
   pub is : limits_have_words r.0 ≡ true
   pub pending : AllHave r.1.stmts
 
@@ -366,6 +363,9 @@ module _ (known : Integers) where
 
   pub kept_good : (e : NamedExpr) → ExprHolds e
   kept_good = ind-Expr Name (Unit {0}) LimitsHold NodeHolds ExprHolds limits_by node_by expr_by
+
+  pub limits_good : (l : NamedLimits) → LimitsHold l
+  limits_good = ind-Limits Name (Unit {0}) LimitsHold NodeHolds ExprHolds limits_by node_by expr_by
 
   pub plain_good : (e : NamedExpr) → HasWords e → (p : Pending) → AllHave p.stmts → Made (expr_plain known e p)
   plain_good e h p g = taken_good (expr_kept known e p) (kept_good e h p g)

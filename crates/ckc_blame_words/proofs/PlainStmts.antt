@@ -2,24 +2,22 @@
 use Rattle.std.proofs.Common.{◌≡◌, ◌∙◌, sym, ap, refl, subst, Bool, true, ◌&&◌, ℕ, List, [], ◌∷◌, ◌++◌, map}
 use Rattle.std.specs.Prelude.{Option, Some, None}
 use Rattle.std.specs.List.{list_all}
-use Rattle.ckc_base.specs.declared.arithmetic.Mode.{Mode}
-use Rattle.ckc_base.specs.declared.places.Pos.{Pos}
 use Rattle.ckc_syntax.specs.Inside.{all_have, inside_each, inside_if}
 use Rattle.ckc_syntax.specs.declared.tree.Name.{Name}
 use Rattle.ckc_syntax.specs.declared.tree.Init.TheVariants as init
 use Rattle.ckc_syntax.specs.declared.tree.Item.TheVariants as item
-use Rattle.ckc_syntax.specs.declared.tree.Act.{Act-F, map-Act, ind-Act, roll-Act, out-Act, fold-roll-Act}
+use Rattle.ckc_syntax.specs.declared.tree.Act.{Act-F, map-Act, roll-Act, out-Act, fold-roll-Act}
 use Rattle.ckc_syntax.specs.declared.tree.Act.TheVariants as act
 use Rattle.ckc_syntax.specs.declared.tree.Stmt.{Stmt-F, map-Stmt, ind-Stmt, roll-Stmt, fold-roll-Stmt}
-use Rattle.ckc_syntax.specs.Trees.{NamedTree, NamedItem, NamedDecl, NamedInit, NamedExpr, NamedStmt, NamedAct}
+use Rattle.ckc_syntax.specs.Trees.{NamedTree, NamedItem, NamedLimits, NamedInit, NamedExpr, NamedStmt, NamedAct}
 use Rattle.ckc_plain.specs.declared.integers.Integers.{Integers}
 use Rattle.ckc_plain.specs.declared.pending.Pending.{Pending}
 use Rattle.ckc_plain.specs.Integers.{known_of, known_in}
-use Rattle.ckc_plain.specs.Taken.{stmt_at, number_at, none_pending}
-use Rattle.ckc_plain.specs.Expressions.{rest, expr_kept, expr_plain, exprs_plain, whole_plain, right_plain, maybe_plain}
-use Rattle.ckc_plain.specs.Statements.{joined, placed_by, placed, OfAct, OfStmt, alone, part_alone, in_block, part_before, loop_condition, loop_body, for_condition, for_body, init_plain, local_plain, act_parts, stmt_parts, act_plain, stmt_plain, body_plain, item_plain, plain}
-use Rattle.ckc_blame_words.specs.Literals.{limits_have_words, expr_has_words, init_has_words, decl_has_words, act_by_parts, stmt_by_parts, stmt_has_words, head_has_words, item_has_words, tree_has_words}
-use Rattle.ckc_blame_words.proofs.PlainExprs.{ActLayer, act_has_words, act_words_inside, HasWords, AllHave, both, parts_of, stmt_has, number_has, added, as_listed, block_has, Made, plain_good, whole_good, right_good}
+use Rattle.ckc_plain.specs.Taken.{stmt_at, none_pending}
+use Rattle.ckc_plain.specs.Expressions.{expr_plain, exprs_plain, bounds_plain, maybe_plain}
+use Rattle.ckc_plain.specs.Statements.{joined, placed_by, placed, OfAct, OfStmt, alone, part_alone, in_block, part_before, loop_condition, loop_body, for_condition, for_body, init_plain, act_parts, stmt_parts, act_plain, stmt_plain, item_plain, plain}
+use Rattle.ckc_blame_words.specs.Literals.{limits_have_words, expr_has_words, init_has_words, act_by_parts, stmt_by_parts, stmt_has_words, head_has_words, item_has_words, tree_has_words}
+use Rattle.ckc_blame_words.proofs.PlainExprs.{ActLayer, act_has_words, act_words_inside, HasWords, AllHave, both, parts_of, stmt_has, number_has, added, as_listed, block_has, limits_good, plain_good, whole_good, right_good}
 
 abbrev Has : NamedStmt → Type 0
 Has s = stmt_has_words s ≡ true
@@ -46,6 +44,10 @@ record MadePart (r : Option NamedStmt × Pending) : Type 0 where
 record MadeValue (r : Option NamedExpr × Pending) : Type 0 where
   pub is : ValueHas r.0
   pub pending : AllHave r.1.stmts
+
+record MadeBounds (r : Option NamedLimits × Pending) : Type 0 where
+  is : inside_if all_have limits_have_words r.0 ≡ true
+  pending : AllHave r.1.stmts
 
 record MadeInit (r : NamedInit × Pending) : Type 0 where
   pub is : init_has_words r.0 ≡ true
@@ -110,6 +112,10 @@ module _ (known : Integers) where
   value_good : (e : Option NamedExpr) → ValueHas e → (p : Pending) → AllHave p.stmts → MadeValue (maybe_plain known e p)
   value_good None h p g = record { is = refl; pending = g }
   value_good (Some e) h p g = let m = plain_good known e h p g in record { is = m.is; pending = m.pending }
+
+  bounds_good : (l : Option NamedLimits) → inside_if all_have limits_have_words l ≡ true → (p : Pending) → AllHave p.stmts → MadeBounds (bounds_plain known l p)
+  bounds_good None h p g = record { is = refl; pending = g }
+  bounds_good (Some l) h p g = let m = limits_good known l h p g in record { is = m.is; pending = m.pending }
 
   init_good : (i : NamedInit) → init_has_words i ≡ true → (p : Pending) → AllHave p.stmts → MadeInit (init_plain known i p)
   init_good init.Nothing h p g = record { is = refl; pending = g }
@@ -208,8 +214,9 @@ module _ (known : Integers) where
   act_step Act-F.Empty h p g = act_made Act-F.Empty _ p act.rolls-Empty refl g
   act_step (Act-F.Local d) h p g =
       let hs = parts_of (inside_if all_have limits_have_words d.bounds) (init_has_words d.init) h in
-      let m = init_good d.init hs.1 p g in
-      act_made (Act-F.Local _) _ _ (act.rolls-Local _) (both _ _ hs.0 m.is) m.pending
+      let k = bounds_good d.bounds hs.0 p g in
+      let m = init_good d.init hs.1 (bounds_plain known d.bounds p).1 k.pending in
+      act_made (Act-F.Local _) _ _ (act.rolls-Local _) (both _ _ k.is m.is) m.pending
   act_step (Act-F.Assign x e) h p g =
       let hs = parts_of (expr_has_words x) (expr_has_words e) h in
       let m = plain_good known x hs.0 p g in

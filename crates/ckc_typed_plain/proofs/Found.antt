@@ -2,6 +2,7 @@
 use Rattle.std.proofs.Common.{◌≡◌, ◌∙◌, sym, ap, refl, subst, Bool, true, false, ◌||◌, List, [], ◌∷◌, map, length}
 use Rattle.std.specs.List.{list_all, list_any}
 use Rattle.std.proofs.Math.Path.{fun_ext}
+use Rattle.ckc_syntax.specs.Inside.{listed, inside_each}
 use Rattle.ckc_syntax.specs.declared.tree.Item.TheVariants as item
 use Rattle.ckc_syntax.specs.declared.tree.Name.{Name}
 use Rattle.ckc_syntax.specs.declared.tree.Name.TheVariants as name
@@ -9,6 +10,7 @@ use Rattle.ckc_syntax.specs.declared.tree.NamedText.{NamedText}
 use Rattle.ckc_syntax.specs.Trees.{Tree, NamedTree, NamedItem}
 use Rattle.ckc_plain.specs.declared.integers.Integers.{Integers}
 use Rattle.ckc_plain.specs.Integers.{known_of, known_in}
+use Rattle.ckc_plain.specs.Barred.{in_head, in_item, in_stmt}
 use Rattle.ckc_plain.specs.Statements.{item_plain}
 use Rattle.ckc_plain.specs.Phase.{resolving}
 use Rattle.ckc_typed.specs.Environment.{same_name}
@@ -21,29 +23,30 @@ use Rattle.ckc_typed_fit.proofs.Found as found
 use Rattle.ckc_typed_welltyped.specs.Productions.{placed_head, placed_body, placed_item, placed_stmt, with_calls, spoken_tree}
 use Rattle.ckc_typed_plain.specs.Resolved.{IsResolved}
 use Rattle.ckc_typed_plain.proofs.Items.{resolved_of, flat_items}
-use Rattle.ckc_typed_plain.proofs.GivenLevels.{both, parts_of}
+use Rattle.ckc_typed_plain.proofs.GivenLevels.{both, parts_of, empty_parts}
 use Rattle.ckc_typed_plain.proofs.VisibleExprs.{AreTame}
 use Rattle.ckc_typed_plain.proofs.VisibleStmts.{body_passes}
 
 module _ (T : Tests) (tame : AreTame T) (known : Integers) where
-  item_still : (i : NamedItem) → placed_item with_calls i ≡ true → item_passes T i ≡ true → item_passes T (item_plain known i) ≡ true
-  item_still (item.Directive d) f h = h
-  item_still (item.Tag n at) f h = h
-  item_still (item.Struct n members at) f h = h
-  item_still (item.Static d) f h = h
-  item_still (item.Proto g) f h = h
-  item_still (item.Function g body) f h =
+  item_still : (i : NamedItem) → placed_item with_calls i ≡ true → in_item known i ≡ [] → item_passes T i ≡ true → item_passes T (item_plain known i) ≡ true
+  item_still (item.Directive d) f none h = h
+  item_still (item.Tag n at) f none h = h
+  item_still (item.Struct n members at) f none h = h
+  item_still (item.Static d) f none h = h
+  item_still (item.Proto g) f none h = h
+  item_still (item.Function g body) f none h =
       let hs = parts_of (head_passes T g) ((walked T body).passes (names_declared g.params)) h in
       let fs = parts_of (placed_head with_calls g) (placed_body with_calls body) f in
       let bs = parts_of (placed_stmt with_calls body).fine (placed_stmt with_calls body).nested fs.1 in
-      both _ _ hs.0 (body_passes T tame (known_in known g body) body (length (known_in known g body).locals) (names_declared g.params) hs.1 bs.1)
+      both _ _ hs.0 (body_passes T tame (known_in known g body) body (length (known_in known g body).locals) (names_declared g.params) hs.1 bs.1 (empty_parts (in_head known g) (in_stmt (known_in known g body) body false) none).1)
 
-  items_still : (is : List NamedItem) → list_all (placed_item with_calls) is ≡ true → items_pass T is ≡ true → items_pass T (map (item_plain known) is) ≡ true
-  items_still [] f h = refl
-  items_still (i ∷ is) f h =
+  items_still : (is : List NamedItem) → list_all (placed_item with_calls) is ≡ true → inside_each listed (in_item known) is ≡ [] → items_pass T is ≡ true → items_pass T (map (item_plain known) is) ≡ true
+  items_still [] f none h = refl
+  items_still (i ∷ is) f none h =
       let fs = parts_of (placed_item with_calls i) (list_all (placed_item with_calls) is) f in
       let hs = parts_of (item_passes T i) (items_pass T is) h in
-      both _ _ (item_still i fs.0 hs.0) (items_still is fs.1 hs.1)
+      let ns = empty_parts (in_item known i) (inside_each listed (in_item known) is) none in
+      both _ _ (item_still i fs.0 ns.0 hs.0) (items_still is fs.1 ns.1 hs.1)
 
 or_more : (a b c : Bool) → (a ≡ true → b ≡ true) → (a || c) ≡ true → (b || c) ≡ true
 or_more true b c f h = ap (λ x. x || c) (f refl)
@@ -93,7 +96,7 @@ module _ (t : Tree) (n : NamedText) (form : spoken_tree t ≡ true) (m : resolvi
   TagTests bodies = record { name = λ visible x. true; member = λ x. true; tag = bodies }
 
   still : (T : Tests) → AreTame T → items_pass T before ≡ true → items_pass T n.tree.items ≡ true
-  still T tame h = subst (λ (z : NamedTree). items_pass T z.items ≡ true) (sym r.tree) (items_still T tame (known_of r.resolved.tree) before given h)
+  still T tame h = subst (λ (z : NamedTree). items_pass T z.items ≡ true) (sym r.tree) (items_still T tame (known_of r.resolved.tree) before given r.free h)
 
   pub names_visible : NamesAreVisible n.tree.items
   names_visible =

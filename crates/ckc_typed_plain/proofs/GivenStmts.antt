@@ -10,19 +10,19 @@ use Rattle.ckc_syntax.specs.declared.tree.Init.TheVariants as init
 use Rattle.ckc_syntax.specs.declared.tree.Act.{Act-F, map-Act, roll-Act, out-Act, fold-Act, fold-roll-Act}
 use Rattle.ckc_syntax.specs.declared.tree.Act.TheVariants as act
 use Rattle.ckc_syntax.specs.declared.tree.Stmt.{Stmt-F, map-Stmt, ind-Stmt, roll-Stmt, fold-roll-Stmt}
-use Rattle.ckc_syntax.specs.Trees.{NamedLimits, NamedInit, NamedExpr, NamedStmt, NamedAct}
+use Rattle.ckc_syntax.specs.Trees.{NamedDecl, NamedLimits, NamedInit, NamedExpr, NamedStmt, NamedAct}
 use Rattle.ckc_plain.specs.declared.integers.Integers.{Integers}
 use Rattle.ckc_plain.specs.declared.pending.Pending.{Pending}
 use Rattle.ckc_plain.specs.Effects.{in_expr, in_right, in_bounds, in_maybe, in_limits}
 use Rattle.ckc_plain.specs.Barred as barred
-use Rattle.ckc_plain.specs.Barred.{in_init, in_local, in_act, in_stmt}
+use Rattle.ckc_plain.specs.Barred.{in_init, in_act, in_stmt}
 use Rattle.ckc_plain.specs.Taken.{stmt_at, none_pending}
 use Rattle.ckc_plain.specs.Expressions.{expr_plain, whole_plain, right_plain, maybe_plain}
-use Rattle.ckc_plain.specs.Statements.{joined, placed_by, placed, OfAct, OfStmt, alone, in_block, loop_condition, loop_body, for_condition, for_body, init_plain, local_plain, act_parts, stmt_parts, act_plain, stmt_plain}
+use Rattle.ckc_plain.specs.Statements.{joined, placed_by, placed, OfAct, OfStmt, alone, in_block, loop_condition, loop_body, for_condition, for_body, init_plain, act_parts, stmt_parts, act_plain, stmt_plain}
 use Rattle.ckc_typed_welltyped.specs.Productions.{callless_bounds, callless_value, right_init, is_branch, begins, steps, Given, given_act, given_in, given_stmt, expr_form, limits_form, placed_bounds, placed_value, placed_start, placed_act, placed_stmt, with_calls}
 use Rattle.ckc_typed_plain.proofs.GivenLevels.{ActLayer, given_of, given_inside, Callless, AllGood, both, parts_of, empty_parts, given_at, number_without, is_not, all_are}
 use Rattle.ckc_typed_plain.proofs.GivenExprs.{limits_hold, plain_made, whole_made, call_statement, right_made}
-use Rattle.ckc_typed_plain.proofs.Untouched.{limits_stay, plain_stays, right_stays}
+use Rattle.ckc_typed_plain.proofs.Untouched.{local_kept, local_stays, limits_stay, plain_stays, right_stays}
 
 abbrev ValueCallless : Option NamedExpr → Type 0
 ValueCallless e = callless_value e ≡ true
@@ -374,8 +374,9 @@ module _ (known : Integers) where
         let fs = parts_of (placed_bounds with_calls d.bounds) (placed_start with_calls d.init) f in
         let es = empty_parts (in_bounds known d.bounds) (in_init known d.init b) none in
         let m = init_made d.init b fs.1 es.1 p g in
-        act_made (Act-F.Local (local_plain known d p).0) _ _ _ (act.rolls-Local _)
-        (record { fine = both _ _ (bounds_callless d.bounds fs.0 es.0) m.is; nested = refl; declares = refl; assigns = refl; jumps = refl }) m.pending;
+        subst (λ (r : NamedDecl × Pending). MadeAct (placed_act with_calls (spoken_inside (Act-F.Local d))) (act.Local r.0, r.1)) (sym (local_stays known d p es.0))
+        (act_made (Act-F.Local (local_kept known d p).0) _ _ _ (act.rolls-Local _)
+        (record { fine = both _ _ (bounds_callless d.bounds fs.0 es.0) m.is; nested = refl; declares = refl; assigns = refl; jumps = refl }) m.pending);
     quiet = λ a none p. absurd (cc);
   }
   act_says (Act-F.Assign x e) = record {

@@ -1,6 +1,6 @@
 -- An expression without effects stays as it is.
 use Rattle.std.proofs.Common.{◌≡◌, ◌∙◌, sym, ap, refl, subst, Bool, true, false, ℕ, ◌+◌, List, [], ◌∷◌, ◌++◌, map, rules}
-use Rattle.std.specs.Prelude.{Some, None, if◌then◌else◌}
+use Rattle.std.specs.Prelude.{Option, Some, None, if◌then◌else◌}
 use Rattle.ckc_base.specs.declared.places.Pos.{Pos}
 use Rattle.ckc_syntax.specs.Inside.{listed, inside_each}
 use Rattle.ckc_syntax.specs.declared.tree.Name.{Name}
@@ -10,7 +10,7 @@ use Rattle.ckc_syntax.specs.declared.tree.Limits.TheVariants as limits
 use Rattle.ckc_syntax.specs.declared.tree.Node.{Node-F, map-Node, out-Node, roll-Node, fold-roll-Node, the_lemmas}
 use Rattle.ckc_syntax.specs.declared.tree.Node.TheVariants as node
 use Rattle.ckc_syntax.specs.declared.tree.Expr.{Expr-F, map-Expr, ind-Expr, roll-Expr, fold-roll-Expr}
-use Rattle.ckc_syntax.specs.Trees.{NamedLimits, NamedNode, NamedExpr, NamedStmt}
+use Rattle.ckc_syntax.specs.Trees.{NamedDecl, NamedLimits, NamedNode, NamedExpr, NamedStmt}
 use Rattle.ckc_plain.specs.declared.integers.Integers.{Integers}
 use Rattle.ckc_plain.specs.declared.pending.Pending.{Pending}
 use Rattle.ckc_plain.specs.declared.forms.Work.{Work}
@@ -19,10 +19,11 @@ use Rattle.ckc_plain.specs.declared.forms.Form.{Form}
 use Rattle.ckc_plain.specs.declared.forms.Form.TheVariants as form
 use Rattle.ckc_plain.specs.Forms as forms
 use Rattle.ckc_plain.specs.Forms.{work_of}
-use Rattle.ckc_plain.specs.Effects.{Found, all_in, right_in, found_in, found_in_node, in_limits}
+use Rattle.ckc_plain.specs.Effects.{Found, all_in, found_in, found_in_node, in_limits}
 use Rattle.ckc_plain.specs.Effects as effects
-use Rattle.ckc_plain.specs.Taken.{expr_at, none_pending, unary_taken, binary_taken, node_taken, taken}
-use Rattle.ckc_plain.specs.Expressions.{OfLimits, OfNode, OfExpr, rest, each_rest, if_true, if_false, choice, binary_parts, node_parts, expr_parts, limits_parts, limits_plain, node_kept, expr_kept, expr_plain, right_plain}
+use Rattle.ckc_plain.specs.Taken.{expr_at, after, none_pending, unary_taken, binary_taken, node_taken, taken}
+use Rattle.ckc_plain.specs.Expressions.{OfLimits, OfNode, OfExpr, rest, each_rest, if_true, if_false, choice, binary_parts, node_parts, expr_parts, limits_parts, limits_plain, node_kept, expr_kept, expr_plain, right_plain, bounds_plain}
+use Rattle.ckc_plain.specs.Statements.{init_plain, local_plain}
 
 abbrev Layer : Type 0
 Layer = Node-F Name (Unit {0}) NamedLimits NamedNode NamedExpr
@@ -294,3 +295,17 @@ module _ (known : Integers) where
           ap (λ (r : Made). if forms.stays (forms.form_of x) (forms.form_of r.0) then r else taken known r) (kept_stays e p (quiet_of (found_in known e) h))
           ∙ ap (λ b. if b then (e, p) else taken known (e, p)) (same ∙ is)
           ∙ taken_stays e p (empty_parts ((found_in known e).inside true) ((found_in known e).itself true) h).1
+
+  -- ---- declarations
+
+  pub bounds_stay : (l : Option NamedLimits) (p : Pending) → effects.in_bounds known l ≡ [] → bounds_plain known l p ≡ (l, p)
+  bounds_stay None p none = refl
+  bounds_stay (Some l) p none = ap (λ (r : NamedLimits × Pending). (Some r.0, r.1)) (limits_stay l none p)
+
+  -- a declaration whose bounds stay
+  abbrev pub local_kept : NamedDecl → Pending → NamedDecl × Pending
+  local_kept d p = after (init_plain known d.init p) (λ i q. (record d { init = i }, q))
+
+  pub local_stays : (d : NamedDecl) (p : Pending) → effects.in_bounds known d.bounds ≡ [] → local_plain known d p ≡ local_kept d p
+  local_stays d p none =
+      ap (λ (r : Option NamedLimits × Pending). after r (λ b q. after (init_plain known d.init q) (λ i t. (record d { bounds = b; init = i }, t)))) (bounds_stay d.bounds p none)

@@ -1,7 +1,8 @@
 -- Each name in a statement without effects passes a test where it stands, if each name in the statement with effects does.
 use Rattle.std.proofs.Common.{◌≡◌, ◌∙◌, sym, ap, refl, subst, Bool, true, false, ◌&&◌, ℕ, List, [], ◌∷◌, ◌++◌, map, append-nil, rules}
 use Rattle.std.specs.Prelude.{Option, Some, None, not}
-use Rattle.ckc_syntax.specs.Inside.{all_have, inside_each}
+use Rattle.ckc_base.specs.declared.places.Pos.{Pos}
+use Rattle.ckc_syntax.specs.Inside.{listed, all_have, inside_each}
 use Rattle.ckc_syntax.specs.declared.tree.Name.{Name}
 use Rattle.ckc_syntax.specs.declared.tree.Init.TheVariants as init
 use Rattle.ckc_syntax.specs.declared.tree.Act.{Act-F, map-Act, roll-Act, out-Act, fold-Act, fold-roll-Act, the_lemmas}
@@ -10,12 +11,16 @@ use Rattle.ckc_syntax.specs.declared.tree.Stmt.{Stmt-F, map-Stmt, ind-Stmt, roll
 use Rattle.ckc_syntax.specs.Trees.{NamedDecl, NamedInit, NamedExpr, NamedStmt, NamedAct}
 use Rattle.ckc_plain.specs.declared.integers.Integers.{Integers}
 use Rattle.ckc_plain.specs.declared.pending.Pending.{Pending}
+use Rattle.ckc_plain.specs.Effects.{in_expr, in_bounds, in_maybe}
+use Rattle.ckc_plain.specs.Barred as barred
+use Rattle.ckc_plain.specs.Barred.{in_init, in_act, in_stmt}
 use Rattle.ckc_plain.specs.Taken.{stmt_at, block_at, none_pending}
 use Rattle.ckc_plain.specs.Expressions.{expr_plain, exprs_plain, whole_plain, right_plain, maybe_plain}
-use Rattle.ckc_plain.specs.Statements.{joined, placed_by, placed, OfAct, OfStmt, alone, in_block, loop_condition, loop_body, for_condition, for_body, init_plain, local_plain, act_parts, stmt_parts, act_plain, stmt_plain}
+use Rattle.ckc_plain.specs.Statements.{joined, placed_by, placed, OfAct, OfStmt, alone, in_block, loop_condition, loop_body, for_condition, for_body, init_plain, act_parts, stmt_parts, act_plain, stmt_plain}
 use Rattle.ckc_typed_welltyped.specs.Productions.{Given, is_branch, placed_act, given_in, placed_stmt, with_calls}
 use Rattle.ckc_typed_fit.specs.Tests.{Tests, type_passes, bounds_pass, init_passes, expr_passes, value_passes, Walked, left_by, pass_in_turn, act_walked, stmt_walked, walked_act}
-use Rattle.ckc_typed_plain.proofs.GivenLevels.{both, parts_of, is_not}
+use Rattle.ckc_typed_plain.proofs.GivenLevels.{both, parts_of, empty_parts, is_not}
+use Rattle.ckc_typed_plain.proofs.Untouched.{local_kept, local_stays}
 use Rattle.ckc_typed_plain.proofs.VisibleExprs.{ActLayer, Sub, sub_front, sub_both, left_append, map_append, AreTame, bounds_more, W, At, Pass, at_append, pass_more, one_pass, PE, walked_inside, walked_at, stmt_pass, number_pass, Goes, plain_goes, whole_goes, right_goes}
 
 act_out : (x : ActLayer) → out-Act Name (Unit {0}) (roll-Act Name (Unit {0}) x) ≡ x
@@ -160,9 +165,6 @@ module _ (T : Tests) (tame : AreTame T) where
 
     abbrev inner_act : Act-F Name (Unit {0}) KeptAct KeptStmt → ActLayer
     inner_act = map-Act Name (Unit {0}) KeptAct KeptStmt NamedAct NamedStmt (λ e. e.0) (λ e. e.0)
-
-    abbrev inner_stmt : Stmt-F Name (Unit {0}) KeptAct KeptStmt → Stmt-F Name (Unit {0}) NamedAct NamedStmt
-    inner_stmt = map-Stmt Name (Unit {0}) KeptAct KeptStmt NamedAct NamedStmt (λ e. e.0) (λ e. e.0)
 
     abbrev act_inside : ActLayer → Act-F Name (Unit {0}) OfAct OfStmt
     act_inside = map-Act Name (Unit {0}) NamedAct NamedStmt OfAct OfStmt (act_plain known) (stmt_plain known)
@@ -360,34 +362,39 @@ module _ (T : Tests) (tame : AreTame T) where
         (λ us f. block_goes ks vs us h (branch_each ks w) (through vs (A ws p.stmts) us s f) p.next)
         (bundle_made_leaves ks vs (A ws p.stmts) h w s p.next ∙ sym (bundle_leaves ks w)) g (λ n k. k)
 
-    act_says : (y : Act-F Name (Unit {0}) KeptAct KeptStmt) → Says (inner_act y)
-    act_says (Act-F.Block m ks) = record {
+    -- the bounds of a local hold no effect
+    abbrev IsFree : ActLayer → Type 0
+    IsFree (Act-F.Local d) = in_bounds known d.bounds ≡ []
+    IsFree x = Unit {0}
+
+    act_says : (y : Act-F Name (Unit {0}) KeptAct KeptStmt) → IsFree (inner_act y) → Says (inner_act y)
+    act_says (Act-F.Block m ks) free = record {
       goes = λ vs ws p h w s g.
           made ws p p _ _ (Act-F.Block m _) _ (act.rolls-Block m _) refl (λ us f. block_goes ks vs us h w (through vs (A ws p.stmts) us s f) p.next) refl g (λ n k. k);
       none = λ w d. refl;
     }
-    act_says Act-F.Empty = record { goes = λ vs ws p h w s g. made ws p p _ _ Act-F.Empty _ act.rolls-Empty refl (λ us f. refl) refl g (λ n k. k); none = λ w d. refl }
-    act_says Act-F.Break = record { goes = λ vs ws p h w s g. made ws p p _ _ Act-F.Break _ act.rolls-Break refl (λ us f. refl) refl g (λ n k. k); none = λ w d. refl }
-    act_says Act-F.Continue = record { goes = λ vs ws p h w s g. made ws p p _ _ Act-F.Continue _ act.rolls-Continue refl (λ us f. refl) refl g (λ n k. k); none = λ w d. refl }
-    act_says (Act-F.Call e) = record {
+    act_says Act-F.Empty free = record { goes = λ vs ws p h w s g. made ws p p _ _ Act-F.Empty _ act.rolls-Empty refl (λ us f. refl) refl g (λ n k. k); none = λ w d. refl }
+    act_says Act-F.Break free = record { goes = λ vs ws p h w s g. made ws p p _ _ Act-F.Break _ act.rolls-Break refl (λ us f. refl) refl g (λ n k. k); none = λ w d. refl }
+    act_says Act-F.Continue free = record { goes = λ vs ws p h w s g. made ws p p _ _ Act-F.Continue _ act.rolls-Continue refl (λ us f. refl) refl g (λ n k. k); none = λ w d. refl }
+    act_says (Act-F.Call e) free = record {
       goes = λ vs ws p h w s g.
           let m = whole_goes T tame known e vs ws p h s g in
           made ws p (whole_plain known e p).1 _ _ (Act-F.Call (whole_plain known e p).0) _ (act.rolls-Call _) refl m.is refl m.pending m.more;
       none = λ w d. refl;
     }
-    act_says (Act-F.Check e) = record {
+    act_says (Act-F.Check e) free = record {
       goes = λ vs ws p h w s g.
           let m = plain_goes T tame known e vs ws p h s g in
           made ws p (expr_plain known e p).1 _ _ (Act-F.Check (expr_plain known e p).0) _ (act.rolls-Check _) refl m.is refl m.pending m.more;
       none = λ w d. refl;
     }
-    act_says (Act-F.Return e) = record {
+    act_says (Act-F.Return e) free = record {
       goes = λ vs ws p h w s g.
           let m = value_goes e vs ws p h s g in
           made ws p (maybe_plain known e p).1 _ _ (Act-F.Return (maybe_plain known e p).0) _ (act.rolls-Return _) refl m.is refl m.pending m.more;
       none = λ w d. refl;
     }
-    act_says (Act-F.Assign x e) = record {
+    act_says (Act-F.Assign x e) free = record {
       goes = λ vs ws p h w s g.
           let hs = parts_of (expr_passes T vs x) (expr_passes T vs e) h in
           let m = plain_goes T tame known x vs ws p hs.0 s g in
@@ -397,14 +404,15 @@ module _ (T : Tests) (tame : AreTame T) where
           made ws p r.1 _ _ (Act-F.Assign (expr_plain known x p).0 r.0) _ (act.rolls-Assign _ _) refl (λ us f. both _ _ (m.is us (λ a b. f a (n.more a b))) (n.is us f)) refl n.pending (λ a b. n.more a (m.more a b));
       none = λ w d. refl;
     }
-    act_says (Act-F.Local d) = record {
+    act_says (Act-F.Local d) free = record {
       goes = λ vs ws p h w s g.
           let hs = parts_of (type_passes T d.ctype) (bounds_pass T (vs ++ d.name ∷ []) d.bounds && init_passes T vs d.init) h in
           let gs = parts_of (bounds_pass T (vs ++ d.name ∷ []) d.bounds) (init_passes T vs d.init) hs.1 in
           let m = init_goes d.init vs ws p gs.1 s g in
-          let e = (local_plain known d p).0 in
-          let q = (local_plain known d p).1 in
-          record {
+          let e = (local_kept known d p).0 in
+          let q = (local_kept known d p).1 in
+          subst (λ (r : NamedDecl × Pending). GoesAct ws p (act_walked T (walked_inside T tame (Act-F.Local d))) (placed_act with_calls (given_inside (Act-F.Local d))) (act.Local r.0, r.1)) (sym (local_stays known d p free))
+          (record {
             is = λ us f.
                 ap (λ (v : Walked). v.passes us) (act_is (Act-F.Local e) _ (act.rolls-Local e))
                 ∙ both _ _ hs.0 (both _ _ (bounds_pass_more d.bounds (vs ++ d.name ∷ []) (us ++ d.name ∷ []) (sub_both vs us (d.name ∷ []) (d.name ∷ []) (λ a b. f a (m.more a (s a b))) (same (d.name ∷ []))) gs.0) (m.is us f));
@@ -412,10 +420,10 @@ module _ (T : Tests) (tame : AreTame T) where
             local = λ is. (e, ap (out-Act Name (Unit {0})) (sym (act.rolls-Local e)) ∙ act_out (Act-F.Local e));
             pending = m.pending;
             more = m.more;
-          };
+          });
       none = λ w d. absurd (cc);
     }
-    act_says (Act-F.If e k None) = record {
+    act_says (Act-F.If e k None) free = record {
       goes = λ vs ws p h w s g.
           let hs = parts_of (expr_passes T vs e) ((V k.0).passes vs && true) h in
           let gs = parts_of ((V k.0).passes vs) true hs.1 in
@@ -428,7 +436,7 @@ module _ (T : Tests) (tame : AreTame T) where
           (ap (λ l. l ++ []) (leaves_alone k vs gs.0 b q.next ∙ sym (source_leaves k b))) m.pending m.more;
       none = λ w d. ap (λ l. l ++ []) (source_leaves k (parts_of (is_branch (given k)) true w).0);
     }
-    act_says (Act-F.If e k (Some j)) = record {
+    act_says (Act-F.If e k (Some j)) free = record {
       goes = λ vs ws p h w s g.
           let hs = parts_of (expr_passes T vs e) ((V k.0).passes vs && (V j.0).passes (vs ++ (V k.0).leaves)) h in
           let gs = parts_of ((V k.0).passes vs) ((V j.0).passes (vs ++ (V k.0).leaves)) hs.1 in
@@ -446,7 +454,7 @@ module _ (T : Tests) (tame : AreTame T) where
           m.pending m.more;
       none = λ w d. let bs = parts_of (is_branch (given k)) (is_branch (given j)) w in ap (λ l. l ++ (V j.0).leaves) (source_leaves k bs.0) ∙ source_leaves j bs.1;
     }
-    act_says (Act-F.While e k) = record {
+    act_says (Act-F.While e k) free = record {
       goes = λ vs ws p h w s g.
           let hs = parts_of (expr_passes T vs e) ((V k.0).passes vs) h in
           let first = none_pending p.next in
@@ -462,11 +470,11 @@ module _ (T : Tests) (tame : AreTame T) where
           (loop_leaves q.stmts c (alone_of k q.next) (leaves_alone k vs hs.1 w q.next) ∙ sym (source_leaves k w)) g (λ a b. b);
       none = λ w d. source_leaves k w;
     }
-    act_says (Act-F.Bundle ks) = record {
+    act_says (Act-F.Bundle ks) free = record {
       goes = λ vs ws p h w s g. bundle_says ks vs ws p h w s g;
       none = λ w d. bundle_leaves ks w;
     }
-    act_says (Act-F.For None e None k) = record {
+    act_says (Act-F.For None e None k) free = record {
       goes = λ vs ws p h w s g.
           let vs1 = vs ++ [] in
           let h1 = parts_of (value_passes T vs1 e) ((V k.0).passes vs1 && true) h in
@@ -482,7 +490,7 @@ module _ (T : Tests) (tame : AreTame T) where
           refl g (λ a b. b);
       none = λ w d. refl;
     }
-    act_says (Act-F.For None e (Some j) k) = record {
+    act_says (Act-F.For None e (Some j) k) free = record {
       goes = λ vs ws p h w s g.
           let vs1 = vs ++ [] in
           let h1 = parts_of (value_passes T vs1 e) ((V k.0).passes vs1 && (V j.0).passes (vs1 ++ (V k.0).leaves)) h in
@@ -501,7 +509,7 @@ module _ (T : Tests) (tame : AreTame T) where
           refl g (λ a b. b);
       none = λ w d. refl;
     }
-    act_says (Act-F.For (Some l) e None k) = record {
+    act_says (Act-F.For (Some l) e None k) free = record {
       goes = λ vs ws p h w s g.
           let vs1 = vs ++ (V l.0).leaves in
           let h0 = parts_of ((V l.0).passes vs) (value_passes T vs1 e && ((V k.0).passes vs1 && true)) h in
@@ -521,7 +529,7 @@ module _ (T : Tests) (tame : AreTame T) where
           refl m.pending m.more;
       none = λ w d. refl;
     }
-    act_says (Act-F.For (Some l) e (Some j) k) = record {
+    act_says (Act-F.For (Some l) e (Some j) k) free = record {
       goes = λ vs ws p h w s g.
           let vs1 = vs ++ (V l.0).leaves in
           let h0 = parts_of ((V l.0).passes vs) (value_passes T vs1 e && ((V k.0).passes vs1 && (V j.0).passes (vs1 ++ (V k.0).leaves))) h in
@@ -545,12 +553,90 @@ module _ (T : Tests) (tame : AreTame T) where
       none = λ w d. refl;
     }
 
-    act_by : (x : ActLayer) (y : Act-F Name (Unit {0}) KeptAct KeptStmt) → inner_act y ≡ x → ActHolds (roll-Act Name (Unit {0}) x)
-    act_by x y is =
+    act_by_kept : (x : ActLayer) (y : Act-F Name (Unit {0}) KeptAct KeptStmt) → inner_act y ≡ x → IsFree x → ActHolds (roll-Act Name (Unit {0}) x)
+    act_by_kept x y is free =
         subst (λ w. KeepsAct w (given_of (roll-Act Name (Unit {0}) x)) (act_plain known (roll-Act Name (Unit {0}) x))) (sym (fold-roll-Act Name (Unit {0}) Walked Walked (act_walked T) stmt_walked x))
         (subst (λ g. KeepsAct (act_walked T (walked_inside T tame x)) g (act_plain known (roll-Act Name (Unit {0}) x))) (sym (fold-roll-Act Name (Unit {0}) Given Given (placed_act with_calls) given_in x))
         (subst (λ (k : OfAct). KeepsAct (act_walked T (walked_inside T tame x)) (placed_act with_calls (given_inside x)) k) (sym (fold-roll-Act Name (Unit {0}) OfAct OfStmt (act_parts known) stmt_parts x))
-        (subst Says is (act_says y))))
+        (subst Says is (act_says y (subst IsFree (sym is) free)))))
+
+    -- ---- no effect in it is refused, so none stands in the bounds of a local
+
+    abbrev FreeActHolds : NamedAct → Type 0
+    FreeActHolds a = (b : Bool) → in_act known a b ≡ [] → ActHolds a
+
+    abbrev FreeStmtHolds : NamedStmt → Type 0
+    FreeStmtHolds s = (b : Bool) → in_stmt known s b ≡ [] → StmtHolds s
+
+    abbrev FreeAct : Type 0
+    FreeAct = (a : NamedAct) × FreeActHolds a
+
+    abbrev FreeStmt : Type 0
+    FreeStmt = (s : NamedStmt) × FreeStmtHolds s
+
+    abbrev inner_free : Act-F Name (Unit {0}) FreeAct FreeStmt → ActLayer
+    inner_free = map-Act Name (Unit {0}) FreeAct FreeStmt NamedAct NamedStmt (λ e. e.0) (λ e. e.0)
+
+    abbrev inner_free_stmt : Stmt-F Name (Unit {0}) FreeAct FreeStmt → Stmt-F Name (Unit {0}) NamedAct NamedStmt
+    inner_free_stmt = map-Stmt Name (Unit {0}) FreeAct FreeStmt NamedAct NamedStmt (λ e. e.0) (λ e. e.0)
+
+    abbrev barred_inside : ActLayer → Act-F Name (Unit {0}) barred.OfStmt barred.OfStmt
+    barred_inside = map-Act Name (Unit {0}) NamedAct NamedStmt barred.OfStmt barred.OfStmt (in_act known) (in_stmt known)
+
+    abbrev barred_each : List FreeStmt → Bool → List Pos
+    barred_each ks b = inside_each listed (λ (s : barred.OfStmt). s b) (map (in_stmt known) (map (λ (k : FreeStmt). k.0) ks))
+
+    record Freed (x : ActLayer) : Type 0 where
+      layer : Act-F Name (Unit {0}) KeptAct KeptStmt
+      is : inner_act layer ≡ x
+      free : IsFree x
+
+    freed_each : (ks : List FreeStmt) (b : Bool) → barred_each ks b ≡ [] → (js : List KeptStmt) × (firsts js ≡ map (λ (k : FreeStmt). k.0) ks)
+    freed_each [] b none = ([], refl)
+    freed_each (k ∷ ks) b none =
+        let e = empty_parts (in_stmt known k.0 b) (barred_each ks b) none in
+        let r = freed_each ks b e.1 in
+        ((k.0, k.1 b e.0) ∷ r.0, ap (λ ss. k.0 ∷ ss) r.1)
+
+    freed : (y : Act-F Name (Unit {0}) FreeAct FreeStmt) (b : Bool) → barred.act_parts known (barred_inside (inner_free y)) b ≡ [] → Freed (inner_free y)
+    freed (Act-F.Block m ks) b none = let r = freed_each ks b none in record { layer = Act-F.Block m r.0; is = ap (λ ss. Act-F.Block m ss) r.1; free = tt }
+    freed (Act-F.Bundle ks) b none = let r = freed_each ks true none in record { layer = Act-F.Bundle r.0; is = ap (λ ss. Act-F.Bundle ss) r.1; free = tt }
+    freed Act-F.Empty b none = record { layer = Act-F.Empty; is = refl; free = tt }
+    freed (Act-F.Local d) b none = record { layer = Act-F.Local d; is = refl; free = (empty_parts (in_bounds known d.bounds) (in_init known d.init b) none).0 }
+    freed (Act-F.Assign x e) b none = record { layer = Act-F.Assign x e; is = refl; free = tt }
+    freed (Act-F.Call e) b none = record { layer = Act-F.Call e; is = refl; free = tt }
+    freed (Act-F.If e k None) b none =
+        let s = (empty_parts (in_expr known e b) (in_stmt known k.0 b ++ []) none).1 in
+        record { layer = Act-F.If e (k.0, k.1 b (empty_parts (in_stmt known k.0 b) [] s).0) None; is = refl; free = tt }
+    freed (Act-F.If e k (Some j)) b none =
+        let s = empty_parts (in_stmt known k.0 b) (in_stmt known j.0 b) (empty_parts (in_expr known e b) (in_stmt known k.0 b ++ in_stmt known j.0 b) none).1 in
+        record { layer = Act-F.If e (k.0, k.1 b s.0) (Some (j.0, j.1 b s.1)); is = refl; free = tt }
+    freed (Act-F.While e k) b none = record { layer = Act-F.While e (k.0, k.1 b (empty_parts (in_expr known e b) (in_stmt known k.0 b) none).1); is = refl; free = tt }
+    freed (Act-F.For None e None k) b none =
+        let s = empty_parts (in_stmt known k.0 b) [] (empty_parts (in_maybe known e b) (in_stmt known k.0 b ++ []) none).1 in
+        record { layer = Act-F.For None e None (k.0, k.1 b s.0); is = refl; free = tt }
+    freed (Act-F.For None e (Some j) k) b none =
+        let s = empty_parts (in_stmt known k.0 b) (in_stmt known j.0 b) (empty_parts (in_maybe known e b) (in_stmt known k.0 b ++ in_stmt known j.0 b) none).1 in
+        record { layer = Act-F.For None e (Some (j.0, j.1 b s.1)) (k.0, k.1 b s.0); is = refl; free = tt }
+    freed (Act-F.For (Some l) e None k) b none =
+        let t = empty_parts (in_stmt known l.0 b) (in_maybe known e b ++ (in_stmt known k.0 b ++ [])) none in
+        let s = empty_parts (in_stmt known k.0 b) [] (empty_parts (in_maybe known e b) (in_stmt known k.0 b ++ []) t.1).1 in
+        record { layer = Act-F.For (Some (l.0, l.1 b t.0)) e None (k.0, k.1 b s.0); is = refl; free = tt }
+    freed (Act-F.For (Some l) e (Some j) k) b none =
+        let t = empty_parts (in_stmt known l.0 b) (in_maybe known e b ++ (in_stmt known k.0 b ++ in_stmt known j.0 b)) none in
+        let s = empty_parts (in_stmt known k.0 b) (in_stmt known j.0 b) (empty_parts (in_maybe known e b) (in_stmt known k.0 b ++ in_stmt known j.0 b) t.1).1 in
+        record { layer = Act-F.For (Some (l.0, l.1 b t.0)) e (Some (j.0, j.1 b s.1)) (k.0, k.1 b s.0); is = refl; free = tt }
+    freed (Act-F.Return e) b none = record { layer = Act-F.Return e; is = refl; free = tt }
+    freed Act-F.Break b none = record { layer = Act-F.Break; is = refl; free = tt }
+    freed Act-F.Continue b none = record { layer = Act-F.Continue; is = refl; free = tt }
+    freed (Act-F.Check e) b none = record { layer = Act-F.Check e; is = refl; free = tt }
+
+    act_by : (x : ActLayer) (y : Act-F Name (Unit {0}) FreeAct FreeStmt) → inner_free y ≡ x → FreeActHolds (roll-Act Name (Unit {0}) x)
+    act_by x y is b none =
+        let here : barred.act_parts known (barred_inside x) b ≡ [] =
+        sym (ap (λ (d : barred.OfStmt). d b) (fold-roll-Act Name (Unit {0}) barred.OfStmt barred.OfStmt (barred.act_parts known) barred.stmt_parts x)) ∙ none in
+        let f : Freed x = subst (λ z. (c : Bool) → barred.act_parts known (barred_inside z) c ≡ [] → Freed z) is (freed y) b here in
+        act_by_kept x f.layer f.is f.free
 
     stated : (w : Walked) (g : Given) (k : OfAct) (pos : _) → KeepsAct w g k → Keeps w g (λ p. (stmt_at (k p).0 pos, (k p).1))
     stated w g k pos h = record {
@@ -567,17 +653,18 @@ module _ (T : Tests) (tame : AreTame T) where
       none = h.none;
     }
 
-    stmt_by : (x : Stmt-F Name (Unit {0}) NamedAct NamedStmt) (y : Stmt-F Name (Unit {0}) KeptAct KeptStmt) → inner_stmt y ≡ x → StmtHolds (roll-Stmt Name (Unit {0}) x)
+    stmt_by : (x : Stmt-F Name (Unit {0}) NamedAct NamedStmt) (y : Stmt-F Name (Unit {0}) FreeAct FreeStmt) → inner_free_stmt y ≡ x → FreeStmtHolds (roll-Stmt Name (Unit {0}) x)
     stmt_by x y is =
-        subst (λ z. StmtHolds (roll-Stmt Name (Unit {0}) z)) is
-        (let z = inner_stmt y in
+        subst (λ z. FreeStmtHolds (roll-Stmt Name (Unit {0}) z)) is (λ b none.
+        let z = inner_free_stmt y in
+        let h = y.body.1 b (sym (ap (λ (d : barred.OfStmt). d b) (fold-roll-Stmt Name (Unit {0}) barred.OfStmt barred.OfStmt (barred.act_parts known) barred.stmt_parts z)) ∙ none) in
         subst (λ w. Keeps w (placed_stmt with_calls (roll-Stmt Name (Unit {0}) z)) (stmt_plain known (roll-Stmt Name (Unit {0}) z))) (sym (fold-roll-Stmt Name (Unit {0}) Walked Walked (act_walked T) stmt_walked z))
         (subst (λ g. Keeps (walked_act T y.body.0) g (stmt_plain known (roll-Stmt Name (Unit {0}) z))) (sym (fold-roll-Stmt Name (Unit {0}) Given Given (placed_act with_calls) given_in z))
         (subst (λ (k : OfStmt). Keeps (walked_act T y.body.0) (given_of y.body.0) k) (sym (fold-roll-Stmt Name (Unit {0}) OfAct OfStmt (act_parts known) stmt_parts z))
-        (stated (walked_act T y.body.0) (given_of y.body.0) (act_plain known y.body.0) y.pos y.body.1))))
+        (stated (walked_act T y.body.0) (given_of y.body.0) (act_plain known y.body.0) y.pos h))))
 
-    stmt_holds : (s : NamedStmt) → StmtHolds s
-    stmt_holds = ind-Stmt Name (Unit {0}) ActHolds StmtHolds act_by stmt_by
+    stmt_holds : (s : NamedStmt) → FreeStmtHolds s
+    stmt_holds = ind-Stmt Name (Unit {0}) FreeActHolds FreeStmtHolds act_by stmt_by
 
-    pub body_passes : (s : NamedStmt) (n : ℕ) (vs : List Name) → (V s).passes vs ≡ true → (placed_stmt with_calls s).nested ≡ true → (V (alone (stmt_plain known s) n).0).passes vs ≡ true
-    body_passes s n vs h w = passes_alone (s, stmt_holds s) vs vs h w (same vs) n
+    pub body_passes : (s : NamedStmt) (n : ℕ) (vs : List Name) → (V s).passes vs ≡ true → (placed_stmt with_calls s).nested ≡ true → in_stmt known s false ≡ [] → (V (alone (stmt_plain known s) n).0).passes vs ≡ true
+    body_passes s n vs h w none = passes_alone (s, stmt_holds s false none) vs vs h w (same vs) n
