@@ -91,8 +91,8 @@ err_limits : (n : NamedText) (e : Fault) → Answers limiting n.tree (Err e) →
 err_limits n (fault.Refused r) f = f
 err_limits n fault.Memory f = tt
 
-pub limits_kept : (n : NamedText) (r : Result (Unit {0}) Fault) → Exact limiting n.tree (viewed (λ x. n.tree) r) → r ≡ Ok tt → Exact relimiting n (Ok n)
-limits_kept n r x is = exact_of relimiting relimiting_exact n (Ok n) ((subst (λ z. Exact limiting n.tree (viewed (λ y. n.tree) z)) is x).answers, refl)
+pub limits_kept : (n : NamedText) → Exact limiting n.tree (Ok n.tree) → Exact relimiting n (Ok n)
+limits_kept n x = exact_of relimiting relimiting_exact n (Ok n) (x.answers, refl)
 
 pub limits_broken : (n : NamedText) (r : Result (Unit {0}) Fault) (e : Fault) → Exact limiting n.tree (viewed (λ x. n.tree) r) → r ≡ Err e → Exact relimiting n (Err e)
 limits_broken n r e x is = exact_of relimiting relimiting_exact n (Err e) (err_limits n e (subst (λ z. Exact limiting n.tree (viewed (λ y. n.tree) z)) is x).answers)

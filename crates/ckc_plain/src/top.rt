@@ -117,7 +117,7 @@ fn plained(alloc: Global, named: NamedText) -> Result<NamedText, Fault>
 }
 
 /// The text, if its tree keeps the limits of a text (E202 to E205). One that does not is left to the end of the process.
-#[tactic(auto, using(crate::proofs::Relimiting::limits_kept, crate::proofs::Relimiting::limits_broken))]
+#[tactic(auto, using(crate::proofs::Relimiting::limits_broken))]
 pub fn limited(named: NamedText) -> Result<NamedText, Fault>
     ensures exact { Exact relimiting named result }
 {
