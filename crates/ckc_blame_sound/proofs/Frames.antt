@@ -21,7 +21,7 @@ use Rattle.ckc_typed.specs.declared.environment.Object.{Object}
 use Rattle.ckc_typed.specs.declared.environment.Variable.{Variable}
 use Rattle.ckc_typed.specs.declared.typed.Typed.{Typed}
 use Rattle.ckc_typed.specs.Trees.{NotedDecl, NotedHead, NotedStmt, Tree, Item}
-use Rattle.ckc_typed.specs.Environment.{same_name, objects_of, or_variable, object_named, variable_named, variable_declared, variables_of, locals_of, type_of_name}
+use Rattle.ckc_typed.specs.Environment.{same_name, objects_declared_by, objects_of, or_variable, object_named, variable_named, variable_declared, variables_of, locals_of, type_of_name}
 use Rattle.ckc_typed_fit.proofs.NamedItems as items
 use Rattle.ckc_typed_fit.proofs.NamedItems.{ItemsNamed, text_is}
 use Rattle.ckc_typed_plain.proofs.Items.{resolved_of, flat_items}

@@ -8,7 +8,7 @@ use Rattle.ckc_typed.specs.Trees.{NotedDecl, NotedHead, NotedStmt}
 use Rattle.ckc_typed.specs.Types.{is_char}
 use Rattle.ckc_typed.specs.Environment.{variable_declared, params_of, locals_of, variables_of}
 use Rattle.ckc_blame_sound.specs.ckc_bounds.specs.Declarations.{types_in}
-use Rattle.ckc_blame_sound.specs.ckc_bounds.proofs.Lists.{with_all_length}
+use Rattle.ckc_blame_sound.specs.ckc_bounds.proofs.Lists.{all_made_length}
 use Rattle.ckc_blame_sound.specs.ckc_bounds.specs.Frames.{begin_in}
 use Rattle.ckc_source.specs.Blocks.{Block}
 use Rattle.ckc_source.specs.Code.{Function}
@@ -60,7 +60,7 @@ mapped_many f (x ∷ xs) = ap suc (mapped_many f xs)
 
 pub params_many : (p : Typed) (head : NotedHead) (body : NotedStmt) → length (setting_of p head body).head.params ≡ length head.params
 unfolding setting_of
-params_many p head body = with_all_length (types_in (frame_of_text p) head.params) true head.params
+params_many p head body = all_made_length (types_in (frame_of_text p) head.params) true head.params
 
 variables_many : (p : Typed) (k : ℕ) (head : NotedHead) (body : NotedStmt) → (function_elaborated p k head body).locals ≡ length (setting_of p head body).variables
 unfolding setting_of

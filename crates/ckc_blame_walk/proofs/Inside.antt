@@ -1,6 +1,6 @@
 -- The parts of a statement in the body of a function stand there too.
 use Rattle.std.proofs.Common.{◌≡◌, refl, sym, ap, subst, ◌∙◌, ℕ, ◌≤◌, Bool, true, List, [], ◌∷◌, ◌++◌, length, map, arith, rules}
-use Rattle.std.specs.Prelude.{◌&&◌, ◌||◌, Option, None, Some, unwrap_or, IfSome}
+use Rattle.std.specs.Prelude.{not, ◌&&◌, ◌||◌, Option, None, Some, unwrap_or, IfSome}
 use Rattle.std.specs.Option.{option_map}
 use Rattle.std.specs.List.{AllByRecursion, Contains}
 use Rattle.std.proofs.lemmas.List.Elements.{Contains-append_left, Contains-append_right}
@@ -149,7 +149,7 @@ module _ (s : Setting) where
 
   steps_given : (u : Option NotedStmt) → steps (option_map given_stmt u) ≡ true → fine_if u ≡ true
   steps_given None h = refl
-  steps_given (Some u) h = (and_cases (given_stmt u).fine (given_stmt u).assigns h).0
+  steps_given (Some u) h = (and_cases (given_stmt u).fine (not (given_stmt u).jumps) h).0
 
   for_given : (u : Option NotedStmt) (e : Option NotedExpr) (t : Option NotedStmt) (b : NotedStmt)
       → (begins (option_map given_stmt u) && (callless_value e && (steps (option_map given_stmt t) && (given_stmt b).fine))) ≡ true
