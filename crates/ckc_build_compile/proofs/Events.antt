@@ -19,7 +19,7 @@ use Rattle.ckc_tac.specs.declared.code.TacOp.{TacOp}
 use Rattle.ckc_tac.specs.declared.code.TacOp.TheVariants as op
 use Rattle.ckc_tac.specs.declared.code.TacEnd.{TacEnd}
 use Rattle.ckc_tac.specs.declared.code.TacEnd.TheVariants as ends
-use Rattle.ckc_tac.specs.Operations.{outcome_of, value_in, values_in, compared}
+use Rattle.ckc_tac.specs.Operations.{at_offset, outcome_of, value_in, values_in, compared}
 use Rattle.ckc_frame.specs.declared.code.PlacedFunc.{PlacedFunc}
 use Rattle.ckc_frame.specs.Meaning as F
 use Rattle.ckc_rv.specs.declared.instructions.Instr.{Instr}
@@ -238,10 +238,10 @@ module _ (functions : List PlacedFunc) (s : F.State) where
   places_run (op.High g t a b ∷ ops) = places_act ops (outcome_of (F.registers_of s.frame) s.world (op.High g t a b))
       (valued (value_in (F.registers_of s.frame) a) _ (λ x. valued (value_in (F.registers_of s.frame) b) _ (λ y. tt)))
   places_run (op.Load width t a n ∷ ops) = places_act ops (outcome_of (F.registers_of s.frame) s.world (op.Load width t a n))
-      (valued (value_in (F.registers_of s.frame) a) _ (λ p. valued (value_at width s.world.memory p) _ (λ y. tt)))
+      (valued (value_in (F.registers_of s.frame) a) _ (λ p. valued (value_at width s.world.memory (at_offset p n)) _ (λ y. tt)))
   places_run (op.Store width a n b ∷ ops) = places_act ops (outcome_of (F.registers_of s.frame) s.world (op.Store width a n b))
-      (valued (value_in (F.registers_of s.frame) a) _ (λ p. valued (value_in (F.registers_of s.frame) b) (stores s.world width p)
-      (λ v. stores_act s.world p (memory_with width s.world.memory p v) (Stored p width (kept_part width v)) tt)))
+      (valued (value_in (F.registers_of s.frame) a) _ (λ p. valued (value_in (F.registers_of s.frame) b) (stores s.world width (at_offset p n))
+      (λ v. stores_act s.world (at_offset p n) (memory_with width s.world.memory (at_offset p n) v) (Stored (at_offset p n) width (kept_part width v)) tt)))
   places_run (op.Check check at comparison a b ∷ ops) = places_act ops (outcome_of (F.registers_of s.frame) s.world (op.Check check at comparison a b))
       (valued (compared comparison (value_in (F.registers_of s.frame) a) (value_in (F.registers_of s.frame) b)) (checks s.world check at)
       (λ v. checks_act s.world check at (v == 0)))
