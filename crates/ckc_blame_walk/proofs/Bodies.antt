@@ -1,5 +1,5 @@
 -- The body of each function stands in the scope of its parameters.
-use Rattle.std.proofs.Common.{◌≡◌, ⊎_elim, refl, sym, ap, subst, ◌∙◌, ℕ, suc, ◌+◌, Bool, true, false, List, [], ◌∷◌, ◌++◌, map, length, length-append, append-nil, append_assoc, eqb, arith}
+use Rattle.std.proofs.Common.{slice_get, ◌≡◌, ⊎_elim, refl, sym, ap, subst, ◌∙◌, ℕ, suc, ◌+◌, Bool, true, false, List, [], ◌∷◌, ◌++◌, map, length, length-append, append-nil, append_assoc, eqb, arith}
 use Rattle.std.specs.Prelude.{◌<◌, ◌≤◌, ◌&&◌, ◌||◌, All, Option, None, Some}
 use Rattle.std.specs.List.{list_all, list_any, flat_map, Contains, IsDistinct}
 use Rattle.std.specs.Option.{option_map}
