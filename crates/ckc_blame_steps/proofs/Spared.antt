@@ -12,7 +12,7 @@ use Rattle.ckc_source.specs.Code.{Function}
 use Rattle.ckc_blame_sound.specs.Settings.{Setting, IsFunction}
 use Rattle.ckc_blame_sound.specs.JudgedTexts.{IsJudged}
 use Rattle.ckc_blame_sound.proofs.Frames.{function_counts}
-use Rattle.ckc_blame_sound.proofs.Functions.{numbered}
+use Rattle.ckc_blame_sound.proofs.Functions.{numbered, params_numbered}
 use Rattle.ckc_blame_sound.proofs.Parameters.{locals_come_after}
 use Rattle.ckc_blame_walk.specs.ckc_blame_declared.proofs.Heads.{results_have_ends}
 
@@ -29,7 +29,7 @@ results_spare p s f k j is past = by s.head.bounds refl
 
 pub locals_spared : (p : Typed) (s : Setting) (f : Function) (d : NotedDecl) (k : ℕ) → IsJudged p → (is : IsFunction p s f) → Contains (path is.body).declared d → d.name ≡ name.Local k → in_bounds k s.head.bounds ≡ false
 locals_spared p s f d k j is there named =
-    let low : length is.head.params ≤ k = locals_come_after is.head.params (path is.body).declared d k (numbered p is.head is.body j is.there) there named in
+    let low : length is.head.params ≤ k = locals_come_after is.head.params (path is.body).declared d k (params_numbered p is.head is.body j is.there) (numbered p is.head is.body j is.there) there named in
     let counts : f.params ≡ length s.head.params = (function_counts p s f is).1 in
     let runs : f.params ≡ length is.head.params = ap (λ (g : Function). g.params) is.runs in
     results_spare p s f k j is (omega (arith, low, counts, runs))
