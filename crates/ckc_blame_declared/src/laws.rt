@@ -41,7 +41,20 @@ pub fn memory_bounds_are_own()
         IsFunction p s f → memory_bounds s.frame e ≡ bounds.Known low high → AreOwn low high }
 {}
 
-/// The parameters that the head of a function tells are its first locals, and their bounds name parameters alone.
+/// A function that is entered reads its interfaces without being stuck exactly when they may be read within their bounds.
+pub fn interfaces_are_bounded()
+    ensures reads { (p : Typed) (s : Setting) (f : Function) (store : Store) → IsJudged p
+        → IsFunction p s f → length s.variables < 1024
+        → ((k : ℕ) → k < length s.head.params → IsBounded s store [] k (local_at s.frame k))
+        → reads_interfaces store f.interfaces ≡ Ok tt }
+    ensures bounded { (p : Typed) (s : Setting) (f : Function) (store : Store) (k : ℕ) → IsJudged p
+        → IsFunction p s f → length s.variables < 1024
+        → reads_interfaces store f.interfaces ≡ Ok tt → slice_get s.head.interfaces k ≡ Some true
+        → IsBounded s store [] k (local_at s.frame k) }
+{}
+
+/// The parameters that the head of a function tells are its first locals, as its body sees them, and their bounds name
+/// parameters alone.
 pub fn parameters_are_locals()
     ensures { (p : Typed) (s : Setting) (f : Function) → IsJudged p → IsFunction p s f
         → length s.variables < 1024 → AreParameters s s.head.params }

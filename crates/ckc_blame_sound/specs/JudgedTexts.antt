@@ -42,4 +42,4 @@ pub record IsBodyJudged (globals : Globals) (typed : Typed) (h : NotedHead) (bod
   pub mode : Mode
   pub there : Contains typed.tree.items (item.Function h before)
   pub judged : body_judged (frame_of_text typed) h before ≡ Ok body
-  pub fits : WellTypedStmt globals (variables_of h body) (type_written h.result) before mode false
+  pub fits : WellTypedStmt globals (variables_of body.note.mode h body) (type_written h.result) before mode false

@@ -37,7 +37,7 @@ setting_of p head body = record {
   text = p;
   frame = function_frame (frame_of_text p) head body;
   head = head_bounds (frame_of_text p) head;
-  variables = variables_of head body;
+  variables = variables_of body.note.mode head body;
   result = type_written head.result;
 }
 

@@ -120,7 +120,8 @@ pub fn declarations_keep_bounds()
         × AreBounded s after (assigned s.frame k form at).widened (seen ++ k ∷ []) }
 {}
 
-/// At the begin of a call each parameter may be read within its bounds, if the arguments are contained in them.
+/// At the begin of a call each parameter may be read within its bounds, if the arguments are contained in them, and each
+/// interface that is given an unchecked pointer may.
 pub fn calls_begin_bounded()
     ensures { (s called : Setting) (store : Store) (v : Valuation) (at : State) (es : List View)
         (fresh : ℕ) (h : HeadBounds) (entry locals : List ℕ) → called.text ≡ s.text
@@ -131,6 +132,8 @@ pub fn calls_begin_bounded()
         → AreArguments called.text.layout v facts h.params entry 0 0 es)
         → AreNewArguments called store v h.params entry at 0 0 fresh es
         → ((k : ℕ) → k < length h.params → slice_index locals k ≡ slice_index entry k)
+        → ((k : ℕ) (e : View) → slice_get es k ≡ Some e → is_owed (slice_get h.interfaces k) e ≡ true
+        → IsBounded called (record store { locals = locals }) [] k (local_at called.frame k))
         → head_fault (Some h) es fresh at ≡ None → (k : ℕ) → k < length h.params
         → IsBounded called (record store { locals = locals }) [] k (local_at called.frame k) }
 {}

@@ -3,9 +3,7 @@ use Rattle.std.specs.Prelude.{◌≡◌, ℕ, ◌<◌, length, map, slice_get, S
 use Rattle.ckc_syntax.specs.declared.tree.Name.TheVariants as name
 use Rattle.ckc_typed.specs.declared.environment.Signature.{Signature}
 use Rattle.ckc_typed.specs.declared.typed.Typed.{Typed}
-use Rattle.ckc_typed.specs.Environment.{signature_named}
-use Rattle.ckc_typed.specs.Trees.{NotedDecl}
-use Rattle.ckc_typed.specs.Types.{type_written}
+use Rattle.ckc_typed.specs.Environment.{signature_named, parameter_declared}
 use Rattle.ckc_blame_sound.specs.ckc_bounds_points.specs.declared.frame.Frame.{Frame}
 use Rattle.ckc_source.specs.Code.{Function}
 use Rattle.ckc_build_elaborate.specs.Functions.{functions_elaborated}
@@ -22,7 +20,7 @@ pub record IsCallee (p : Typed) (frame : Frame) (k : ℕ) (t : Signature) : Type
   pub there : slice_get (functions_elaborated p) (number_of (name.Function k) p.tree.items) ≡ Some callee
   pub head : slice_get frame.heads k ≡ Some called.head
   pub params : params_of (name.Function k) p.tree.items ≡ function.head.params
-  pub types : t.params ≡ map (λ (d : NotedDecl). type_written d.ctype) function.head.params
+  pub types : t.params ≡ map parameter_declared function.head.params
   pub result : t.result ≡ called.result
 
 -- Each function of a text that has a signature is so, to the frame of each function.

@@ -1,14 +1,18 @@
 -- What declarations say of bounds to the expressions of a text.
 use Rattle.std.specs.Prelude.{ℕ, zero, suc, ◌<◌, ◌≤◌, ◌==◌, Bool, true, false, if◌then◌else◌, List, [], ◌∷◌, ◌++◌, map, length, replicate, slice_set, Option, None, Some, Ok, Err}
 use Rattle.std.proofs.Common.{zero-le, suc-le-suc}
-use Rattle.ckc_base.specs.Outcomes.{Outcome, bind}
+use Rattle.ckc_base.specs.declared.arithmetic.Mode.TheVariants.{Checked}
+use Rattle.ckc_base.specs.Outcomes.{Outcome, bind, unless}
 use Rattle.ckc_types.specs.declared.types.CType.{CType}
 use Rattle.ckc_types.specs.declared.types.CType.TheVariants as ctype
 use Rattle.ckc_syntax.specs.declared.tree.Name.{Name}
 use Rattle.ckc_syntax.specs.declared.tree.Name.TheVariants as name
 use Rattle.ckc_syntax.specs.declared.tree.Length.TheVariants as lengths
 use Rattle.ckc_syntax.specs.declared.tree.Item.TheVariants as item
+use Rattle.ckc_syntax.specs.declared.tree.Limits.{Limits-F, out-Limits}
+use Rattle.ckc_typed.specs.declared.typed.Note.{Note}
 use Rattle.ckc_typed.specs.Trees.{NotedDecl, NotedHead, NotedItem, NotedLimits}
+use Rattle.ckc_typed.specs.Interfaces.{is_interface, seen, seen_params}
 use Rattle.ckc_typed.specs.Types.{type_written}
 use Rattle.ckc_bounds_points.specs.declared.frame.Bounds.{Bounds}
 use Rattle.ckc_bounds_points.specs.declared.frame.Bounds.TheVariants as bounds
@@ -17,7 +21,8 @@ use Rattle.ckc_bounds_points.specs.declared.frame.HeadBounds.{HeadBounds}
 use Rattle.ckc_bounds_points.specs.declared.frame.Frame.{Frame}
 use Rattle.ckc_bounds_declared.specs.declared.limits.Holder.{Holder}
 use Rattle.ckc_bounds_declared.specs.declared.limits.Holder.TheVariants as holder
-use Rattle.ckc_bounds_declared.specs.Written.{bounds_declared}
+use Rattle.ckc_bounds_declared.specs.Written.{bounds_declared, place_of_limits}
+use Rattle.ckc_bounds_points.specs.Codes.{bad_limits}
 use Rattle.ckc_bounds_statements.specs.DeclBounds.{decl_bounds, bounds_there}
 
 -- what the members of the structure that a name means are to their bounds
@@ -34,9 +39,23 @@ abbrev pub each : {A : Type 0} → List (Outcome A) → Outcome (Unit {0})
 each [] = Ok tt
 each (o ∷ os) = bind o (λ a. each os)
 
+-- whether bounds are `bounds(unknown)`
+abbrev pub are_unknown_form : {A L M E : Type 0} → Limits-F Name A L M E → Bool
+are_unknown_form (Limits-F.Unknown at) = true
+are_unknown_form _ = false
+
+-- the bounds of an interface, which are not `bounds(unknown)`, or E603
+abbrev pub interface_bounds : Frame → NotedDecl → Option NotedLimits → Outcome Bounds
+interface_bounds frame d None = bounds_there frame d
+interface_bounds frame d (Some l) = unless (are_unknown_form (out-Limits Name Note l)) bad_limits (place_of_limits l) (bounds_there frame d)
+
+-- the bounds of a parameter, or E603; an interface has those that checked code sees
+abbrev pub param_bounds : Frame → NotedDecl → Outcome Bounds
+param_bounds frame d = if is_interface d then interface_bounds frame (seen Checked d) d.bounds else bounds_there frame d
+
 -- E603 of parameters, and of the result
 abbrev pub head_judged : Frame → NotedHead → Outcome Bounds
-head_judged frame h = bind (each (map (bounds_there frame) h.params)) (λ u. result_bounds frame h)
+head_judged frame h = bind (each (map (param_bounds frame) h.params)) (λ u. result_bounds frame h)
 
 -- Bounds that are refused are unknown to what is judged before them.
 abbrev pub known_or_not : Outcome Bounds → Bounds
@@ -104,12 +123,17 @@ types_in frame ds = with_locals frame (all_made frame false ds)
 abbrev pub declared_in : Frame → List NotedDecl → List Local
 declared_in frame ds = all_made (types_in frame ds) true ds
 
--- A head is judged with its parameters as the locals.
+-- the structures and objects with the parameters of a function as the locals, by their types alone
+abbrev pub params_frame : Frame → NotedHead → Frame
+params_frame frame h = types_in frame (seen_params Checked h)
+
+-- A head is judged with its parameters as the locals, as its function's callers see them.
 abbrev pub head_bounds : Frame → NotedHead → HeadBounds
 head_bounds frame h = record {
-  params = declared_in frame h.params;
+  params = declared_in frame (seen_params Checked h);
+  interfaces = map is_interface h.params;
   result = type_written h.result;
-  bounds = known_or_not (result_bounds (types_in frame h.params) h);
+  bounds = known_or_not (result_bounds (params_frame frame h) h);
 }
 
 -- whether a name means the function with the number n

@@ -3,6 +3,7 @@ use Rattle.std.specs.Prelude.{ℕ, ◌-◌, Bool, true, false, if◌then◌else�
 use Rattle.ckc_base.specs.Outcomes.{Outcome}
 use Rattle.ckc_types.specs.declared.types.Structs.{Structs}
 use Rattle.ckc_typed.specs.declared.typed.StaticObject.{StaticObject}
+use Rattle.ckc_typed.specs.Interfaces.{seen_params}
 use Rattle.ckc_typed.specs.Trees.{NotedDecl, NotedHead, NotedStmt, NotedItem}
 use Rattle.ckc_bounds_points.specs.declared.frame.Local.{Local}
 use Rattle.ckc_bounds_points.specs.declared.frame.HeadBounds.{HeadBounds}
@@ -23,9 +24,9 @@ text_frame structs statics items = record (structs_frame structs statics) {
   heads = heads_from (structs_frame structs statics) [] items;
 }
 
--- the declarations of the parameters and of the other locals of a function
+-- the declarations of the parameters and of the other locals of a function, as its body sees them
 abbrev pub all_of : NotedHead → NotedStmt → List NotedDecl
-all_of h body = h.params ++ (path body).declared
+all_of h body = seen_params body.note.mode h ++ (path body).declared
 
 -- the local that a parameter is, as a list of at most one
 abbrev pub name_seen : NotedDecl → List ℕ

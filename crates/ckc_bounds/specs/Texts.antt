@@ -8,7 +8,7 @@ use Rattle.ckc_bounds_points.specs.declared.frame.Frame.{Frame}
 use Rattle.ckc_bounds_points.specs.Flow.{entry}
 use Rattle.ckc_bounds_declared.specs.declared.limits.Holder.{Holder}
 use Rattle.ckc_bounds_statements.specs.DeclBounds.{decl_bounds, bounds_there}
-use Rattle.ckc_bounds.specs.Declarations.{each, head_judged, member_holder, types_in, head_bounds}
+use Rattle.ckc_bounds.specs.Declarations.{each, head_judged, member_holder, params_frame, head_bounds}
 use Rattle.ckc_bounds_statements.specs.Paths.{Here, init_judged, path}
 use Rattle.ckc_bounds.specs.Frames.{text_frame, function_frame, begin_of}
 
@@ -32,7 +32,7 @@ body_judged frame h body =
 
 -- a head, if its bounds have such forms
 abbrev pub head_kept : Frame → NotedHead → Outcome NotedHead
-head_kept frame h = bind (head_judged (types_in frame h.params) h) (λ b. Ok h)
+head_kept frame h = bind (head_judged (params_frame frame h) h) (λ b. Ok h)
 
 -- a function, its head judged before its body, or its first error
 abbrev pub function_judged : Frame → NotedHead → NotedStmt → Outcome NotedItem

@@ -22,10 +22,11 @@ pub struct Local {
     pub bounds: Bounds,
 }
 
-/// What a function's head says of bounds: its parameters, which are its first locals, the type of its result, and the
-/// declared bounds of the result, in which `Base::Value(0)` is the result itself.
+/// What a function's head says of bounds: its parameters as callers see them, which of them are interfaces, the type of
+/// its result, and the declared bounds of the result, in which `Base::Value(0)` is the result itself.
 pub struct HeadBounds {
     pub params: Seq<Local>,
+    pub interfaces: Seq<bool>,
     pub result: CType,
     pub bounds: Bounds,
 }
@@ -34,6 +35,7 @@ impl Drop for HeadBounds {
     fn drop(self) {
         let HeadBounds {
             params: _params,
+            interfaces: _interfaces,
             result: _result,
             bounds: _bounds,
         } = self;

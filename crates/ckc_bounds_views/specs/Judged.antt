@@ -20,6 +20,7 @@ use Rattle.ckc_typed.specs.declared.typed.Range.TheVariants as range
 use Rattle.ckc_typed.specs.Types.{is_integer, is_pointer, kind_of, element_of}
 use Rattle.ckc_typed.specs.Constants.{size_of, value_of}
 use Rattle.ckc_typed.specs.Amounts.{is_multiple}
+use Rattle.ckc_typed.specs.Operands.{is_raw_kind}
 use Rattle.ckc_bounds_points.specs.declared.frame.Bounds.{Bounds}
 use Rattle.ckc_bounds_points.specs.declared.frame.Local.{Local}
 use Rattle.ckc_bounds_points.specs.declared.frame.HeadBounds.{HeadBounds}
@@ -157,25 +158,30 @@ facts_for e first fresh allocated at =
 abbrev pub contained_in : Bounds → Bool → Range → Known → (Known → List BaseBy) → (Known → List VariableBy) → Bool
 contained_in b null r facts bases variables = is_contained facts b null r (replaced_bounds (bases facts) (variables facts) b)
 
+-- whether an argument goes to an interface as the unchecked pointer that it is, which is not judged
+abbrev pub is_owed : Option Bool → View → Bool
+is_owed (Some true) e = is_raw_kind (kind_of e.ctype)
+is_owed _ e = false
+
 -- A parameter's bounds, with the arguments in place of the parameters, lie in the range of its argument.
 abbrev pub is_argument : Option Local → View → ℕ → ℕ → State → (Known → List BaseBy) → (Known → List VariableBy) → Bool
 is_argument None e first fresh at bases variables = true
 is_argument (Some p) e first fresh at bases variables =
     contained_in p.bounds e.null (e.range first fresh at) (facts_for e first fresh false at) bases variables
 
--- E602 at the first argument that is not contained in the bounds of its parameter
-abbrev pub arguments_fault : (Known → List BaseBy) → (Known → List VariableBy) → List Local → ℕ → List View → ℕ → ℕ → State → Option Refusal
-arguments_fault bases variables params n [] first fresh at = None
-arguments_fault bases variables params n (e ∷ es) first fresh at =
-    if is_argument (slice_get params n) e first fresh at bases variables
-    then arguments_fault bases variables params (capped n 1) es (capped first e.values) (fresh_behind e fresh at) at
+-- E602 at the first argument that is judged and is not contained in the bounds of its parameter
+abbrev pub arguments_fault : (Known → List BaseBy) → (Known → List VariableBy) → HeadBounds → ℕ → List View → ℕ → ℕ → State → Option Refusal
+arguments_fault bases variables h n [] first fresh at = None
+arguments_fault bases variables h n (e ∷ es) first fresh at =
+    if is_owed (slice_get h.interfaces n) e || is_argument (slice_get h.params n) e first fresh at bases variables
+    then arguments_fault bases variables h (capped n 1) es (capped first e.values) (fresh_behind e fresh at) at
     else Some (record { code = not_contained; pos = e.pos })
 
 -- E602 at the first argument of a call that is not contained, by what the head of the function says
 abbrev pub head_fault : Option HeadBounds → List View → ℕ → State → Option Refusal
 head_fault None es fresh at = None
 head_fault (Some h) es fresh at =
-    arguments_fault (λ facts. bases_by h.params 0 0 facts es) (λ facts. variables_by h.params 0 facts es) h.params 0 es 0 fresh at
+    arguments_fault (λ facts. bases_by h.params 0 0 facts es) (λ facts. variables_by h.params 0 facts es) h 0 es 0 fresh at
 
 -- E602: the first argument that is not contained
 abbrev pub call_fault : Frame → Name → List View → ℕ → State → Option Refusal

@@ -20,6 +20,7 @@ use Rattle.ckc_source.specs.declared.stmt.Assign as assigns
 use Rattle.ckc_source.specs.declared.stmt.StmtTree.{StmtTree, StmtTree-F, fold-StmtTree}
 use Rattle.ckc_source.specs.declared.program.Object.{Object}
 use Rattle.ckc_source.specs.declared.program.Shape.{Shape}
+use Rattle.ckc_source.specs.declared.program.Interface.{Interface}
 use Rattle.ckc_source.specs.declared.program.FunctionTree.{FunctionTree}
 use Rattle.ckc_source.specs.declared.program.Program as programs
 
@@ -132,17 +133,18 @@ stmt_of = fold-StmtTree (Code → Code) stmt_form
 abbrev pub code_of : List StmtTree → Code
 code_of statements = chained (map stmt_of statements) End
 
--- A function: where falling off its end stands, how many parameters and locals it has, its body, and the limits of its
--- result.
+-- A function: where falling off its end stands, how many parameters and locals it has, its body, the limits of its
+-- result, and the interfaces that are read when it is entered.
 pub record Function : Type 0 where
   pub end : Spot
   pub params : ℕ
   pub locals : ℕ
   pub body : Code
   pub result : Option Limits
+  pub interfaces : List Interface
 
 abbrev pub function_of : FunctionTree → Function
-function_of f = record { end = f.end; params = f.params; locals = f.locals; body = code_of f.body; result = f.result }
+function_of f = record { end = f.end; params = f.params; locals = f.locals; body = code_of f.body; result = f.result; interfaces = f.interfaces }
 
 -- A program: its objects, its structures, its functions, and the number of `main`.
 pub record Program : Type 0 where

@@ -1,6 +1,6 @@
 -- The steps of a program (ISO C11, 6.8 and 5.1.2.3). A step is one assignment or declaration, one statement that calls
 -- `getchar`, `putchar` or `calloc`, one condition, the entry of a call, a return, a dynamic check, or a bundle.
-use Rattle.std.specs.Prelude.{ℕ, ◌-◌, ◌%◌, ◌^◌, ◌==◌, if◌then◌else◌, List, [], ◌∷◌, ◌++◌, slice_get, slice_set, Option, Some, None, Result, Ok, Err}
+use Rattle.std.specs.Prelude.{ℕ, ◌-◌, ◌%◌, ◌^◌, ◌==◌, if◌then◌else◌, List, [], ◌∷◌, ◌++◌, slice_get, slice_index, slice_set, Option, Some, None, Result, Ok, Err}
 use Rattle.ckc_base.specs.declared.arithmetic.Width.{Width}
 use Rattle.ckc_base.specs.declared.places.Pos.{Pos}
 use Rattle.ckc_base.specs.declared.runtime_checks.Check.TheVariants as check
@@ -20,6 +20,7 @@ use Rattle.ckc_source.specs.declared.outcome.Halt.{Halt}
 use Rattle.ckc_source.specs.declared.outcome.Halt.TheVariants as halt
 use Rattle.ckc_source.specs.declared.outcome.Place.{Place}
 use Rattle.ckc_source.specs.declared.outcome.Place.TheVariants as place
+use Rattle.ckc_source.specs.declared.program.Interface.{Interface}
 use Rattle.ckc_source.specs.declared.program.Shape.{Shape}
 use Rattle.ckc_source.specs.declared.stmt.Spot.{Spot}
 use Rattle.ckc_source.specs.declared.stmt.Kept.{Kept}
@@ -153,16 +154,26 @@ gets s to (b ∷ rest) = comes_to (Got (Some b) ∷ []) (writes_allowed to b (re
 abbrev pub puts : State → Place → ℕ → Move Event State
 puts s to n = comes_to (Puts (n % 256) ∷ []) (writes_allowed to (n % 256) s)
 
--- A function is entered with these arguments, and the call in which that happens waits for its result.
-abbrev pub enters : State → Option Kept → List ℕ → Option Function → Move Event State
-enters s target values (Some f) =
-    Goes [] (record s { frame = entered f values; callers = record { frame = s.frame; target = target } ∷ s.callers })
-enters s target values None = Halts [] standing.Stuck
+-- a function is entered with these arguments, and the call in which that happens waits for its result
+abbrev pub in_call : State → Option Kept → List ℕ → Function → State
+in_call s target values f = record s { frame = entered f values; callers = record { frame = s.frame; target = target } ∷ s.callers }
+
+-- Each interface of checked code is read with its limits. It is stuck if the caller passed a pointer that may reach less;
+-- an argument that was judged reaches all of them.
+abbrev pub reads_interfaces : Store → List Interface → Result (Unit {0}) Halt
+reads_interfaces s [] = Ok tt
+reads_interfaces s (i ∷ is) = given (reads_limited s i.limits (slice_index s.locals i.param)) (λ v. reads_interfaces s is)
+
+-- A function is entered, and its interfaces are read.
+abbrev pub enters : List Shape → State → Option Kept → List ℕ → Option Function → Move Event State
+enters shapes s target values (Some f) =
+    and_moves (reads_interfaces (store_of shapes (in_call s target values f)) f.interfaces) (λ u. Goes [] (in_call s target values f))
+enters shapes s target values None = Halts [] standing.Stuck
 
 -- a call with these arguments: at most 1,024 are active
-abbrev pub calls : List Function → State → Option Kept → ℕ → Pos → List ℕ → Move Event State
-calls functions s target callee at values =
-    if has_room (active s) then enters s target values (slice_get functions callee) else Halts [] (standing.Stopped check.Depth at)
+abbrev pub calls : Program → State → Option Kept → ℕ → Pos → List ℕ → Move Event State
+calls p s target callee at values =
+    if has_room (active s) then enters p.shapes s target values (slice_get p.functions callee) else Halts [] (standing.Stopped check.Depth at)
 
 -- the place that keeps the result of a call: a local or a static object
 abbrev pub kept_place : Kept → Place
@@ -198,7 +209,7 @@ acts p s work (Put spot target e rest) =
     and_moves (aimed (store_of p.shapes s) target) (λ to. and_moves (evaluated (store_of p.shapes s) e) (λ v.
     puts (at_work s (Rest rest ∷ work)) to v.number))
 acts p s work (Call spot target callee es rest) =
-    and_moves (all_evaluated (store_of p.shapes s) es) (calls p.functions (at_work s (Rest rest ∷ work)) target callee spot.at)
+    and_moves (all_evaluated (store_of p.shapes s) es) (calls p (at_work s (Rest rest ∷ work)) target callee spot.at)
 acts p s work (If spot e one two rest) =
     and_moves (evaluated (store_of p.shapes s) e) (λ v.
     Goes [] (at_work s (Rest (if v.number == 0 then two else one) ∷ Rest rest ∷ work)))

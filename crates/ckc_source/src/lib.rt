@@ -14,5 +14,5 @@ pub use expr::{
     Variable,
 };
 pub use outcome::{Halt, Place, Range, Value};
-pub use program::{FunctionTree, MemberRun, Object, Program, Shape};
+pub use program::{FunctionTree, Interface, MemberRun, Object, Program, Shape};
 pub use stmt::{Assign, Kept, RightTree, Spot, StmtTree, TargetTree};

@@ -32,8 +32,17 @@ pub struct Shape {
     pub runs: Seq<MemberRun>,
 }
 
+/// A parameter of checked code that unchecked code may pass a `T *` for: its number, and the limits that it is read with
+/// (Checked C specification 0.9, section 6, on bounds-safe interfaces).
+#[derive(Drop)]
+pub struct Interface {
+    pub param: u32,
+    pub limits: Limits,
+}
+
 /// A function: where the step of falling off its end stands, how many parameters and how many locals it has, its
-/// parameters first among them, its body, and the limits of its result, if it is a pointer with known limits.
+/// parameters first among them, its body, the limits of its result, if it is a pointer with known limits, and its
+/// interfaces, if its body is checked.
 #[derive(Drop)]
 pub struct FunctionTree {
     pub end: Spot,
@@ -41,6 +50,7 @@ pub struct FunctionTree {
     pub locals: u32,
     pub body: Seq<StmtTree>,
     pub result: Option<Limits>,
+    pub interfaces: Seq<Interface>,
 }
 
 /// A program: its objects in the order of their addresses, its structures by the numbers of their tags, its functions,

@@ -9,7 +9,7 @@ use Rattle.ckc_syntax.specs.declared.tree.Node.{Node-F, out-Node}
 use Rattle.ckc_typed.specs.declared.typed.Note.{Note}
 use Rattle.ckc_typed.specs.Trees.{NotedExpr, NotedLimits}
 use Rattle.ckc_typed.specs.Types.{is_integer, is_pointer, is_char, element_of, kind_of, is_object_type}
-use Rattle.ckc_typed.specs.Operands.{same_element}
+use Rattle.ckc_typed.specs.Operands.{same_element, is_raw_kind}
 
 -- whether a node is `NULL` or the number 0
 abbrev pub is_null_form : {A L M E : Type 0} → Node-F Name A L M E → Bool
@@ -30,6 +30,10 @@ is_allocation_form _ = false
 -- `NULL` and the number 0 are null. The number has the type `int` all the same.
 abbrev pub is_null : NotedExpr → Bool
 is_null e = is_null_form (out-Node Name Note e.node)
+
+-- whether an expression is an unchecked pointer
+abbrev pub is_unchecked_pointer : NotedExpr → Bool
+is_unchecked_pointer e = is_raw_kind (kind_of e.note.ctype)
 
 -- whether an expression is a string literal
 abbrev pub is_string : NotedExpr → Bool

@@ -2,6 +2,8 @@
 -- expression sees beside them, whatever its tree notes. If a tree names what it does not declare, nothing is found.
 use Rattle.std.specs.Prelude.{ℕ, ◌==◌, Bool, true, false, List, [], ◌∷◌, ◌++◌, map, flat_map, find, Option, None, Some}
 use Rattle.std.specs.Option.{option_map}
+use Rattle.ckc_base.specs.declared.arithmetic.Mode.{Mode}
+use Rattle.ckc_base.specs.declared.arithmetic.Mode.TheVariants.{Checked}
 use Rattle.ckc_types.specs.declared.types.Kind.{Kind}
 use Rattle.ckc_types.specs.declared.types.Kind.TheVariants as kind
 use Rattle.ckc_types.specs.declared.types.CType.{CType}
@@ -23,8 +25,10 @@ use Rattle.ckc_syntax.specs.declared.tree.Stmt as statements
 use Rattle.ckc_syntax.specs.declared.tree.Stmt.{Stmt-F, fold-Stmt}
 use Rattle.ckc_typed.specs.declared.environment.Globals.{Globals}
 use Rattle.ckc_typed.specs.declared.environment.Object.{Object}
+use Rattle.ckc_typed.specs.declared.environment.Parameter.{Parameter}
 use Rattle.ckc_typed.specs.declared.environment.Signature.{Signature}
 use Rattle.ckc_typed.specs.declared.environment.Variable.{Variable}
+use Rattle.ckc_typed.specs.Interfaces.{is_interface, seen, seen_params}
 use Rattle.ckc_typed.specs.Types.{type_written}
 
 -- whether two names mean the same thing
@@ -57,9 +61,13 @@ variable_declared d = record { name = d.name; ctype = type_written d.ctype }
 abbrev pub type_declared : {A : Type 0} → decls.Decl Name A → CType
 type_declared d = type_written d.ctype
 
--- the name, the type of the result and the types of the parameters that a head declares
+-- a parameter as its function's callers see it
+abbrev pub parameter_declared : {A : Type 0} → decls.Decl Name A → Parameter
+parameter_declared d = record { ctype = type_declared (seen Checked d); is_interface = is_interface d }
+
+-- the name, the type of the result and the parameters that a head declares
 abbrev pub signature_declared : {A : Type 0} → heads.Head Name A → Signature
-signature_declared h = record { name = h.name; result = type_written h.result; params = map type_declared h.params }
+signature_declared h = record { name = h.name; result = type_written h.result; params = map parameter_declared h.params }
 
 -- the object that an item of a source file declares, if it declares one
 abbrev pub objects_declared_by : {A : Type 0} → Item Name A → List Object
@@ -81,7 +89,7 @@ getchar = record { name = name.Getchar; result = ctype.Int; params = [] }
 
 -- `int putchar(int)`, which stands for every source file
 abbrev pub putchar : Signature
-putchar = record { name = name.Putchar; result = ctype.Int; params = ctype.Int ∷ [] }
+putchar = record { name = name.Putchar; result = ctype.Int; params = record { ctype = ctype.Int; is_interface = false } ∷ [] }
 
 -- the functions that may be called: `getchar`, `putchar`, and those with a body in the source file
 abbrev pub signatures_of : {A : Type 0} → List (Item Name A) → List Signature
@@ -105,13 +113,13 @@ locals_of_act {A} = fold-Act Name A (List Variable) (List Variable) act_variable
 abbrev pub locals_of_part : {A : Type 0} → Option (statements.Stmt Name A) → List Variable
 locals_of_part = inside_if listed locals_of
 
--- the parameters of a function
-abbrev pub params_of : {A : Type 0} → heads.Head Name A → List Variable
-params_of h = map variable_declared h.params
+-- the parameters of a function, as code of a mode sees them
+abbrev pub params_of : {A : Type 0} → Mode → heads.Head Name A → List Variable
+params_of mode h = map variable_declared (seen_params mode h)
 
--- what an expression in a function sees
-abbrev pub variables_of : {A : Type 0} → heads.Head Name A → statements.Stmt Name A → List Variable
-variables_of h body = params_of h ++ locals_of body
+-- what an expression in a function sees, whose body has a mode
+abbrev pub variables_of : {A : Type 0} → Mode → heads.Head Name A → statements.Stmt Name A → List Variable
+variables_of mode h body = params_of mode h ++ locals_of body
 
 -- the object of file scope that a name means
 abbrev pub object_named : Globals → Name → Option Object

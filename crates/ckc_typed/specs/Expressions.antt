@@ -1,6 +1,6 @@
 -- Expressions and bounds with the type and the mode of each noted, and their first fault (ISO C11, 6.5; Checked C
 -- specification 0.9, section 2). The parts of an expression are judged from left to right, and then itself.
-use Rattle.std.specs.Prelude.{◌==◌, Bool, true, false, not, ◌||◌, if◌then◌else◌, List, ◌∷◌, length, map, Option, None, Some, is_none, Ok}
+use Rattle.std.specs.Prelude.{◌==◌, Bool, true, false, not, ◌&&◌, ◌||◌, if◌then◌else◌, List, ◌∷◌, length, map, Option, None, Some, is_none, Ok}
 use Rattle.ckc_base.specs.declared.places.Pos.{Pos}
 use Rattle.ckc_base.specs.declared.arithmetic.Mode.{Mode}
 use Rattle.ckc_base.specs.declared.arithmetic.Mode.TheVariants.{Checked, Unchecked}
@@ -19,6 +19,7 @@ use Rattle.ckc_syntax.specs.declared.tree.Expr.{Expr-F, fold-Expr}
 use Rattle.ckc_typed.specs.Codes.{bad_operands, bad_conversion, bad_call, no_address}
 use Rattle.ckc_typed.specs.declared.environment.Globals.{Globals}
 use Rattle.ckc_typed.specs.declared.environment.Object.{Object}
+use Rattle.ckc_typed.specs.declared.environment.Parameter.{Parameter}
 use Rattle.ckc_typed.specs.declared.environment.Signature.{Signature}
 use Rattle.ckc_typed.specs.declared.environment.Variable.{Variable}
 use Rattle.ckc_typed.specs.declared.typed.Note.{Note}
@@ -28,7 +29,7 @@ use Rattle.ckc_typed.specs.Trees.{Limits, Node, Expr, NotedLimits, NotedNode, No
 use Rattle.ckc_typed.specs.Types.{type_written, is_integer, is_void, is_object_type, same_type}
 use Rattle.ckc_typed.specs.Environment.{type_of_name, object_named, signature_named}
 use Rattle.ckc_typed.specs.Operands.{unary_type, binary_type, choice_type, index_type, dot_type, arrow_type, is_cast, size_type}
-use Rattle.ckc_typed.specs.Conversions.{is_null, converts, is_tested, is_trusted, is_bounds_cast}
+use Rattle.ckc_typed.specs.Conversions.{is_null, is_unchecked_pointer, converts, is_tested, is_trusted, is_bounds_cast}
 
 -- an expression with its type and the mode of its scope noted
 abbrev pub noted : Mode → Pos → NotedNode → CType → NotedExpr
@@ -47,6 +48,11 @@ number_type unsigned = if unsigned then ctype.Unsigned else ctype.Int
 abbrev pub string_type : Mode → CType
 string_type Checked = ctype.Pointer kind.Nt ctype.Char
 string_type Unchecked = ctype.Pointer kind.Raw ctype.Char
+
+-- whether a scope is checked
+abbrev pub is_checked_mode : Mode → Bool
+is_checked_mode Checked = true
+is_checked_mode Unchecked = false
 
 -- the kind of the pointer that `&` gives in a scope
 abbrev pub address_kind : Mode → Kind
@@ -129,18 +135,22 @@ tested_typed t e l pos = unless (not (is_bounds_cast t l)) bad_operands pos (unl
 abbrev pub trusted_typed : CType → NotedExpr → Option NotedLimits → Pos → Outcome CType
 trusted_typed t e l pos = unless (not (is_bounds_cast t l)) bad_operands pos (unless (not (is_trusted t e)) bad_conversion pos (Ok t))
 
--- E402 at the first argument that does not convert to the type of its parameter
-abbrev pub arguments_typed : List CType → List NotedExpr → Outcome (Unit {0})
-arguments_typed (t ∷ ts) (e ∷ es) = unless (not (converts t e)) bad_conversion e.pos (arguments_typed ts es)
-arguments_typed _ _ = Ok tt
+-- An argument converts to the type of its parameter. An unchecked pointer goes to an interface in unchecked code alone.
+abbrev pub takes : Mode → Parameter → NotedExpr → Bool
+takes mode p e = converts p.ctype e && not (p.is_interface && (is_checked_mode mode && is_unchecked_pointer e))
+
+-- E402 at the first argument that its parameter does not take
+abbrev pub arguments_typed : Mode → List Parameter → List NotedExpr → Outcome (Unit {0})
+arguments_typed mode (p ∷ ps) (e ∷ es) = unless (not (takes mode p e)) bad_conversion e.pos (arguments_typed mode ps es)
+arguments_typed mode _ _ = Ok tt
 
 -- E404: another number of arguments than parameters
-abbrev pub result_typed : Signature → List NotedExpr → Pos → Outcome CType
-result_typed s es pos = unless (not (length es == length s.params)) bad_call pos (bind (arguments_typed s.params es) (λ u. Ok s.result))
+abbrev pub result_typed : Mode → Signature → List NotedExpr → Pos → Outcome CType
+result_typed mode s es pos = unless (not (length es == length s.params)) bad_call pos (bind (arguments_typed mode s.params es) (λ u. Ok s.result))
 
 -- E404: what is called is no function
-abbrev pub call_typed : Globals → Name → List NotedExpr → Pos → Outcome CType
-call_typed globals n es pos = bind (there_or bad_call pos (signature_named globals n)) (λ s. result_typed s es pos)
+abbrev pub call_typed : Globals → Mode → Name → List NotedExpr → Pos → Outcome CType
+call_typed globals mode n es pos = bind (there_or bad_call pos (signature_named globals n)) (λ s. result_typed mode s es pos)
 
 -- whether `calloc<t>(e, sizeof(u))` has two types, a type of no object, or a count that is no integer
 abbrev pub is_no_allocation : CType → NotedExpr → CType → Bool
@@ -186,7 +196,7 @@ node_parts globals variables mode (Node-F.Cast w e) pos = bind e (λ a. bind (ca
 node_parts globals variables mode (Node-F.Size w) pos = bind (there_or bad_operands pos (size_type (type_written w))) (λ t. Ok (noted mode pos (node.Size w) t))
 node_parts globals variables mode (Node-F.Trusted w e l) pos = bind e (λ a. bind (if_there l) (λ k. bind (trusted_typed (type_written w) a k pos) (λ t. Ok (noted mode pos (node.Trusted w a k) t))))
 node_parts globals variables mode (Node-F.Tested w e l) pos = bind e (λ a. bind (if_there l) (λ k. bind (tested_typed (type_written w) a k pos) (λ t. Ok (noted mode pos (node.Tested w a k) t))))
-node_parts globals variables mode (Node-F.Call n es) pos = bind (in_order es) (λ args. bind (call_typed globals n args pos) (λ t. Ok (noted mode pos (node.Call n args) t)))
+node_parts globals variables mode (Node-F.Call n es) pos = bind (in_order es) (λ args. bind (call_typed globals mode n args pos) (λ t. Ok (noted mode pos (node.Call n args) t)))
 node_parts globals variables mode (Node-F.Calloc w e x) pos = bind e (λ a. bind (allocation_typed (type_written w) a (type_written x) pos) (λ t. Ok (noted mode pos (node.Calloc w a x) t)))
 
 -- An expression is judged by its node, at its place.

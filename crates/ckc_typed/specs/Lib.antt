@@ -4,6 +4,7 @@ pub mod Scoped
 pub mod Codes
 pub mod Trees
 pub mod Types
+pub mod Interfaces
 pub mod Environment
 pub mod Constants
 pub mod Operands

@@ -1,6 +1,6 @@
 -- Unchecked pointers and arrays in types (Checked C specification 0.9, section 3, on checked scopes): whether a type
 -- has some, and where a text writes them.
-use Rattle.std.specs.Prelude.{List, [], ◌∷◌, ◌++◌, flat_map, Bool, true, false, ◌||◌}
+use Rattle.std.specs.Prelude.{List, [], ◌∷◌, ◌++◌, flat_map, Bool, true, false, ◌||◌, if◌then◌else◌}
 use Rattle.ckc_base.specs.declared.places.Pos.{Pos}
 use Rattle.ckc_types.specs.declared.types.Kind.{Kind}
 use Rattle.ckc_types.specs.declared.types.Kind.TheVariants as kind
@@ -10,6 +10,7 @@ use Rattle.ckc_syntax.specs.declared.tree.Length.{Length}
 use Rattle.ckc_syntax.specs.declared.tree.Length.TheVariants as lengths
 use Rattle.ckc_syntax.specs.declared.tree.Decl.{Decl}
 use Rattle.ckc_syntax.specs.declared.tree.Head.{Head}
+use Rattle.ckc_typed.specs.Interfaces.{is_interface}
 
 -- whether a kind of pointers is unchecked
 abbrev pub is_raw : Kind → Bool
@@ -58,6 +59,10 @@ brackets (lengths.Nt n) = []
 abbrev pub raws_of_decl : {N A : Type 0} → Decl N A → List Pos
 raws_of_decl d = stars d.ctype ++ brackets d.length
 
+-- where a parameter does, which for an interface counts as nowhere
+abbrev pub raws_of_param : {N A : Type 0} → Decl N A → List Pos
+raws_of_param d = if is_interface d then [] else raws_of_decl d
+
 -- where the head of a function does: in the type of its result, then in its parameters
 abbrev pub raws_of_head : {N A : Type 0} → Head N A → List Pos
-raws_of_head h = stars h.result ++ flat_map raws_of_decl h.params
+raws_of_head h = stars h.result ++ flat_map raws_of_param h.params

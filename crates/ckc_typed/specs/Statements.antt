@@ -10,8 +10,9 @@ use Rattle.ckc_types.specs.declared.types.CType.TheVariants as ctype
 use Rattle.ckc_syntax.specs.declared.tree.Name.{Name}
 use Rattle.ckc_syntax.specs.declared.tree.Name.TheVariants as name
 use Rattle.ckc_syntax.specs.declared.tree.Node.{Node-F, out-Node}
-use Rattle.ckc_syntax.specs.declared.tree.Act.{Act-F, fold-Act}
+use Rattle.ckc_syntax.specs.declared.tree.Act.{Act-F, out-Act, fold-Act}
 use Rattle.ckc_syntax.specs.declared.tree.Act.TheVariants as act
+use Rattle.ckc_syntax.specs.declared.tree.Stmt as statements
 use Rattle.ckc_syntax.specs.declared.tree.Stmt.{Stmt-F, fold-Stmt}
 use Rattle.ckc_typed.specs.Codes.{bad_operands, bad_conversion, bad_target, no_loop}
 use Rattle.ckc_typed.specs.declared.environment.Globals.{Globals}
@@ -120,6 +121,15 @@ act_parts globals variables result Act-F.Break mode looped pos = bind (loop_fits
 act_parts globals variables result Act-F.Continue mode looped pos = bind (loop_fits looped pos) (λ u. Ok (stated mode pos act.Continue))
 act_parts globals variables result (Act-F.Check e) mode looped pos = bind (expr_typed globals variables mode e) (λ a. bind (scalar_fits pos a) (λ u. Ok (stated mode pos (act.Check a))))
 act_parts globals variables result (Act-F.Bundle ss) mode looped pos = bind (all_in mode looped ss) (λ all. Ok (stated mode pos (act.Bundle all)))
+
+-- the mode that a block has of its own
+abbrev pub own_mode : {A B S : Type 0} → Act-F Name A B S → Option Mode
+own_mode (Act-F.Block m ss) = m
+own_mode _ = None
+
+-- the mode of the body of a function, by that of its head
+abbrev pub body_mode : {A : Type 0} → Mode → statements.Stmt Name A → Mode
+body_mode {A} mode s = unwrap_or (own_mode (out-Act Name A s.body)) mode
 
 -- A statement is judged by what it does, at its place.
 abbrev pub stmt_parts : Stmt-F Name (Unit {0}) OfAct OfStmt → OfStmt

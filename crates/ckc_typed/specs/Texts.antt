@@ -4,7 +4,7 @@ use Rattle.std.specs.Prelude.{ℕ, nat_lt, Bool, not, ◌||◌, List, [], ◌∷
 use Rattle.std.specs.Prelude.{false}
 use Rattle.ckc_base.specs.Places.{start}
 use Rattle.ckc_base.specs.declared.arithmetic.Mode.{Mode}
-use Rattle.ckc_base.specs.declared.arithmetic.Mode.TheVariants.{Unchecked}
+use Rattle.ckc_base.specs.declared.arithmetic.Mode.TheVariants.{Checked, Unchecked}
 use Rattle.ckc_types.specs.declared.types.CType.{CType}
 use Rattle.ckc_types.specs.declared.types.Structs.{Structs}
 use Rattle.ckc_syntax.specs.declared.tree.Item.TheVariants as item
@@ -19,7 +19,7 @@ use Rattle.ckc_typed.specs.Types.{type_written, is_void, is_scalar_type}
 use Rattle.ckc_typed.specs.Environment.{objects_of, signatures_of, params_of, variables_of, variable_declared}
 use Rattle.ckc_typed.specs.Expressions.{bounds_typed}
 use Rattle.ckc_typed.specs.Declarations.{bares_typed, static_typed}
-use Rattle.ckc_typed.specs.Statements.{stmt_typed}
+use Rattle.ckc_typed.specs.Statements.{body_mode, stmt_typed}
 use Rattle.ckc_typed.specs.Layouts.{structs_of}
 use Rattle.ckc_base.specs.MemoryMap.{data_start, statics_end}
 use Rattle.ckc_typed.specs.Statics.{blocks, placed, end_of_blocks}
@@ -38,16 +38,16 @@ abbrev pub head_with : Head → List NotedDecl → Option NotedLimits → NotedH
 head_with h ps l = record { mode = h.mode; result = h.result; name = h.name; params = ps; bounds = l; pos = h.pos }
 
 -- A head has its own mode, or that of the pragma before it. Its parameters are judged, the bounds of the result, and
--- then itself.
+-- then itself. In it interfaces are seen as checked code sees them.
 abbrev pub head_typed : Globals → Mode → Head → Outcome NotedHead
 head_typed globals pragma h =
-    bind (bares_typed globals (params_of h) (head_mode pragma h) h.params) (λ ps. bind (bounds_typed globals (params_of h) (head_mode pragma h) h.bounds) (λ l.
+    bind (bares_typed globals (params_of Checked h) (head_mode pragma h) h.params) (λ ps. bind (bounds_typed globals (params_of Checked h) (head_mode pragma h) h.bounds) (λ l.
     bind (result_allowed h) (λ u. Ok (head_with h ps l))))
 
 -- a function with the types in it noted, or its first error
 abbrev pub function_typed : Globals → Mode → Head → Stmt → Outcome NotedItem
 function_typed globals pragma h body =
-    bind (head_typed globals pragma h) (λ g. bind (stmt_typed globals (variables_of h body) (type_written h.result) body (head_mode pragma h) false) (λ b. Ok (item.Function g b)))
+    bind (head_typed globals pragma h) (λ g. bind (stmt_typed globals (variables_of (body_mode (head_mode pragma h) body) h body) (type_written h.result) body (head_mode pragma h) false) (λ b. Ok (item.Function g b)))
 
 -- an item of a source file with the types in it noted, or its first error
 abbrev pub item_typed : Globals → Mode → Item → Outcome NotedItem

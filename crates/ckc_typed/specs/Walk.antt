@@ -23,7 +23,7 @@ use Rattle.ckc_syntax.specs.declared.tree.Act.{Act, Act-F, fold-Act}
 use Rattle.ckc_syntax.specs.declared.tree.Stmt.{Stmt, Stmt-F, fold-Stmt}
 use Rattle.ckc_typed.specs.declared.typed.Note.{Note}
 use Rattle.ckc_typed.specs.declared.typed.Typed.{Typed}
-use Rattle.ckc_typed.specs.Raw.{stars, raws_of_decl}
+use Rattle.ckc_typed.specs.Raw.{stars, raws_of_decl, raws_of_param}
 
 -- What is judged: an unchecked pointer or array that a declaration writes, the type of an expression, a function that
 -- is called, by its number, and `_Assume_bounds_cast`.
@@ -93,9 +93,17 @@ spots_of_value = inside_if listed spots_of_expr
 abbrev pub spots_of_init : Init Name Note → List Spot
 spots_of_init = inside_init listed spots_of_expr
 
--- the spots of a declaration: the unchecked pointers and arrays in it, then its bounds, then its initialiser
+-- the spots of a declaration with these unchecked pointers and arrays in it: these, then its bounds, then its initialiser
+abbrev pub spots_declared : Mode → List Pos → Decl Name Note → List Spot
+spots_declared mode raws d = written_at mode raws ++ (spots_of_bounds d.bounds ++ spots_of_init d.init)
+
+-- the spots of a declaration that is no parameter
 abbrev pub spots_of_decl : Mode → Decl Name Note → List Spot
-spots_of_decl mode d = written_at mode (raws_of_decl d) ++ (spots_of_bounds d.bounds ++ spots_of_init d.init)
+spots_of_decl mode d = spots_declared mode (raws_of_decl d) d
+
+-- the spots of a parameter
+abbrev pub spots_of_param : Mode → Decl Name Note → List Spot
+spots_of_param mode d = spots_declared mode (raws_of_param d) d
 
 -- A declaration that is a statement has the statement's mode.
 abbrev pub act_spots : Act-F Name Note (Mode → List Spot) (List Spot) → Mode → List Spot
@@ -123,7 +131,7 @@ head_mode pragma h = unwrap_or h.mode pragma
 abbrev pub spots_of_head : Mode → Head Name Note → List Spot
 spots_of_head pragma h =
     let mode = head_mode pragma h in
-    written_at mode (stars h.result) ++ (inside_each listed (spots_of_decl mode) h.params ++ spots_of_bounds h.bounds)
+    written_at mode (stars h.result) ++ (inside_each listed (spots_of_param mode) h.params ++ spots_of_bounds h.bounds)
 
 -- the spots of an item of a source file, in the mode of the last pragma before it
 abbrev pub spots_of_item : Mode → Item Name Note → List Spot

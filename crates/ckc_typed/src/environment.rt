@@ -19,12 +19,20 @@ pub struct Object {
     pub array: Option<Kind>,
 }
 
-/// The type of a function: that of its result and those of its parameters.
+/// The type of a function: that of its result, and its parameters.
 #[derive(Drop)]
 pub struct Signature {
     pub name: Name,
     pub result: CType,
-    pub params: Seq<CType>,
+    pub params: Seq<Parameter>,
+}
+
+/// A parameter as its function's callers see it: its type, which for an interface is an `_Array_ptr`, and whether it is
+/// an interface (Checked C specification 0.9, section 6, on bounds-safe interfaces).
+#[derive(Drop)]
+pub struct Parameter {
+    pub ctype: CType,
+    pub is_interface: bool,
 }
 
 /// A parameter or local of a function, or a member if bounds name it.

@@ -28,14 +28,14 @@ abbrev pub unary_row : Globals → Mode → TreeOp → NotedExpr → Option CTyp
 unary_row globals mode op.Address e = if has_address globals e then Some (ctype.Pointer (address_kind mode) e.note.ctype) else None
 unary_row globals mode o e = unary_type o e.note.ctype
 
--- as many arguments as parameters, each of which converts to the type of its parameter
-abbrev pub AreArguments : List CType → List NotedExpr → Type 0
-AreArguments [] [] = Unit {0}
-AreArguments (t ∷ ts) (e ∷ es) = (converts t e ≡ true) × AreArguments ts es
-AreArguments _ _ = ⊥
+-- as many arguments as parameters, each of which its parameter takes
+abbrev pub AreArguments : Mode → List Parameter → List NotedExpr → Type 0
+AreArguments mode [] [] = Unit {0}
+AreArguments mode (p ∷ ps) (e ∷ es) = (takes mode p e ≡ true) × AreArguments mode ps es
+AreArguments mode _ _ = ⊥
 
-abbrev pub IsCall : Globals → Name → List NotedExpr → CType → Type 0
-IsCall globals n es t = (s : Signature) × (signature_named globals n ≡ Some s) × AreArguments s.params es × (t ≡ s.result)
+abbrev pub IsCall : Globals → Mode → Name → List NotedExpr → CType → Type 0
+IsCall globals mode n es t = (s : Signature) × (signature_named globals n ≡ Some s) × AreArguments mode s.params es × (t ≡ s.result)
 
 -- Both written types of an allocation are one type of objects, and the count is an integer.
 pub record IsAllocation (element : CType) (count : NotedExpr) (written : CType) (t : CType) : Type 0 where
@@ -60,7 +60,7 @@ HasType globals variables mode (Node-F.Cast w e) t = (is_cast (type_written w) e
 HasType globals variables mode (Node-F.Size w) t = size_type (type_written w) ≡ Some t
 HasType globals variables mode (Node-F.Trusted w e l) t = (is_bounds_cast (type_written w) l ≡ true) × (is_trusted (type_written w) e ≡ true) × (t ≡ type_written w)
 HasType globals variables mode (Node-F.Tested w e l) t = (is_bounds_cast (type_written w) l ≡ true) × (is_tested (type_written w) e ≡ true) × (t ≡ type_written w)
-HasType globals variables mode (Node-F.Call n es) t = IsCall globals n es t
+HasType globals variables mode (Node-F.Call n es) t = IsCall globals mode n es t
 HasType globals variables mode (Node-F.Calloc w e u) t = IsAllocation (type_written w) e (type_written u) t
 
 -- An expression has the type of its row and the mode of its scope. Of its range nothing is known.

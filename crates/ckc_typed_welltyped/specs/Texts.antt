@@ -2,7 +2,7 @@
 use Rattle.std.specs.Prelude.{◌≡◌, ◌≤◌, true, false, List, [], ◌∷◌, map, IfSome}
 use Rattle.std.specs.List.{AllByRecursion}
 use Rattle.ckc_base.specs.declared.arithmetic.Mode.{Mode}
-use Rattle.ckc_base.specs.declared.arithmetic.Mode.TheVariants.{Unchecked}
+use Rattle.ckc_base.specs.declared.arithmetic.Mode.TheVariants.{Checked, Unchecked}
 use Rattle.ckc_syntax.specs.declared.tree.Item.TheVariants as item
 use Rattle.ckc_syntax.specs.declared.tree.NamedText.{NamedText}
 use Rattle.ckc_typed.specs.declared.environment.Globals.{Globals}
@@ -14,6 +14,7 @@ use Rattle.ckc_typed.specs.Environment.{params_of, variables_of, variable_declar
 use Rattle.ckc_typed.specs.Layouts.{structs_of}
 use Rattle.ckc_base.specs.MemoryMap.{data_start, statics_end}
 use Rattle.ckc_typed.specs.Statics.{blocks, placed, end_of_blocks}
+use Rattle.ckc_typed.specs.Statements.{body_mode}
 use Rattle.ckc_typed.specs.Texts.{is_result_type, globals_of}
 use Rattle.ckc_typed.specs.Walk.{head_mode, pragma_after}
 use Rattle.ckc_typed_welltyped.specs.Noteless.{bare_decl, bare_stmt, bare_head, bare_item, without_notes}
@@ -21,16 +22,16 @@ use Rattle.ckc_typed_welltyped.specs.Expressions.{WellTypedLimits}
 use Rattle.ckc_typed_welltyped.specs.Declarations.{WellTypedBare, WellTypedStatic}
 use Rattle.ckc_typed_welltyped.specs.Statements.{WellTypedStmt}
 
--- A head has its own mode, or that of the pragma before it. Its parameters are seen in its bounds. Its result is a scalar
--- or `void`.
+-- A head has its own mode, or that of the pragma before it. Its parameters are seen in its bounds, as checked code sees
+-- them. Its result is a scalar or `void`.
 pub record WellTypedHead (globals : Globals) (pragma : Mode) (h : NotedHead) : Type 0 where
-  pub params : AllByRecursion (WellTypedBare globals (params_of (bare_head h)) (head_mode pragma h)) h.params
-  pub bounds : IfSome h.bounds (WellTypedLimits globals (params_of (bare_head h)) (head_mode pragma h))
+  pub params : AllByRecursion (WellTypedBare globals (params_of Checked (bare_head h)) (head_mode pragma h)) h.params
+  pub bounds : IfSome h.bounds (WellTypedLimits globals (params_of Checked (bare_head h)) (head_mode pragma h))
   pub result : is_result_type (type_written h.result) ≡ true
 
 -- A body sees the parameters and the locals of its function, and stands in no loop.
 abbrev pub WellTypedBody : Globals → Mode → NotedHead → NotedStmt → Type 0
-WellTypedBody globals pragma h body = WellTypedStmt globals (variables_of (bare_head h) (bare_stmt body)) (type_written h.result) body (head_mode pragma h) false
+WellTypedBody globals pragma h body = WellTypedStmt globals (variables_of (body_mode (head_mode pragma h) body) (bare_head h) (bare_stmt body)) (type_written h.result) body (head_mode pragma h) false
 
 abbrev pub members_seen : List NotedDecl → List Variable
 members_seen members = map variable_declared (map bare_decl members)
