@@ -1,6 +1,6 @@
 -- What the arguments of a call give to its parameters.
 use Rattle.std.specs.Prelude.{◌≡◌, ◌≢◌, ◌⊎◌, ℕ, ◌<◌, true, false, List, [], ◌∷◌, length, slice_get, slice_index, Option, None, Some}
-use Rattle.ckc_typed.specs.Types.{is_pointer}
+use Rattle.ckc_typed.specs.Types.{is_pointer, element_of}
 use Rattle.ckc_linear.specs.declared.forms.Base.{Base}
 use Rattle.ckc_linear.specs.declared.forms.Base.TheVariants as base
 use Rattle.ckc_linear.specs.declared.forms.Form.{Form}
@@ -41,14 +41,15 @@ AreNewArguments s store v params entry at k first fresh (e ∷ es) =
     IsNewArgumentIf s store v (slice_get params k) e first fresh at (slice_index entry k)
     × AreNewArguments s store v params entry at (capped k 1) (capped first e.values) (fresh_behind e fresh at) es
 
--- A body that is not checked knows no bounds of an interface, which it sees as an unchecked pointer, and none that name
--- one.
+-- A body that is not checked sees an interface as an unchecked pointer to the same type, without bounds.
 pub record IsUnjudged (p l : Local) : Type 0 where
   pub bounds : l.bounds ≡ bounds.Unknown
-  pub type : (l.ctype ≡ p.ctype) ⊎ ((is_pointer p.ctype ≡ true) × (is_pointer l.ctype ≡ true))
+  pub passed : is_pointer p.ctype ≡ true
+  pub seen : is_pointer l.ctype ≡ true
+  pub element : element_of l.ctype ≡ element_of p.ctype
 
--- Each parameter that a head tells is the local with its number, or one that is unjudged in the body, and the bounds of
--- parameters name parameters.
+-- Each parameter that a head tells is the local with its number, or an interface that the body does not judge, and the
+-- bounds of parameters name parameters.
 pub record AreParameters (s : Setting) (params : List Local) : Type 0 where
   pub there : (k : ℕ) (p : Local) → slice_get params k ≡ Some p
       → (l : Local) × (local_at s.frame k ≡ Some l) × ((l ≡ p) ⊎ IsUnjudged p l)

@@ -1,5 +1,6 @@
 -- The frames of the functions of a text.
 use Rattle.std.specs.Prelude.{ℕ, ◌-◌, Bool, true, false, if◌then◌else◌, List, [], ◌++◌, flat_map, length, replicate, Ok, Err}
+use Rattle.ckc_base.specs.declared.arithmetic.Mode.TheVariants.{Checked}
 use Rattle.ckc_base.specs.Outcomes.{Outcome}
 use Rattle.ckc_types.specs.declared.types.Structs.{Structs}
 use Rattle.ckc_typed.specs.declared.typed.StaticObject.{StaticObject}
@@ -10,7 +11,7 @@ use Rattle.ckc_bounds_points.specs.declared.frame.HeadBounds.{HeadBounds}
 use Rattle.ckc_bounds_points.specs.declared.frame.Frame.{Frame}
 use Rattle.ckc_bounds_points.specs.Flow.{entry}
 pub use Rattle.ckc_bounds.specs.Declarations.{nameless}
-use Rattle.ckc_bounds.specs.Declarations.{few_of, few_of_few, with_locals, declared_in, head_bounds, heads_from, objects_of}
+use Rattle.ckc_bounds.specs.Declarations.{few_of, few_of_few, with_locals, types_in, all_made, head_bounds, heads_from, objects_of}
 use Rattle.ckc_bounds_statements.specs.Paths.{Here, local_in, path}
 
 -- the structures and the objects alone
@@ -57,9 +58,14 @@ fresh_needed frame head h body n =
 abbrev pub with_nameless : ℕ → Frame → Frame
 with_nameless n frame = with_locals frame (frame.locals ++ replicate n nameless)
 
+-- The types that declared bounds are judged by: parameters have those that callers see, so that they have the same bounds
+-- in each body.
+abbrev pub types_frame : Frame → NotedHead → NotedStmt → Frame
+types_frame frame h body = types_in frame (seen_params Checked h ++ (path body).declared)
+
 -- the frame of a function with its parameters and locals, without fresh variables
 abbrev pub locals_frame : Frame → NotedHead → NotedStmt → Frame
-locals_frame frame h body = with_locals frame (declared_in frame (all_of h body))
+locals_frame frame h body = with_locals frame (all_made (types_frame frame h body) true (all_of h body))
 
 -- the number of the first fresh variable
 abbrev pub first_fresh : NotedHead → NotedStmt → ℕ
