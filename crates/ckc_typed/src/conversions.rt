@@ -3,13 +3,15 @@
 ghost use Rattle.std.specs.Prelude.{◌≡◌};
 ghost use Rattle.ckc_types.specs.declared.types.Kind.{Kind};
 ghost use Rattle.ckc_typed.specs.Types.{kind_of};
-ghost use Rattle.ckc_typed.specs.Conversions.{is_string, is_allocation, is_terminated_kind, kind_converts, kind_is_tested, kinds_allow, takes_string, takes_allocation, takes_pointer, pointer_takes, converts, is_tested, is_trusted, limits_fit_kind, is_bounds_cast};
+ghost use Rattle.ckc_typed.specs.Operands.{is_raw_kind};
+ghost use Rattle.ckc_typed.specs.Conversions.{is_string, is_allocation, is_terminated_kind, kind_converts, kind_is_tested, kinds_allow, takes_string, takes_allocation, takes_pointer, pointer_takes, converts, is_tested, is_trusted, limits_fit_kind, is_bounds_cast, is_unchecked_pointer};
+ghost use Rattle.ckc_typed.specs.Expressions.{is_checked_mode, takes};
 
-use crate::Note;
 use crate::constants::is_null;
 use crate::operands::same_element;
 use crate::types::{is_char, is_integer, is_object_type, is_pointer, kind_of};
-use ckc_base::Boxed;
+use crate::{Note, Parameter};
+use ckc_base::{Boxed, Mode};
 use ckc_syntax::{Expr, Limits, Name, Node};
 use ckc_types::{CType, Kind};
 
@@ -116,6 +118,40 @@ pub fn converts(t: &CType, e: &Expr<Name, Note>) -> bool
         return true;
     }
     is_pointer(t) && pointer_takes(t, e)
+}
+
+fn is_raw_kind(kind: Option<Kind>) -> bool
+    ensures { result ≡ is_raw_kind kind }
+{
+    match kind {
+        Some(Kind::Raw) => true,
+        Some(Kind::One) | Some(Kind::Arr) | Some(Kind::Nt) => false,
+        None => false,
+    }
+}
+
+/// Whether an expression is an unchecked pointer.
+pub fn is_unchecked_pointer(e: &Expr<Name, Note>) -> bool
+    ensures { result ≡ is_unchecked_pointer e.now }
+{
+    is_raw_kind(kind_of(&e.note.ctype))
+}
+
+fn is_checked_mode(mode: Mode) -> bool
+    ensures { result ≡ is_checked_mode mode }
+{
+    match mode {
+        Mode::Checked => true,
+        Mode::Unchecked => false,
+    }
+}
+
+/// Whether a parameter takes an argument in code of a mode.
+pub fn takes(mode: Mode, p: &Parameter, e: &Expr<Name, Note>) -> bool
+    ensures { result ≡ takes mode p.now e.now }
+{
+    let is_passed = p.is_interface && (is_checked_mode(mode) && is_unchecked_pointer(e));
+    converts(&p.ctype, e) && !is_passed
 }
 
 /// Whether `_Dynamic_bounds_cast` to a type takes an expression.

@@ -1,16 +1,34 @@
 //! The modes in which the parts of a text are judged.
 
 ghost use Rattle.std.specs.Prelude.{◌≡◌};
+ghost use Rattle.ckc_syntax.specs.declared.tree.Act.{out-Act};
+ghost use Rattle.ckc_typed.specs.Statements.{own_mode, body_mode};
 ghost use Rattle.ckc_typed.specs.Walk.{head_mode, mode_of_directive, pragma_after};
 
 use ckc_base::Mode;
-use ckc_syntax::{Directive, Head, Item};
+use ckc_syntax::{Act, Directive, Head, Item, Name, Stmt};
 
 /// The mode of a head, by that of the pragma before it.
 pub fn head_mode<N, A>(pragma: Mode, h: &Head<N, A>) -> Mode
     ensures { result ≡ head_mode pragma h.now }
 {
     h.mode.unwrap_or(pragma)
+}
+
+fn own_mode<A>(act: &Act<Name, A>) -> Option<Mode>
+    ensures { result ≡ own_mode (out-Act Name A act.now) }
+{
+    match act {
+        Act::Block(mode, _) => *mode,
+        _ => None,
+    }
+}
+
+/// The mode of the body of a function, by that of its head.
+pub fn body_mode<A>(mode: Mode, body: &Stmt<Name, A>) -> Mode
+    ensures { result ≡ body_mode mode body.now }
+{
+    own_mode(&body.body).unwrap_or(mode)
 }
 
 fn mode_of_directive(pragma: Mode, d: Directive) -> Mode

@@ -1,12 +1,14 @@
 //! What a text declares: its objects, its functions and the variables of a function.
 
 ghost use Rattle.std.specs.Prelude.{◌≡◌, [], ◌∷◌, ◌++◌, IfOk, OnOk, map};
-ghost use Rattle.ckc_typed.specs.Environment.{object_declared, variable_declared, type_declared, signature_declared, objects_declared_by, signatures_of_item, objects_of, getchar, putchar, signatures_of};
+ghost use Rattle.ckc_typed.specs.Interfaces.{seen};
+ghost use Rattle.ckc_typed.specs.Environment.{object_declared, variable_declared, parameter_declared, signature_declared, objects_declared_by, signatures_of_item, objects_of, params_of, getchar, putchar, signatures_of};
 
-use ckc_base::Seq;
+use ckc_base::{Mode, Seq};
 use ckc_syntax::{Decl, Head, Item, Name};
+use ckc_typed::interfaces::{is_interface, type_seen};
 use ckc_typed::types::{kind_of_array, type_written};
-use ckc_typed::{Object, Signature, Variable};
+use ckc_typed::{Object, Parameter, Signature, Variable};
 use ckc_types::CType;
 use std::alloc::{AllocError, Global};
 
@@ -32,18 +34,38 @@ pub fn variable_declared<A>(alloc: Global, d: &Decl<Name, A>) -> Result<Variable
     })
 }
 
-fn types_declared(alloc: Global, ds: &[Decl<Name, ()>]) -> Result<Seq<CType>, AllocError>
-    ensures { IfOk result (λ ts. ts ≡ map type_declared ds.now) }
+fn variable_seen<A>(alloc: Global, mode: Mode, d: &Decl<Name, A>) -> Result<Variable, AllocError>
+    ensures { IfOk result (λ v. v ≡ variable_declared (seen mode d.now)) }
+{
+    let ctype = type_seen(alloc, mode, d)?;
+    Ok(Variable {
+        name: d.name,
+        ctype,
+    })
+}
+
+fn parameter_declared(alloc: Global, d: &Decl<Name, ()>) -> Result<Parameter, AllocError>
+    ensures { IfOk result (λ p. p ≡ parameter_declared d.now) }
+{
+    let ctype = type_seen(alloc, Mode::Checked, d)?;
+    Ok(Parameter {
+        ctype,
+        is_interface: is_interface(d),
+    })
+}
+
+fn parameters_declared(alloc: Global, ds: &[Decl<Name, ()>]) -> Result<Seq<Parameter>, AllocError>
+    ensures { IfOk result (λ ps. ps ≡ map parameter_declared ds.now) }
 {
     let mut all = Seq::new(alloc);
     for d in ds {
-        let t = type_written(alloc, &d.ctype)?;
-        all.push(t)?;
+        let p = parameter_declared(alloc, d)?;
+        all.push(p)?;
     }
     Ok(all)
 }
 
-/// The variables that declarations make: parameters or members.
+/// The variables that declarations of members make.
 pub fn variables_declared<A>(
     alloc: Global,
     ds: &[Decl<Name, A>],
@@ -58,11 +80,27 @@ pub fn variables_declared<A>(
     Ok(all)
 }
 
+/// The parameters of a function, as code of a mode sees them.
+pub fn params_of<A>(
+    alloc: Global,
+    mode: Mode,
+    h: &Head<Name, A>,
+) -> Result<Seq<Variable>, AllocError>
+    ensures { IfOk result (λ vs. vs ≡ params_of mode h.now) }
+{
+    let mut all = Seq::new(alloc);
+    for d in h.params.as_slice() {
+        let v = variable_seen(alloc, mode, d)?;
+        all.push(v)?;
+    }
+    Ok(all)
+}
+
 fn signature_declared(alloc: Global, h: &Head<Name, ()>) -> Result<Signature, AllocError>
     ensures { IfOk result (λ s. s ≡ signature_declared h.now) }
 {
     let result = type_written(alloc, &h.result)?;
-    let params = types_declared(alloc, h.params.as_slice())?;
+    let params = parameters_declared(alloc, h.params.as_slice())?;
     Ok(Signature {
         name: h.name,
         result,
@@ -115,7 +153,10 @@ fn built_in(alloc: Global) -> Result<Seq<Signature>, AllocError>
     ensures { IfOk result (λ all. all ≡ getchar ∷ putchar ∷ []) }
 {
     let mut byte = Seq::new(alloc);
-    byte.push(CType::Int)?;
+    byte.push(Parameter {
+        ctype: CType::Int,
+        is_interface: false,
+    })?;
     let mut all = Seq::new(alloc);
     all.push(Signature {
         name: Name::Getchar,

@@ -4,8 +4,8 @@ ghost use Rattle.std.specs.Prelude.{◌≡◌, [], ◌∷◌, ◌++◌, IfOk, On
 ghost use Rattle.ckc_syntax.specs.Inside.{listed, inside_each};
 ghost use Rattle.ckc_typed.specs.Environment.{variable_declared, locals_of, locals_of_act, locals_of_part, variables_of};
 
-use crate::environment::{variable_declared, variables_declared};
-use ckc_base::{Boxed, Seq};
+use crate::environment::{params_of, variable_declared};
+use ckc_base::{Boxed, Mode, Seq};
 use ckc_syntax::{Act, Decl, Head, Name, Stmt};
 use ckc_typed::Variable;
 use std::alloc::{AllocError, Global};
@@ -76,15 +76,16 @@ fn add_part<A>(
     }
 }
 
-/// What an expression in a function sees: its parameters and its locals.
+/// What an expression in a function sees, whose body has a mode: its parameters and its locals.
 pub fn variables_of<A>(
     alloc: Global,
+    mode: Mode,
     h: &Head<Name, A>,
     body: &Stmt<Name, A>,
 ) -> Result<Seq<Variable>, AllocError>
-    ensures { IfOk result (λ vs. vs ≡ variables_of h.now body.now) }
+    ensures { IfOk result (λ vs. vs ≡ variables_of mode h.now body.now) }
 {
-    let mut all = variables_declared(alloc, h.params.as_slice())?;
+    let mut all = params_of(alloc, mode, h)?;
     add_stmt(alloc, &mut all, body)?;
     Ok(all)
 }
