@@ -2,7 +2,7 @@
 use Rattle.std.proofs.Common.{◌≡◌, Bool, true, false, List, [], ◌∷◌, map, inl, inr, sym, ap, subst, ◌∙◌}
 use Rattle.std.specs.Prelude.{◌⊎◌, Ok}
 use Rattle.ckc_base.specs.declared.arithmetic.Mode.{Mode}
-use Rattle.ckc_base.specs.declared.arithmetic.Mode.TheVariants.{Unchecked}
+use Rattle.ckc_base.specs.declared.arithmetic.Mode.TheVariants.{Checked, Unchecked}
 use Rattle.ckc_base.proofs.Outcomes.{ok_same, made_of}
 use Rattle.ckc_syntax.specs.declared.tree.Name.{Name}
 use Rattle.ckc_syntax.specs.declared.tree.NamedText.{NamedText}
@@ -14,7 +14,7 @@ use Rattle.ckc_typed.specs.Types.{type_written}
 use Rattle.ckc_typed.specs.Environment.{same_name, params_of, variables_of, variable_declared}
 use Rattle.ckc_typed.specs.Expressions.{bounds_typed}
 use Rattle.ckc_typed.specs.Declarations.{bares_typed, static_typed}
-use Rattle.ckc_typed.specs.Statements.{stmt_typed}
+use Rattle.ckc_typed.specs.Statements.{body_mode, stmt_typed}
 use Rattle.ckc_typed.specs.Layouts.{structs_of}
 use Rattle.ckc_typed.specs.Texts.{result_allowed, head_with, head_typed, item_typed, items_typed, globals_of, laid_out, named_typed}
 use Rattle.ckc_typed.specs.Walk.{head_mode, pragma_after}
@@ -27,15 +27,15 @@ front x y e f (inr h) = inr (f h)
 module _ (globals : Globals) (n : Name) where
   head_name : (pragma : Mode) (h : Head) (g : NotedHead) → head_typed globals pragma h ≡ Ok g → g.name ≡ h.name
   head_name pragma h g e =
-      let a = made_of (bares_typed globals (params_of h) (head_mode pragma h) h.params) _ g e in
-      let b = made_of (bounds_typed globals (params_of h) (head_mode pragma h) h.bounds) _ g a.2 in
+      let a = made_of (bares_typed globals (params_of Checked h) (head_mode pragma h) h.params) _ g e in
+      let b = made_of (bounds_typed globals (params_of Checked h) (head_mode pragma h) h.bounds) _ g a.2 in
       let c = made_of (result_allowed h) _ g b.2 in
       ap (λ x. x.name) (sym (ok_same (head_with h a.0 b.0) g c.2))
 
   function_kept : (pragma : Mode) (h : Head) (body : Stmt) (j : NotedItem) → item_typed globals pragma (item.Function h body) ≡ Ok j → defines n j ≡ same_name h.name n
   function_kept pragma h body j e =
       let a = made_of (head_typed globals pragma h) _ j e in
-      let b = made_of (stmt_typed globals (variables_of h body) (type_written h.result) body (head_mode pragma h) false) _ j a.2 in
+      let b = made_of (stmt_typed globals (variables_of (body_mode (head_mode pragma h) body) h body) (type_written h.result) body (head_mode pragma h) false) _ j a.2 in
       ap (defines n) (sym (ok_same (item.Function a.0 b.0) j b.2)) ∙ ap (λ m. same_name m n) (head_name pragma h a.0 a.1)
 
   item_kept : (pragma : Mode) (i : Item) (j : NotedItem) → item_typed globals pragma i ≡ Ok j → defines n j ≡ defines n i

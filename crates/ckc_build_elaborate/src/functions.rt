@@ -5,6 +5,7 @@ ghost use Rattle.ckc_source.specs.Code.{function_of};
 ghost use Rattle.ckc_build_elaborate.specs.Objects.{count_declared};
 ghost use Rattle.ckc_build_elaborate.specs.Functions.{function_elaborated, functions_in, functions_elaborated};
 
+use crate::interfaces::interfaces;
 use crate::literals::{in_head, in_item};
 use crate::statements::stmt;
 use ckc_base::{Seq, sum};
@@ -28,22 +29,22 @@ fn function(
     ensures { IfOk result
         (λ f. function_of f ≡ function_elaborated typed.now first h.now body.now) }
 {
-    let variables = variables_of(alloc, h, body)?;
+    let mode = body.note.mode;
+    let variables = variables_of(alloc, mode, h, body)?;
     let params = number(h.params.len())?;
     let locals = number(variables.len())?;
     let gives = type_written(alloc, &h.result)?;
     let next = in_head(h, first)?;
     let all = stmt(alloc, typed, variables.as_slice(), body, &gives, next)?;
     let result = result_limits(alloc, typed.get(), variables.as_slice(), &gives, &h.bounds)?;
+    let interfaces = interfaces(alloc, typed.get(), mode, h)?;
     Ok(FunctionTree {
-        end: Spot {
-            at: h.pos,
-            mode: body.note.mode,
-        },
+        end: Spot { at: h.pos, mode },
         params,
         locals,
         body: all,
         result,
+        interfaces,
     })
 }
 

@@ -8,6 +8,7 @@ ghost use Rattle.ckc_build_elaborate.specs.Elaborated.{elaborated};
 
 mod destinations;
 mod functions;
+mod interfaces;
 pub mod laws;
 mod literals;
 mod names;

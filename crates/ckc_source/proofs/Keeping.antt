@@ -24,7 +24,7 @@ use Rattle.ckc_source.specs.Blocks.{Block, end_of, has, changed, lies_in, with_n
 use Rattle.ckc_source.specs.LaidOut.{AreApart, AreBytes, HoldBytes, IsLaidOut}
 use Rattle.ckc_source.specs.Eval.{given, evaluated, all_evaluated}
 use Rattle.ckc_source.specs.States.{Work, Rest, Turn, Caller, State, active, settled}
-use Rattle.ckc_source.specs.Steps.{store_of, aimed, allowed, with_blocks, writes, Write, all_written, Drawn, allocated, drawn, Planned, planned, bundled, halts, comes_to, and_moves, at_work, writes_allowed, gets, enters, calls, kept_place, reads_result, hands, returns, acts, works, source_step}
+use Rattle.ckc_source.specs.Steps.{store_of, aimed, allowed, with_blocks, writes, Write, all_written, Drawn, allocated, drawn, Planned, planned, bundled, halts, comes_to, and_moves, at_work, writes_allowed, gets, in_call, reads_interfaces, enters, calls, kept_place, reads_result, hands, returns, acts, works, source_step}
 use Rattle.ckc_base.specs.States.{moved_on, state_after, state_at}
 use Rattle.ckc_source.specs.Source.{IsOrderly, source_system, first_state}
 
@@ -198,17 +198,20 @@ gets_good : (s : State) (to : Place) (input : List ℕ) → IsOrderly s → Move
 gets_good s to [] o = comes_good _ _ (allowed_good to (2 ^ 32 - 1) s o)
 gets_good s to (b ∷ rest) o = comes_good _ _ (allowed_good to b (record s { input = rest }) (record { apart = o.apart; bytes = o.bytes; few = o.few }))
 
-enters_good : (s : State) (target : Option Kept) (values : List ℕ) (f : Option Function) → IsOrderly s → length s.callers + 1 < 1024
-    → MoveGood (enters s target values f)
-enters_good s target values (Some f) o h = record { apart = o.apart; bytes = o.bytes; few = omega arith }
-enters_good s target values None o h = tt
+enters_good : (shapes : List Shape) (s : State) (target : Option Kept) (values : List ℕ) (f : Option Function) → IsOrderly s → length s.callers + 1 < 1024
+    → MoveGood (enters shapes s target values f)
+enters_good shapes s target values (Some f) o h =
+    and_moves_good (reads_interfaces (store_of shapes (in_call s target values f)) f.interfaces) _
+    (λ u. record { apart = o.apart; bytes = o.bytes; few = omega arith })
+enters_good shapes s target values None o h = tt
 
-calls_good : (functions : List Function) (s : State) (target : Option Kept) (callee : ℕ) (at : Pos) (values : List ℕ) → IsOrderly s
-    → MoveGood (calls functions s target callee at values)
-calls_good functions s target callee at values o = fits (has_room (active s)) refl
+calls_good : (p : Program) (s : State) (target : Option Kept) (callee : ℕ) (at : Pos) (values : List ℕ) → IsOrderly s
+    → MoveGood (calls p s target callee at values)
+calls_good p s target callee at values o = fits (has_room (active s)) refl
   where
-    fits : (room : Bool) → has_room (active s) ≡ room → MoveGood (if room then enters s target values (slice_get functions callee) else Halts [] (standing.Stopped check.Depth at))
-    fits true e = enters_good s target values (slice_get functions callee) o (ltb-true (active s) 1024 e)
+    fits : (room : Bool) → has_room (active s) ≡ room
+        → MoveGood (if room then enters p.shapes s target values (slice_get p.functions callee) else Halts [] (standing.Stopped check.Depth at))
+    fits true e = enters_good p.shapes s target values (slice_get p.functions callee) o (ltb-true (active s) 1024 e)
     fits false e = tt
 
 hands_good : (shapes : List Shape) (s : State) (limits : Option Limits) (entry : List ℕ) (target : Option Kept) (n : ℕ) → IsOrderly s
@@ -240,7 +243,7 @@ acts_good p s work (Put spot target e rest) o =
     comes_good _ _ (allowed_good to (v.number % 256) (at_work s (Rest rest ∷ work)) (at_work_good s (Rest rest ∷ work) o))))
 acts_good p s work (Call spot target callee es rest) o =
     and_moves_good (all_evaluated (store_of p.shapes s) es) _ (λ values.
-    calls_good p.functions (at_work s (Rest rest ∷ work)) target callee spot.at values (at_work_good s (Rest rest ∷ work) o))
+    calls_good p (at_work s (Rest rest ∷ work)) target callee spot.at values (at_work_good s (Rest rest ∷ work) o))
 acts_good p s work (If spot e one two rest) o = and_moves_good (evaluated (store_of p.shapes s) e) _ (λ v. at_work_good s _ o)
 acts_good p s work (Loop spot e body step rest) o = and_moves_good (evaluated (store_of p.shapes s) e) _ (λ v. at_work_good s _ o)
 acts_good p s work (Return spot e rest) o =

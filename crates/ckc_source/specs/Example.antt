@@ -39,7 +39,7 @@ abbrev pub program_of_main : List Object → ℕ → Code → Program
 program_of_main objects locals body = record {
   objects = objects;
   shapes = [];
-  functions = record { end = at_column 5; params = 0; locals = locals; body = body; result = None } ∷ [];
+  functions = record { end = at_column 5; params = 0; locals = locals; body = body; result = None; interfaces = [] } ∷ [];
   main = 0;
 }
 

@@ -27,6 +27,7 @@ no_function = record {
   locals = 0;
   body = End;
   result = None;
+  interfaces = [];
 }
 
 -- a function of the program, or what stands there if it has none
