@@ -88,7 +88,7 @@ use Rattle.ckc_blame_steps.specs.Callees.{IsCallee, HaveCallees, HaveFewVariable
 use Rattle.ckc_blame_steps.specs.Unchecked.{MovesSoundly}
 use Rattle.ckc_blame_given.proofs.Converted.{becomes}
 use Rattle.ckc_blame_steps.proofs.Converted.{no_char}
-use Rattle.ckc_blame_steps.proofs.Interfaces.{types_of, parameters_typed, owed_interface, none_owed}
+use Rattle.ckc_blame_steps.proofs.Interfaces.{parameter_types, parameters_typed, owed_interface, none_owed}
 use Rattle.ckc_blame_steps.proofs.Evaluated.{AllBecome, AllGiven, all_given}
 use Rattle.ckc_blame_steps.proofs.Numbering.{AreWords, numbers_after, values_are, own_valuation, own_values, valuation_with, with_values, with_own, with_continues}
 use Rattle.ckc_blame_steps.proofs.Passed.{AreTaken, AreEntered, taken_many, taken_words, taken_numbers, are_arguments, are_new}
@@ -100,7 +100,7 @@ use Rattle.ckc_blame_steps.proofs.Stepping.{IsCallStep, call_step}
 
 module _ (m : Mode) (globals : Globals) (variables : List Variable) (s : Setting) (store : Store) (at : Point) where
   all_become : (ts : List Parameter) (es fs : List NotedExpr) (k : ℕ) (from : Numbered) → AllByRecursion (WellTypedExpr globals variables m) es → typing.AreArguments m ts es
-      → GiveWords m s store at k es fs from → AllBecome (types_of ts) es
+      → GiveWords m s store at k es fs from → AllBecome (parameter_types ts) es
   unfolding GiveWords
   all_become [] [] fs k from typed h g = tt
   all_become (t ∷ ts) (e ∷ es) (f ∷ fs) k from typed h g = (
@@ -152,7 +152,7 @@ params_few p s f i few =
     let all = ap (λ (t : Setting). length t.variables) i.judged in
     let both = length-append (params_of_head i.body.note.mode i.head) (locals_of i.body) in
     let first = length-map (seen_params i.body.note.mode i.head) variable_declared in
-    let written = length-map i.head.params (λ (d : NotedDecl). seen i.body.note.mode d) in
+    let written = length-map i.head.params (seen i.body.note.mode) in
     omega (arith, many, all, both, first, written, few)
 
 interfaces_are : (p : Typed) (head : NotedHead) (body : NotedStmt) → (setting_of p head body).head.interfaces ≡ map is_interface head.params
@@ -217,7 +217,7 @@ module _ (p : Typed) (s : State) (h : Sound p s) (j : IsJudged p) (nested : AreN
 
     types_count : length types ≡ length c.function.head.params
     types_count =
-        length-map (seen_params Checked c.function.head) (λ (d : NotedDecl). type_written d.ctype) ∙ length-map c.function.head.params (λ (d : NotedDecl). seen Checked d)
+        length-map (seen_params Checked c.function.head) (λ (d : NotedDecl). type_written d.ctype) ∙ length-map c.function.head.params (seen Checked)
 
     params_count : length params ≡ length types
     params_count =

@@ -129,10 +129,10 @@ module _ {A : Type 0} where
 -- ---- parameters
 
 -- the types that arguments are converted to
-abbrev pub types_of : List Parameter → List CType
-types_of ps = map (λ (p : Parameter). p.ctype) ps
+abbrev pub parameter_types : List Parameter → List CType
+parameter_types ps = map (λ (p : Parameter). p.ctype) ps
 
-pub parameters_typed : (ds : List NotedDecl) → types_of (map parameter_declared ds) ≡ types_declared (map (seen Checked) ds)
+pub parameters_typed : (ds : List NotedDecl) → parameter_types (map parameter_declared ds) ≡ types_declared (map (seen Checked) ds)
 parameters_typed [] = refl
 parameters_typed (d ∷ ds) = ap (λ ts. type_written (seen Checked d).ctype ∷ ts) (parameters_typed ds)
 

@@ -3,6 +3,8 @@ use Rattle.std.proofs.Common.{◌≡◌, ◌∙◌, sym, ap, subst, refl, inl, i
 use Rattle.std.specs.Prelude.{All, ◌&&◌, if◌then◌else◌, not, Option, None, Some, Ok, is_none, is_some, slice_get}
 use Rattle.std.specs.List.{Contains}
 use Rattle.std.proofs.lemmas.List.Elements.{All-nil, All-cons, All-append, All-contains, All-head, All-map, All-tail}
+use Rattle.ckc_base.specs.declared.arithmetic.Mode.{Mode}
+use Rattle.ckc_base.specs.declared.arithmetic.Mode.TheVariants.{Checked, Unchecked}
 use Rattle.ckc_base.specs.declared.places.Pos.{Pos}
 use Rattle.ckc_base.specs.Outcomes.{bind, refused}
 use Rattle.ckc_base.proofs.Gives.{given_from}
@@ -33,8 +35,8 @@ use Rattle.ckc_blame_sound.specs.ckc_bounds_declared.specs.declared.limits.Holde
 use Rattle.ckc_blame_sound.specs.ckc_bounds_declared.specs.Written.{bounds_declared, bounds_of_kind, takes_bounds_kind}
 use Rattle.ckc_blame_sound.specs.ckc_bounds_statements.specs.DeclBounds.{bounds_there, holder_of}
 use Rattle.ckc_blame_sound.specs.ckc_bounds_statements.specs.Paths.{Here, Path, ActPath, ActOfPaths, value_judged, maybe_judged, init_judged, bounds_judged, starts_within, declared_here, stated, sides_judged, behind_stores, side_of, maybe_side, maybe_other, other_side, loop_head, closed, gone, is_good, is_returned, parts_judged, bundle_judged, all_judged, part_judged, if_judged, for_judged, to_step, maybe_point, act_path, stmt_path, path_of_act, path}
-use Rattle.ckc_blame_sound.specs.ckc_bounds.specs.Declarations.{all_made, head_bounds, known_or_not, params_frame}
-use Rattle.ckc_blame_sound.specs.ckc_bounds.specs.Frames.{all_of, begin_of, function_frame, nameless}
+use Rattle.ckc_blame_sound.specs.ckc_bounds.specs.Declarations.{head_bounds, known_or_not, params_frame}
+use Rattle.ckc_blame_sound.specs.ckc_bounds.specs.Frames.{all_of, begin_of, types_frame, function_frame, nameless}
 use Rattle.ckc_blame_sound.specs.ckc_bounds.specs.Texts.{body_judged}
 use Rattle.ckc_source.specs.Code.{Function}
 use Rattle.ckc_blame_sound.specs.Settings.{Setting, IsFunction, frame_of_text, setting_of}
@@ -44,6 +46,7 @@ use Rattle.ckc_blame_sound.proofs.Bounds.{IsBoundable, decl_fits}
 use Rattle.ckc_blame_walk.specs.ckc_blame_declared.proofs.Locals.{local_is}
 use Rattle.ckc_blame_walk.specs.ckc_blame_declared.proofs.Parameters.{IsJudgedWell, function_well}
 use Rattle.ckc_blame_sound.proofs.ByNumber.{declaration_at}
+use Rattle.ckc_blame_sound.proofs.Frames.{locals_made}
 use Rattle.ckc_blame_sound.proofs.Functions.{numbered}
 use Rattle.ckc_blame_given.specs.ckc_blame_pointers.specs.Covered.{DeclareOnes}
 use Rattle.ckc_blame_walk.proofs.Frames.{body_twin}
@@ -406,7 +409,7 @@ module _ (p : Typed) (h : NotedHead) (body : NotedStmt) (j : IsJudged p) (there 
       by (Some l) is =
           absurd (no_bounds (first_true (takes_bounds_kind (kind_of (type_written d.ctype))) (is_none (kind_of_array d.length)) (fits (ap (λ (o : Option NotedLimits). is_some o) is))))
 
-  declared_one : (k : ℕ) (l : Local) → slice_get (all_made (types_frame (frame_of_text p) h body) true (all_of h body)) k ≡ Some l → kind_of l.ctype ≡ Some kind.One → l.bounds ≡ bounds_of_kind (base.Local k) (Some kind.One)
+  declared_one : (k : ℕ) (l : Local) → slice_get (locals_made (frame_of_text p) h body) k ≡ Some l → kind_of l.ctype ≡ Some kind.One → l.bounds ≡ bounds_of_kind (base.Local k) (Some kind.One)
   declared_one k l e one =
       let frame = types_frame (frame_of_text p) h body in
       let d = declaration_at frame true (all_of h body) k l (numbered p h body j there) e in

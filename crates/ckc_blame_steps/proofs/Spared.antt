@@ -36,7 +36,7 @@ locals_spared p s f d k j is there named =
     let params = seen_params is.body.note.mode is.head in
     let first : AreLocals 0 (map (λ (e : NotedDecl). e.name) params) = subst (AreLocals 0) (sym (names_seen is.body.note.mode is.head)) (params_numbered p is.head is.body j is.there) in
     let low : length params ≤ k = locals_come_after params (path is.body).declared d k first (numbered p is.head is.body j is.there) there named in
-    let many : length params ≡ length is.head.params = length-map is.head.params (λ (e : NotedDecl). seen is.body.note.mode e) in
+    let many : length params ≡ length is.head.params = length-map is.head.params (seen is.body.note.mode) in
     let counts : f.params ≡ length s.head.params = (function_counts p s f is).1 in
     let runs : f.params ≡ length is.head.params = ap (λ (g : Function). g.params) is.runs in
     results_spare p s f k j is (omega (arith, low, many, counts, runs))

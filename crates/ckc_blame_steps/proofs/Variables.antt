@@ -13,8 +13,8 @@ use Rattle.ckc_typed.specs.declared.typed.Typed.{Typed}
 use Rattle.ckc_typed.specs.Environment.{variable_named, variables_of}
 use Rattle.ckc_typed.specs.Trees.{NotedHead, NotedStmt}
 use Rattle.ckc_typed.specs.Types.{is_scalar}
-use Rattle.ckc_blame_sound.specs.ckc_bounds.specs.Declarations.{few_of, all_made}
-use Rattle.ckc_blame_sound.specs.ckc_bounds.specs.Frames.{all_of, types_frame, function_frame}
+use Rattle.ckc_blame_sound.specs.ckc_bounds.specs.Declarations.{few_of}
+use Rattle.ckc_blame_sound.specs.ckc_bounds.specs.Frames.{function_frame}
 use Rattle.ckc_blame_sound.specs.ckc_bounds_points.specs.declared.frame.Bounds.{Bounds}
 use Rattle.ckc_blame_sound.specs.ckc_bounds_points.specs.declared.frame.Bounds.TheVariants as bounds
 use Rattle.ckc_blame_sound.specs.ckc_bounds_points.specs.declared.frame.Local.{Local}
@@ -24,7 +24,7 @@ use Rattle.ckc_source.specs.Code.{Code, Expr, Function}
 use Rattle.ckc_blame_sound.specs.Settings.{Setting, IsFunction, frame_of_text, setting_of}
 use Rattle.ckc_blame_sound.specs.Steps.{IsStep, IsCondition}
 use Rattle.ckc_blame_sound.specs.JudgedTexts.{IsJudged}
-use Rattle.ckc_blame_sound.proofs.Frames.{first_at, locals_counted}
+use Rattle.ckc_blame_sound.proofs.Frames.{first_at, locals_made, locals_counted}
 use Rattle.ckc_blame_sound.specs.Ends.{IsBase, IsCounter, IsCounted, IsEnd, AreEnds}
 use Rattle.ckc_blame_given.specs.ckc_blame_pointers.specs.Covered.{IsInScope, IsIntegerLocal, IsLocalVariable, IsLocalBase, IsLocalForm, AreLocalBounds, DeclareLocals}
 use Rattle.ckc_blame_walk.specs.ckc_blame_declared.proofs.HaveEnds.{locals_have_ends}
@@ -44,7 +44,7 @@ module _ (p : Typed) (h : NotedHead) (body : NotedStmt) (j : IsJudged p) (there 
   variable_at : (k : ℕ) (l : Local) → local_at (setting_of p h body).frame k ≡ Some l → k < length (setting_of p h body).variables → IsVariable (setting_of p h body).variables k l.ctype
   unfolding setting_of
   variable_at k l at less =
-      let D = all_made (types_frame (frame_of_text p) h body) true (all_of h body) in
+      let D = locals_made (frame_of_text p) h body in
       let few = few_at k l at in
       let x = some_at D k (subst (λ n. k < n) (sym (locals_counted (frame_of_text p) h body)) less) in
       let same = same_some (local_there (frame_of_text p) h body k x.0 x.1 few) at in
