@@ -20,7 +20,7 @@ use Rattle.ckc_bounds.specs.ckc_bounds_points.specs.Codes.{bad_bundle, not_conta
 use Rattle.ckc_bounds.specs.ckc_bounds_views.specs.Views.{view}
 use Rattle.ckc_bounds.specs.ckc_bounds_statements.specs.DeclBounds.{bounds_there}
 use Rattle.ckc_bounds.specs.ckc_bounds_statements.specs.Paths.{Here, is_good, expr_judged, value_judged, bounds_judged, values_judged, maybe_judged, init_judged, starts_within, declared_here, decl_judged, stated, sides_judged, behind_stores, is_returned, gone, Branch, Start, branched, for_started, Path, ActPath, all_judged, parts_judged, bundle_judged, part_judged, act_path, stmt_path, path_of_act, path}
-use Rattle.ckc_bounds.specs.Declarations.{member_holder, types_in, head_judged, head_bounds}
+use Rattle.ckc_bounds.specs.Declarations.{member_holder, params_frame, head_judged, head_bounds}
 use Rattle.ckc_bounds.specs.Frames.{text_frame, function_frame, begin_of}
 use Rattle.ckc_bounds.specs.Texts.{outside, members_judged, object_judged, body_judged, head_kept, item_judged, items_judged, text_judged}
 use Rattle.ckc_blame_sound.proofs.KeptTrees.{Keeps, bound, kept, two, ExprKept, expr_kept}
@@ -300,7 +300,7 @@ body_kept frame h body =
     bound stmt_first (bare_stmt body) bare_stmt _ _ _ ((stmt_kept (function_frame frame h body) body).judged (head_bounds frame h) (begin_of frame h body)) (λ p g. g)
 
 head_stays : (frame : Frame) (h : NotedHead) → Keeps bare_head (bare_head h) (head_kept frame h)
-head_stays frame h = bound none tt bare_head _ _ _ (any (head_judged (types_in frame h.params) h)) (λ b z. refl)
+head_stays frame h = bound none tt bare_head _ _ _ (any (head_judged (params_frame frame h) h)) (λ b z. refl)
 
 item_kept : (frame : Frame) (i : NotedItem) → Keeps bare_item (bare_item i) (item_judged frame i)
 item_kept frame (item.Directive d) = refl

@@ -10,26 +10,30 @@ use Rattle.ckc_base.specs.Outcomes.{Outcome}
 use Rattle.ckc_base.proofs.Gives.{Gives, given_from, bound, itself}
 use Rattle.ckc_syntax.specs.declared.tree.Item.TheVariants as item
 use Rattle.ckc_typed.specs.declared.environment.Globals.{Globals}
+use Rattle.ckc_typed.specs.declared.typed.Note.{Note}
 use Rattle.ckc_typed.specs.declared.typed.Typed.{Typed}
 use Rattle.ckc_typed.specs.Environment.{variable_declared, params_of, variables_of, locals_of}
+use Rattle.ckc_typed.specs.Statements.{body_mode}
 use Rattle.ckc_typed.specs.Texts.{globals_of}
-use Rattle.ckc_typed.specs.Trees.{Tree, Decl, NotedDecl, NotedHead, NotedStmt, NotedItem}
+use Rattle.ckc_typed.specs.Trees.{Tree, NotedDecl, NotedHead, NotedStmt, NotedItem}
 use Rattle.ckc_typed.specs.Types.{type_written}
 use Rattle.ckc_typed.specs.Walk.{head_mode, pragma_after}
-use Rattle.ckc_typed_welltyped.specs.Noteless.{bare_decl, bare_head, bare_stmt, bare_item, without_notes}
+use Rattle.ckc_typed_welltyped.specs.Noteless.{bare_head, bare_stmt, bare_item, without_notes}
 use Rattle.ckc_typed_welltyped.specs.Statements.{WellTypedStmt}
 use Rattle.ckc_typed_welltyped.specs.Texts.{WellTypedItem, WellTypedItems}
+use Rattle.ckc_typed_welltyped.proofs.Seen.{variables_bare, body_noted as typed_so}
 use Rattle.ckc_bounds.specs.ckc_bounds_points.specs.declared.frame.Frame.{Frame}
 use Rattle.ckc_bounds.specs.ckc_bounds_statements.specs.Paths.{path}
-use Rattle.ckc_bounds.specs.Declarations.{member_holder, types_in, head_judged}
+use Rattle.ckc_bounds.specs.Declarations.{member_holder, params_frame, head_judged}
 use Rattle.ckc_bounds.specs.Texts.{members_judged, object_judged, body_judged, head_kept, item_judged, items_judged}
 use Rattle.ckc_blame_sound.specs.Settings.{frame_of_text}
 use Rattle.ckc_blame_sound.specs.JudgedTexts.{IsJudged, IsBodyJudged, globals_in}
 use Rattle.ckc_blame_sound.proofs.Bares.{body_kept}
 use Rattle.ckc_blame_sound.proofs.Bounded.{is_bounded, anything}
 use Rattle.ckc_blame_sound.proofs.Functions.{tree_named, all_made}
-use Rattle.ckc_blame_sound.proofs.KeptTrees.{Keeps, two}
+use Rattle.ckc_blame_sound.proofs.KeptTrees.{Keeps}
 use Rattle.ckc_blame_sound.proofs.Locals.{variables_declared, stmt_declares}
+use Rattle.ckc_blame_sound.proofs.Notes.{body_noted}
 
 -- ---- what an item became
 
@@ -46,7 +50,7 @@ Became frame (item.Function h before) j = BecameFunction frame h before j
 Became frame i j = IsNoFunction j
 
 head_same : (frame : Frame) (h : NotedHead) → Gives (λ (g : NotedHead). g ≡ h) (head_kept frame h)
-head_same frame h = bound (λ b. Unit {0}) (λ (g : NotedHead). g ≡ h) _ _ (anything (head_judged (types_in frame h.params) h)) (λ b z. refl)
+head_same frame h = bound (λ b. Unit {0}) (λ (g : NotedHead). g ≡ h) _ _ (anything (head_judged (params_frame frame h) h)) (λ b z. refl)
 
 became : (frame : Frame) (i : NotedItem) → Gives (Became frame i) (item_judged frame i)
 became frame (item.Directive d) = tt
@@ -80,10 +84,6 @@ came frame globals W pragma (i ∷ is) h w =
 
 -- ---- the variables of a function
 
-params_same : (ds : List NotedDecl) → map (λ (d : Decl). variable_declared d) (map bare_decl ds) ≡ map (λ (d : NotedDecl). variable_declared d) ds
-params_same [] = refl
-params_same (d ∷ ds) = ap (λ vs. variable_declared d ∷ vs) (params_same ds)
-
 body_same : (frame : Frame) (h : NotedHead) (before body : NotedStmt) → body_judged frame h before ≡ Ok body → bare_stmt body ≡ bare_stmt before
 body_same frame h before body e = by (body_judged frame h before) e (body_kept frame h before)
   where
@@ -91,9 +91,8 @@ body_same frame h before body e = by (body_judged frame h before) e (body_kept f
     by (Ok s) is k = let same : s ≡ body = cc in subst (λ x. bare_stmt x ≡ bare_stmt before) same k
     by (Err r) is k = absurd cc
 
-variables_same : (h : NotedHead) (before body : NotedStmt) → bare_stmt body ≡ bare_stmt before → variables_of (bare_head h) (bare_stmt before) ≡ variables_of h body
-variables_same h before body e =
-    two (λ xs ys. xs ++ ys) (params_same h.params) (ap (λ s. locals_of s) (sym e) ∙ (stmt_declares body).same)
+variables_same : (mode : Mode) (h : NotedHead) (before body : NotedStmt) → bare_stmt body ≡ bare_stmt before → variables_of mode (bare_head h) (bare_stmt before) ≡ variables_of mode h body
+variables_same mode h before body e = ap (variables_of mode (bare_head h)) (sym e) ∙ variables_bare mode h body
 
 -- ---- bodies
 
@@ -106,13 +105,17 @@ body_is p j globals h body c = by c.before c.among c.became c.fits
         let head : g ≡ h = cc in
         let made : b.0 ≡ body = cc in
         let judged : body_judged (frame_of_text j.typed) g before ≡ Ok body = b.1 ∙ ap (λ s. Ok s) made in
+        let outer = head_mode c.pragma g in
+        let seen : body_mode outer before ≡ body.note.mode =
+        sym (typed_so globals (variables_of (body_mode outer before) (bare_head g) (bare_stmt before)) (type_written g.result) before outer false w.1)
+        ∙ sym (ap (λ (n : Note). n.mode) (body_noted (frame_of_text j.typed) g before body judged)) in
         subst (λ (k : NotedHead). IsBodyJudged globals j.typed k body) head (record {
           before = before;
-          mode = head_mode c.pragma g;
+          mode = outer;
           there = there;
           judged = judged;
-          fits = subst (λ vs. WellTypedStmt globals vs (type_written g.result) before (head_mode c.pragma g) false)
-              (variables_same g before body (body_same (frame_of_text j.typed) g before body judged)) w.1;
+          fits = subst (λ vs. WellTypedStmt globals vs (type_written g.result) before outer false)
+              (ap (λ mode. variables_of mode (bare_head g) (bare_stmt before)) seen ∙ variables_same body.note.mode g before body (body_same (frame_of_text j.typed) g before body judged)) w.1;
         })
     by (item.Directive d) there b w = absurd b
     by (item.Tag n at) there b w = absurd b
@@ -142,11 +145,11 @@ locals_same before body e = sym (stmt_declares before).same ∙ ap (λ s. locals
 
 -- what is declared in the body before it was judged is among the variables of the function
 pub declared_known : (globals : Globals) (typed : Typed) (h : NotedHead) (body : NotedStmt) (b : IsBodyJudged globals typed h body) (d : NotedDecl) → Contains (path b.before).declared d
-    → Contains (variables_of h body) (variable_declared d)
+    → Contains (variables_of body.note.mode h body) (variable_declared d)
 declared_known globals typed h body b d there =
     let same = locals_same b.before body (body_same (frame_of_text typed) h b.before body b.judged) in
     let moved = (stmt_declares b.before).is.variables in
-    Contains-append_right (params_of h) (locals_of body) (variable_declared d)
+    Contains-append_right (params_of body.note.mode h) (locals_of body) (variable_declared d)
     (subst (λ vs. Contains vs (variable_declared d)) same
     (Contains-permutation (variables_declared (path b.before).declared) (locals_of b.before) (variable_declared d) moved
     (contains_made (λ (e : NotedDecl). variable_declared e) (path b.before).declared d there)))

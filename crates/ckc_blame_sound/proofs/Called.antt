@@ -1,5 +1,5 @@
 -- Each parameter may be read within its bounds at the begin of a call whose arguments are contained in them.
-use Rattle.std.proofs.Common.{◌≡◌, ⊎_elim, ℕ, zero, suc, ◌+◌, ◌==◌, ◌<◌, ◌≤◌, refl, sym, ◌∙◌, ap, subst, List, [], ◌∷◌, ◌++◌, length, ◌+ℤ◌, arith}
+use Rattle.std.proofs.Common.{◌≡◌, inl, inr, ⊎_elim, ℕ, zero, suc, ◌+◌, ◌==◌, ◌<◌, ◌≤◌, refl, sym, ◌∙◌, ap, subst, List, [], ◌∷◌, ◌++◌, length, ◌+ℤ◌, arith}
 use Rattle.std.specs.Prelude.{true, false, pos, slice_get, slice_index, Option, None, Some}
 use Rattle.std.specs.List.{All}
 use Rattle.std.proofs.lemmas.Int.{ints}
@@ -10,9 +10,10 @@ use Rattle.ckc_linear.specs.declared.forms.Base.{Base}
 use Rattle.ckc_linear.specs.declared.forms.Base.TheVariants as base
 use Rattle.ckc_linear.specs.declared.forms.Form.{Form}
 use Rattle.ckc_typed.specs.declared.typed.Range.TheVariants as range
-use Rattle.ckc_typed.specs.Types.{is_integer}
+use Rattle.ckc_typed.specs.Types.{is_integer, is_pointer}
 use Rattle.ckc_bounds.specs.ckc_bounds_points.specs.declared.frame.Bounds.{Bounds}
 use Rattle.ckc_bounds.specs.ckc_bounds_points.specs.declared.frame.Bounds.TheVariants as bounds
+use Rattle.ckc_bounds.specs.ckc_bounds_points.specs.declared.frame.HeadBounds.{HeadBounds}
 use Rattle.ckc_bounds.specs.ckc_bounds_points.specs.declared.frame.Local.{Local}
 use Rattle.ckc_bounds.specs.ckc_bounds_points.specs.Shown.{Known}
 use Rattle.ckc_bounds.specs.ckc_bounds_points.specs.Frames.{local_at}
@@ -25,7 +26,7 @@ use Rattle.ckc_bounds.specs.ckc_bounds_ranges.specs.Rows.{range_by, range_of_bou
 use Rattle.ckc_bounds.specs.ckc_bounds_views.specs.Parts.{View, capped}
 use Rattle.ckc_bounds.specs.ckc_bounds_views.specs.Arguments.{bases_by, variables_by}
 use Rattle.ckc_bounds.specs.ckc_bounds_views.specs.Fresh.{with_types}
-use Rattle.ckc_bounds.specs.ckc_bounds_views.specs.Judged.{facts_for, arguments_fault}
+use Rattle.ckc_bounds.specs.ckc_bounds_views.specs.Judged.{facts_for, is_owed, arguments_fault}
 use Rattle.ckc_bounds.specs.ckc_bounds_stores.specs.Values.{Value, holds}
 use Rattle.ckc_source.specs.Eval.{Store}
 use Rattle.ckc_source.specs.Words.{exact}
@@ -47,7 +48,7 @@ use Rattle.ckc_blame_sound.proofs.Contained.{contained_reads, more_known}
 use Rattle.ckc_blame_sound.proofs.Ends.{valuation_of, values_are, reads_so}
 use Rattle.ckc_blame_sound.proofs.New.{types_added}
 use Rattle.ckc_blame_sound.proofs.Assigned.{base_address_is, some_equal}
-use Rattle.ckc_blame_sound.proofs.Passed.{base_passed, base_over, number_passed, zero_over, argument_contained}
+use Rattle.ckc_blame_sound.proofs.Passed.{pointer_passed, integer_in_body, integer_in_head, base_passed, base_over, number_passed, zero_over, IsContained, argument_contained}
 
 -- ---- parameters
 
@@ -59,7 +60,7 @@ few_parameters c [] are = omega arith
 few_parameters c (p ∷ ps) are =
     let last = slice_get-get_or (p ∷ ps) (length ps) p (omega arith) in
     let there = are.there (length ps) _ last in
-    let within = slice_get_within c.frame.locals (length ps) _ there in
+    let within = slice_get_within c.frame.locals (length ps) there.0 there.1 in
     let few = c.frame.few in
     omega arith
 
@@ -82,10 +83,12 @@ module _ (c : Setting) (v w : Valuation) (facts : Known) (params : List Local) (
   base_by size (Some (base.Local j)) h named g e =
       let within = named j (eq-eqb j j refl) in
       let p = parameter_at params j within in
-      let same : p.0 ≡ h.local = some_equal p.0 h.local (sym (parameters.there j p.0 p.1) ∙ h.there) in
-      let there : slice_get params j ≡ Some h.local = p.1 ∙ ap (λ (l : Local). Some l) same in
-      let passed = base_passed c.text.layout v facts params entry tail es 0 first j j few arguments (omega arith) (omega arith) h.local there h.pointer g e in
-      subst (λ z. form_address v z g ≡ pos (slice_index entry j)) h.sized passed ∙ sym (pointer j within)
+      let l = parameters.there j p.0 p.1 in
+      let same : l.0 ≡ h.local = some_equal l.0 h.local (sym l.1 ∙ h.there) in
+      let both = pointer_passed c.text.layout p.0 l.0 l.2 (ap (λ (x : Local). is_pointer x.ctype) same ∙ h.pointer) in
+      let sized : size_behind c.text.layout p.0.ctype ≡ size = both.1 ∙ ap (λ (x : Local). size_behind c.text.layout x.ctype) same ∙ h.sized in
+      let passed = base_passed c.text.layout v facts params entry tail es 0 first j j few arguments (omega arith) (omega arith) p.0 p.1 both.0 g e in
+      subst (λ z. form_address v z g ≡ pos (slice_index entry j)) sized passed ∙ sym (pointer j within)
 
   pub variable_by : (x : ℕ) → IsCounted c x → ((j : ℕ) → (x == j + 1) ≡ true → j < length params) → (g : Form) → variable_replaced (variables_by params 0 facts es) x ≡ Some g
       → number_of v.number g ≡ w.number x
@@ -97,59 +100,69 @@ module _ (c : Setting) (v w : Valuation) (facts : Known) (params : List Local) (
   variable_by (suc j) h named g e =
       let within = named j (eq-eqb (suc j) (j + 1) (omega arith)) in
       let p = parameter_at params j within in
-      let same : p.0 ≡ h.local = some_equal p.0 h.local (sym (parameters.there j p.0 p.1) ∙ h.there) in
-      let there : slice_get params j ≡ Some h.local = p.1 ∙ ap (λ (l : Local). Some l) same in
+      let l = parameters.there j p.0 p.1 in
+      let same : l.0 ≡ h.local = some_equal l.0 h.local (sym l.1 ∙ h.there) in
+      let is = integer_in_body c.text.layout p.0 l.0 l.2 (ap (λ (x : Local). is_integer x.ctype) same ∙ h.integer) in
+      let there : slice_get params j ≡ Some h.local = p.1 ∙ ap (λ (x : Local). Some x) (sym is ∙ same) in
       number_passed c.text.layout v facts params entry tail es 0 first j j few arguments (omega arith) (omega arith) h.local there h.integer g e ∙ sym (number j h.local there h.integer)
+
+-- the number of an integer parameter is that of the local with its number
+pub number_in : (c : Setting) (params : List Local) → AreParameters c params → (locals : List ℕ) (w : Valuation) → IsValuationOf c locals w → (j : ℕ) (p : Local) → slice_get params j ≡ Some p
+    → is_integer p.ctype ≡ true → w.number (suc j) ≡ exact (integer_of p.ctype) (slice_index locals j)
+number_in c params parameters locals w will j p there i =
+    let l = parameters.there j p there in
+    will.number j p (l.1 ∙ ap (λ (x : Local). Some x) (integer_in_head c.text.layout p l.0 l.2 i)) i
 
 -- ---- the begin of a call
 
-module _ (s c : Setting) (store : Store) (v : Valuation) (at : State) (es : List View) (fresh : ℕ) (params : List Local) (entry locals : List ℕ)
-    (text : c.text ≡ s.text) (ends : HaveEnds c) (parameters : AreParameters c params) (counts : length es ≡ length params) (are : IsValuationOf s store.locals v) (known : AreFacts v at.facts)
-    (placed : All (IsPlaced c.text) store.blocks) (arguments : (facts : Known) → AreFacts v facts → AreArguments c.text.layout v facts params entry 0 0 es)
-    (new : AreNewArguments c store v params entry at 0 0 fresh es) (begins : (k : ℕ) → k < length params → slice_index locals k ≡ slice_index entry k)
-    (judged : arguments_fault (λ facts. bases_by params 0 0 facts es) (λ facts. variables_by params 0 facts es) params 0 es 0 fresh at ≡ None) where
+module _ (s c : Setting) (store : Store) (v : Valuation) (at : State) (es : List View) (fresh : ℕ) (h : HeadBounds) (entry locals : List ℕ)
+    (text : c.text ≡ s.text) (ends : HaveEnds c) (parameters : AreParameters c h.params) (counts : length es ≡ length h.params) (are : IsValuationOf s store.locals v) (known : AreFacts v at.facts)
+    (placed : All (IsPlaced c.text) store.blocks) (arguments : (facts : Known) → AreFacts v facts → AreArguments c.text.layout v facts h.params entry 0 0 es)
+    (new : AreNewArguments c store v h.params entry at 0 0 fresh es) (begins : (k : ℕ) → k < length h.params → slice_index locals k ≡ slice_index entry k)
+    (owed : (k : ℕ) (e : View) → slice_get es k ≡ Some e → is_owed (slice_get h.interfaces k) e ≡ true → IsBounded c (record store { locals = locals }) [] k (local_at c.frame k))
+    (judged : arguments_fault (λ facts. bases_by h.params 0 0 facts es) (λ facts. variables_by h.params 0 facts es) h 0 es 0 fresh at ≡ None) where
   abbrev begun : Store
   begun = record { shapes = store.shapes; blocks = store.blocks; locals = locals }
 
   will : IsValuationOf c locals (valuation_of c locals)
   will = values_are c locals
 
-  end_passed : (facts : Known) → AreFacts v facts → (size : ℕ) (f : Form) → IsEnd c size f → ((j : ℕ) → in_form j f ≡ true → j < length params)
-      → IsReplaced (bases_by params 0 0 facts es) (variables_by params 0 facts es) size v (valuation_of c locals) f
-  end_passed facts all size f h named =
+  end_passed : (facts : Known) → AreFacts v facts → (size : ℕ) (f : Form) → IsEnd c size f → ((j : ℕ) → in_form j f ≡ true → j < length h.params)
+      → IsReplaced (bases_by h.params 0 0 facts es) (variables_by h.params 0 facts es) size v (valuation_of c locals) f
+  end_passed facts all size f is_end named =
       let w = valuation_of c locals in
       let array : (k : ℕ) → w.address (Some (base.Array k)) ≡ v.address (Some (base.Array k)) = λ k. will.array k ∙ ap (λ t. pos (address_of t k)) text ∙ sym (are.array k) in
-      let pointer : (j : ℕ) → j < length params → w.address (Some (base.Local j)) ≡ pos (slice_index entry j) = λ j h. will.pointer j ∙ ap pos (begins j h) in
-      let number : (j : ℕ) (p : Local) → slice_get params j ≡ Some p → is_integer p.ctype ≡ true → w.number (suc j) ≡ exact (integer_of p.ctype) (slice_index entry j) =
-      λ j p there i. will.number j p (parameters.there j p there) i ∙ ap (exact (integer_of p.ctype)) (begins j (slice_get_within params j p there)) in
+      let pointer : (j : ℕ) → j < length h.params → w.address (Some (base.Local j)) ≡ pos (slice_index entry j) = λ j less. will.pointer j ∙ ap pos (begins j less) in
+      let number : (j : ℕ) (p : Local) → slice_get h.params j ≡ Some p → is_integer p.ctype ≡ true → w.number (suc j) ≡ exact (integer_of p.ctype) (slice_index entry j) =
+      λ j p there i. number_in c h.params parameters locals w will j p there i ∙ ap (exact (integer_of p.ctype)) (begins j (slice_get_within h.params j p there)) in
       record {
-        base = λ g e. base_by c v w facts params entry [] es 0 parameters counts (arguments facts all) are.zero will.zero array (λ k. refl) pointer number size f.base h.base
-            (λ j e. named j (left_of (names_local j f.base) (f.var == j + 1) e)) g (ap (λ bs. base_replaced bs f.base) (append-nil (bases_by params 0 0 facts es)) ∙ e);
-        variable = variable_by c v w facts params entry [] es 0 parameters counts (arguments facts all) are.zero will.zero array (λ k. refl) pointer number f.var h.variable
+        base = λ g e. base_by c v w facts h.params entry [] es 0 parameters counts (arguments facts all) are.zero will.zero array (λ k. refl) pointer number size f.base is_end.base
+            (λ j e. named j (left_of (names_local j f.base) (f.var == j + 1) e)) g (ap (λ bs. base_replaced bs f.base) (append-nil (bases_by h.params 0 0 facts es)) ∙ e);
+        variable = variable_by c v w facts h.params entry [] es 0 parameters counts (arguments facts all) are.zero will.zero array (λ k. refl) pointer number f.var is_end.variable
             (λ j e. named j (right_of (names_local j f.base) (f.var == j + 1) e));
       }
 
-  parameter_read : (k : ℕ) (p : Local) → slice_get params k ≡ Some p → (low high : Form) → p.bounds ≡ bounds.Known low high → IsReadable c begun k p.ctype (range.Known low high)
+  -- the parameter k of known bounds, whose argument is judged
+  parameter_read : (k : ℕ) (p : Local) → slice_get h.params k ≡ Some p → local_at c.frame k ≡ Some p
+      → IsContained c store v h entry at (λ facts. bases_by h.params 0 0 facts es) (λ facts. variables_by h.params 0 facts es) k p
+      → (low high : Form) → p.bounds ≡ bounds.Known low high → IsReadable c begun k p.ctype (range.Known low high)
   unfolding holds
-  parameter_read k p there low high b =
+  parameter_read k p there at_p one low high b =
       let w = valuation_of c locals in
       let size = size_behind c.text.layout p.ctype in
-      let within = slice_get_within params k p there in
-      let few = few_parameters c params parameters in
-      let one = argument_contained c store v params entry at (λ facts. bases_by params 0 0 facts es) (λ facts. variables_by params 0 facts es) es 0 0 fresh k k (omega arith) new (omega arith) (omega arith) p there judged in
+      let within = slice_get_within h.params k p there in
       let value : Value = record {
         null = one.argument.null;
         range = one.argument.range one.first one.fresh at;
         facts = facts_for one.argument one.first one.fresh false at;
       } in
-      let at_p = parameters.there k p there in
       let two : AreEnds c size (bounds.Known low high) = subst (AreEnds c size) b (ends k p at_p).ends in
-      let named : (j : ℕ) → in_bounds j (bounds.Known low high) ≡ true → j < length params = λ j e. parameters.named k p there j (ap (in_bounds j) b ∙ e) in
-      let contained : is_contained value.facts (bounds.Known low high) value.null value.range (replaced_bounds (bases_by params 0 0 value.facts es) (variables_by params 0 value.facts es) (bounds.Known low high)) ≡ true =
-      subst (λ l. is_contained value.facts l value.null value.range (replaced_bounds (bases_by params 0 0 value.facts es) (variables_by params 0 value.facts es) l) ≡ true) b one.contained in
+      let named : (j : ℕ) → in_bounds j (bounds.Known low high) ≡ true → j < length h.params = λ j e. parameters.named k p there j (ap (in_bounds j) b ∙ e) in
+      let contained : is_contained value.facts (bounds.Known low high) value.null value.range (replaced_bounds (bases_by h.params 0 0 value.facts es) (variables_by h.params 0 value.facts es) (bounds.Known low high)) ≡ true =
+      subst (λ l. is_contained value.facts l value.null value.range (replaced_bounds (bases_by h.params 0 0 value.facts es) (variables_by h.params 0 value.facts es) l) ≡ true) b one.contained in
       let is : slice_index locals k ≡ slice_index entry k = begins k within in
       reads_so c begun w will k p.ctype low high two.0 two.1
-      (contained_reads (memory_of c begun p.ctype) v w (slice_index locals k) value (bases_by params 0 0 value.facts es) (variables_by params 0 value.facts es) low high are.zero
+      (contained_reads (memory_of c begun p.ctype) v w (slice_index locals k) value (bases_by h.params 0 0 value.facts es) (variables_by h.params 0 value.facts es) low high are.zero
       (λ all. (end_passed value.facts all size low two.0 (λ j e. named j (left_of (in_form j low) (in_form j high) e)), end_passed value.facts all size high two.1 (λ j e. named j (right_of (in_form j low) (in_form j high) e))))
       (record {
         null = λ e. is ∙ one.new.null e;
@@ -160,12 +173,28 @@ module _ (s c : Setting) (store : Store) (v : Valuation) (at : State) (es : List
       })
       contained)
 
-  pub parameters_bounded : (k : ℕ) → k < length params → IsBounded c begun [] k (local_at c.frame k)
-  parameters_bounded k h =
-      let p = parameter_at params k h in
-      let there = parameters.there k p.0 p.1 in
-      subst (IsBounded c begun [] k) (sym there) (subst (λ o. IsReadable c begun k p.0.ctype (range_by o false)) (sym there) (by p.0 p.1 p.0.bounds refl))
+  -- a local may be read within its bounds if it may where they are known
+  local_read : (k : ℕ) (l : Local) → local_at c.frame k ≡ Some l → ((low high : Form) → l.bounds ≡ bounds.Known low high → IsReadable c begun k l.ctype (range.Known low high))
+      → IsBounded c begun [] k (local_at c.frame k)
+  local_read k l there known_so =
+      subst (IsBounded c begun [] k) (sym there) (subst (λ o. IsReadable c begun k l.ctype (range_by o false)) (sym there) (by l.bounds refl))
     where
-      by : (p : Local) → slice_get params k ≡ Some p → (b : Bounds) → p.bounds ≡ b → IsReadable c begun k p.ctype (range_by (Some p) false)
-      by p there bounds.Unknown b = subst (λ r. IsReadable c begun k p.ctype (range_of_bounds r)) (sym b) tt
-      by p there (bounds.Known low high) b = subst (λ r. IsReadable c begun k p.ctype (range_of_bounds r)) (sym b) (parameter_read k p there low high b)
+      by : (b : Bounds) → l.bounds ≡ b → IsReadable c begun k l.ctype (range_by (Some l) false)
+      by bounds.Unknown b = subst (λ r. IsReadable c begun k l.ctype (range_of_bounds r)) (sym b) tt
+      by (bounds.Known low high) b = subst (λ r. IsReadable c begun k l.ctype (range_of_bounds r)) (sym b) (known_so low high b)
+
+  pub parameters_bounded : (k : ℕ) → k < length h.params → IsBounded c begun [] k (local_at c.frame k)
+  parameters_bounded k less =
+      let p = parameter_at h.params k less in
+      let l = parameters.there k p.0 p.1 in
+      let few = few_parameters c h.params parameters in
+      elim (argument_contained c store v h entry at (λ facts. bases_by h.params 0 0 facts es) (λ facts. variables_by h.params 0 facts es) es 0 0 fresh k k (omega arith) new (omega arith) (omega arith) p.0 p.1 judged) [
+        | inl o ↦ owed k o.argument o.there o.owed
+        | inr one ↦ elim l.2 [
+          | inl is ↦ let there : local_at c.frame k ≡ Some p.0 = l.1 ∙ ap (λ (x : Local). Some x) is in local_read k p.0 there (parameter_read k p.0 p.1 there one)
+          | inr u ↦ local_read k l.0 l.1 (λ low high b. absurd (unknown low high (sym u.bounds ∙ b)))
+        ]
+      ]
+    where
+      unknown : (low high : Form) → bounds.Unknown ≡ bounds.Known low high → ⊥
+      unknown low high e = cc

@@ -9,6 +9,7 @@ use Rattle.std.proofs.lemmas.List.Elements.{All-nil, All-cons, All-head, All-tai
 use Rattle.std.proofs.lemmas.List.Sorted.{IsPermutation-refl, IsPermutation-append, IsPermutation-sym, Contains-permutation, length_permutation}
 use Rattle.std.proofs.lemmas.Option.{slice_get-map, slice_get_within, slice_get-get_or}
 use Rattle.std.proofs.lemmas.Bool.{eqb-true}
+use Rattle.ckc_base.specs.declared.arithmetic.Mode.TheVariants.{Checked}
 use Rattle.ckc_types.specs.declared.types.CType.{CType}
 use Rattle.ckc_syntax.specs.declared.tree.Name.{Name}
 use Rattle.ckc_syntax.specs.declared.tree.Name.TheVariants as name
@@ -22,14 +23,15 @@ use Rattle.ckc_typed.specs.declared.environment.Variable.{Variable}
 use Rattle.ckc_typed.specs.declared.typed.Typed.{Typed}
 use Rattle.ckc_typed.specs.Trees.{NotedDecl, NotedHead, NotedStmt, Tree, Item}
 use Rattle.ckc_typed.specs.Environment.{same_name, objects_declared_by, objects_of, or_variable, object_named, variable_named, variable_declared, variables_of, locals_of, type_of_name}
+use Rattle.ckc_typed.specs.Interfaces.{seen, seen_params}
 use Rattle.ckc_typed_fit.proofs.NamedItems as items
 use Rattle.ckc_typed_fit.proofs.NamedItems.{ItemsNamed, text_is}
 use Rattle.ckc_typed_plain.proofs.Items.{resolved_of, flat_items}
 use Rattle.ckc_bounds.specs.ckc_bounds_points.specs.declared.frame.Local.{Local}
 use Rattle.ckc_bounds.specs.ckc_bounds_points.specs.declared.frame.Frame.{Frame}
 use Rattle.ckc_bounds.specs.ckc_bounds_points.specs.Frames.{local_at}
-use Rattle.ckc_bounds.specs.Declarations.{first_of, few_of, types_in, declared_in, head_bounds}
-use Rattle.ckc_bounds.specs.Frames.{all_of, first_fresh, fresh_needed, function_frame, locals_frame, nameless}
+use Rattle.ckc_bounds.specs.Declarations.{first_of, few_of, all_made, types_in, declared_in, head_bounds}
+use Rattle.ckc_bounds.specs.Frames.{all_of, first_fresh, fresh_needed, function_frame, types_frame, locals_frame, nameless}
 use Rattle.ckc_bounds.specs.ckc_bounds_statements.specs.Paths.{path}
 use Rattle.ckc_source.specs.Code.{Function}
 use Rattle.ckc_blame_sound.specs.Settings.{Setting, IsFunction, frame_of_text, setting_of}
@@ -64,12 +66,16 @@ append_at (x ∷ xs) ys (suc k) l e = elim (append_at xs ys k l e) [ inl f ↦ i
 
 -- ---- the locals of a frame
 
+-- the locals of a function with their bounds
+abbrev pub locals_made : Frame → NotedHead → NotedStmt → List Local
+locals_made frame h body = all_made (types_frame frame h body) true (all_of h body)
+
 -- a local of a frame is declared, or comes after all that are
 frame_local : (frame : Frame) (h : NotedHead) (body : NotedStmt) (k : ℕ) (l : Local) → local_at (function_frame frame h body) k ≡ Some l
-    → (slice_get (declared_in frame (all_of h body)) k ≡ Some l) ⊎ (length (declared_in frame (all_of h body)) ≤ k)
+    → (slice_get (locals_made frame h body) k ≡ Some l) ⊎ (length (locals_made frame h body) ≤ k)
 unfolding few_of
 frame_local frame h body k l e =
-    let D = declared_in frame (all_of h body) in
+    let D = locals_made frame h body in
     let n = fresh_needed (locals_frame frame h body) (head_bounds frame h) h body (first_fresh h body) in
     let one = first_at 1023 (first_of 1023 D ++ replicate n nameless) k l e in
     elim (append_at (first_of 1023 D) (replicate n nameless) k l one.1) [
@@ -93,15 +99,16 @@ all_moved : (P : Variable → Type 0) (xs ys : List Variable) → IsPermutation 
 all_moved P xs ys m h = all_by (Contains ys) P (λ v c. All-contains P xs v h (Contains-permutation ys xs v (IsPermutation-sym xs ys m) c)) ys (All-contains_itself ys)
 
 -- the variables of a function are those that it declares, in another order
-pub variables_moved : (h : NotedHead) (body : NotedStmt) → IsPermutation (variables_declared (all_of h body)) (variables_of h body)
+pub variables_moved : (h : NotedHead) (body : NotedStmt) → IsPermutation (variables_declared (all_of h body)) (variables_of body.note.mode h body)
 variables_moved h body =
-    subst (λ vs. IsPermutation vs (variables_of h body)) (sym (map-append (λ (d : NotedDecl). variable_declared d) h.params (path body).declared))
-    (IsPermutation-append (variables_declared h.params) (variables_declared h.params) (variables_declared (path body).declared) (locals_of body)
-    (IsPermutation-refl (variables_declared h.params)) (stmt_declares body).is.variables)
+    let params = seen_params body.note.mode h in
+    subst (λ vs. IsPermutation vs (variables_of body.note.mode h body)) (sym (map-append (λ (d : NotedDecl). variable_declared d) params (path body).declared))
+    (IsPermutation-append (variables_declared params) (variables_declared params) (variables_declared (path body).declared) (locals_of body)
+    (IsPermutation-refl (variables_declared params)) (stmt_declares body).is.variables)
 
-pub variables_have : (h : NotedHead) (body : NotedStmt) → AreAllLocals (names_declared (all_of h body)) → All (HasType (types_numbered (all_of h body))) (variables_of h body)
+pub variables_have : (h : NotedHead) (body : NotedStmt) → AreAllLocals (names_declared (all_of h body)) → All (HasType (types_numbered (all_of h body))) (variables_of body.note.mode h body)
 variables_have h body n =
-    all_moved (HasType (types_numbered (all_of h body))) (variables_declared (all_of h body)) (variables_of h body) (variables_moved h body) (declared_have (all_of h body) n (all_of h body) (All-contains_itself (all_of h body)))
+    all_moved (HasType (types_numbered (all_of h body))) (variables_declared (all_of h body)) (variables_of body.note.mode h body) (variables_moved h body) (declared_have (all_of h body) n (all_of h body) (All-contains_itself (all_of h body)))
 
 -- ---- objects
 
@@ -136,13 +143,13 @@ local_named name.Putchar k e = absurd cc
 
 -- the type of a local that is named is that at its number
 pub named_type : (globals : Globals) (h : NotedHead) (body : NotedStmt) (k : ℕ) (t : CType) → AreAllLocals (names_declared (all_of h body)) → All IsStaticNamed globals.objects
-    → type_of_name globals (variables_of h body) (name.Local k) ≡ Some t → slice_get (types_numbered (all_of h body)) k ≡ Some t
-named_type globals h body k t n os e = by (variable_named (variables_of h body) (name.Local k)) refl (object_named globals (name.Local k)) refl e
+    → type_of_name globals (variables_of body.note.mode h body) (name.Local k) ≡ Some t → slice_get (types_numbered (all_of h body)) k ≡ Some t
+named_type globals h body k t n os e = by (variable_named (variables_of body.note.mode h body) (name.Local k)) refl (object_named globals (name.Local k)) refl e
   where
-    by : (v : Option Variable) → variable_named (variables_of h body) (name.Local k) ≡ v → (o : Option Object) → object_named globals (name.Local k) ≡ o → or_variable v o ≡ Some t
+    by : (v : Option Variable) → variable_named (variables_of body.note.mode h body) (name.Local k) ≡ v → (o : Option Object) → object_named globals (name.Local k) ≡ o → or_variable v o ≡ Some t
         → slice_get (types_numbered (all_of h body)) k ≡ Some t
     by (Some v) is o there f =
-        let g = found (HasType (types_numbered (all_of h body))) (λ (x : Variable). same_name x.name (name.Local k)) (variables_of h body) v (variables_have h body n) is in
+        let g = found (HasType (types_numbered (all_of h body))) (λ (x : Variable). same_name x.name (name.Local k)) (variables_of body.note.mode h body) v (variables_have h body n) is in
         g.0 k (local_named v.name k g.1) ∙ f
     by None is (Some o) there f = absurd (no_object globals.objects k o os there)
     by None is None there f = absurd cc
@@ -159,11 +166,11 @@ frame_type : (p : Typed) (h : NotedHead) (body : NotedStmt) (k : ℕ) (l : Local
     → slice_get (types_numbered (all_of h body)) k ≡ Some t → l.ctype ≡ t
 frame_type p h body k l t at types =
     let frame = frame_of_text p in
-    let long : length (types_numbered (all_of h body)) ≡ length (declared_in frame (all_of h body)) =
-    ap length (sym (declared_types frame (all_of h body))) ∙ length-map (declared_in frame (all_of h body)) (λ (x : Local). x.ctype) in
+    let long : length (types_numbered (all_of h body)) ≡ length (locals_made frame h body) =
+    ap length (sym (made_types (types_frame frame h body) true (all_of h body))) ∙ length-map (locals_made frame h body) (λ (x : Local). x.ctype) in
     elim (frame_local frame h body k l at) [
-      | inl f ↦ same (sym (ap (λ ts. slice_get ts k) (declared_types frame (all_of h body))) ∙ slice_get-map (λ (x : Local). x.ctype) (declared_in frame (all_of h body)) k ∙ ap (option_map (λ (x : Local). x.ctype)) f) types
-      | inr f ↦ absurd (past (length (declared_in frame (all_of h body))) f (subst (λ m. k < m) long (slice_get_within (types_numbered (all_of h body)) k t types)))
+      | inl f ↦ same (sym (ap (λ ts. slice_get ts k) (made_types (types_frame frame h body) true (all_of h body))) ∙ slice_get-map (λ (x : Local). x.ctype) (locals_made frame h body) k ∙ ap (option_map (λ (x : Local). x.ctype)) f) types
+      | inr f ↦ absurd (past (length (locals_made frame h body)) f (subst (λ m. k < m) long (slice_get_within (types_numbered (all_of h body)) k t types)))
     ]
   where
     same : {ts : Option CType} → ts ≡ Some l.ctype → ts ≡ Some t → l.ctype ≡ t
@@ -182,7 +189,7 @@ setting_agrees p h body j there = record {
 pub setting_types : (p : Typed) (h : NotedHead) (body : NotedStmt) → IsJudged p → Contains p.tree.items (item.Function h body) → HaveTypes (setting_of p h body).frame (setting_of p h body).variables
 unfolding setting_of
 setting_types p h body j there v k l is named at =
-    frame_type p h body k l v.ctype at (All-contains (HasType (types_numbered (all_of h body))) (variables_of h body) v (variables_have h body (numbered p h body j there)) is k named)
+    frame_type p h body k l v.ctype at (All-contains (HasType (types_numbered (all_of h body))) (variables_of body.note.mode h body) v (variables_have h body (numbered p h body j there)) is k named)
 
 pub frames_agree : (p : Typed) (s : Setting) (f : Function) → IsJudged p → IsFunction p s f → Agrees (globals_in p) s
 frames_agree p s f j is = subst (Agrees (globals_in p)) (sym is.judged) (setting_agrees p is.head is.body j is.there)
@@ -199,19 +206,19 @@ first_keeps (suc m) (x ∷ ls) zero l h e = e
 first_keeps (suc m) (x ∷ ls) (suc k) l h e = first_keeps m ls k l (omega (arith, h)) e
 
 -- there are as many locals as variables
-pub locals_counted : (frame : Frame) (h : NotedHead) (body : NotedStmt) → length (declared_in frame (all_of h body)) ≡ length (variables_of h body)
+pub locals_counted : (frame : Frame) (h : NotedHead) (body : NotedStmt) → length (locals_made frame h body) ≡ length (variables_of body.note.mode h body)
 locals_counted frame h body =
     let ds = all_of h body in
-    made_length (types_in frame ds) true ds
-    ∙ sym (length-map ds (λ (d : NotedDecl). variable_declared d)) ∙ sym (length_permutation (variables_declared ds) (variables_of h body) (variables_moved h body))
+    made_length (types_frame frame h body) true ds
+    ∙ sym (length-map ds (λ (d : NotedDecl). variable_declared d)) ∙ sym (length_permutation (variables_declared ds) (variables_of body.note.mode h body) (variables_moved h body))
 
-frame_has : (frame : Frame) (h : NotedHead) (body : NotedStmt) (k : ℕ) → k < length (variables_of h body) → length (variables_of h body) < 1024
+frame_has : (frame : Frame) (h : NotedHead) (body : NotedStmt) (k : ℕ) → k < length (variables_of body.note.mode h body) → length (variables_of body.note.mode h body) < 1024
     → (l : Local) × (local_at (function_frame frame h body) k ≡ Some l)
 unfolding few_of
 frame_has frame h body k less few =
-    let D = declared_in frame (all_of h body) in
+    let D = locals_made frame h body in
     let n = fresh_needed (locals_frame frame h body) (head_bounds frame h) h body (first_fresh h body) in
-    let long : length D ≡ length (variables_of h body) = locals_counted frame h body in
+    let long : length D ≡ length (variables_of body.note.mode h body) = locals_counted frame h body in
     let l = get_or D k nameless in
     let there : slice_get D k ≡ Some l = slice_get-get_or D k nameless (subst (λ m. k < m) (sym long) less) in
     let below : k < 1023 = omega (arith, less, few) in
@@ -228,8 +235,12 @@ locals_are_there p s f k is less few =
 pub declared_counted : (frame : Frame) (ds : List NotedDecl) → length ds ≡ length (declared_in frame ds)
 declared_counted frame ds = sym (made_length (types_in frame ds) true ds)
 
+-- a head tells as many parameters as are written
+pub params_counted : (frame : Frame) (h : NotedHead) → length h.params ≡ length (head_bounds frame h).params
+params_counted frame h = sym (length-map h.params (seen Checked)) ∙ declared_counted frame (seen_params Checked h)
+
 pub function_counts : (p : Typed) (s : Setting) (f : Function) → IsFunction p s f → (f.locals ≡ length s.variables) × (f.params ≡ length s.head.params)
 unfolding setting_of
 function_counts p s f is =
     let P : Setting → Type 0 = λ z. (f.locals ≡ length z.variables) × (f.params ≡ length z.head.params) in
-    subst P (sym is.judged) (ap (λ (g : Function). g.locals) is.runs, ap (λ (g : Function). g.params) is.runs ∙ declared_counted (frame_of_text p) is.head.params)
+    subst P (sym is.judged) (ap (λ (g : Function). g.locals) is.runs, ap (λ (g : Function). g.params) is.runs ∙ params_counted (frame_of_text p) is.head)

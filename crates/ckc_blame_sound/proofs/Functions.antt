@@ -5,12 +5,16 @@ use Rattle.std.specs.List.{Contains, flat_map}
 use Rattle.std.proofs.lemmas.List.{map-append}
 use Rattle.std.proofs.lemmas.List.Elements.{All-nil, All-cons, All-head, All-tail, All-contains}
 use Rattle.std.proofs.lemmas.List.Sorted.{IsPermutation-refl}
+use Rattle.ckc_base.specs.declared.arithmetic.Mode.{Mode}
+use Rattle.ckc_base.specs.declared.arithmetic.Mode.TheVariants.{Checked}
 use Rattle.ckc_syntax.specs.declared.tree.Name.{Name}
 use Rattle.ckc_syntax.specs.declared.tree.Name.TheVariants as name
 use Rattle.ckc_syntax.specs.declared.tree.Item.TheVariants as item
 use Rattle.ckc_typed_fit.specs.Numbers.{CountsFrom}
 use Rattle.ckc_typed.specs.declared.typed.Typed.{Typed}
 use Rattle.ckc_typed.specs.Trees.{NotedDecl, NotedHead, NotedStmt, NotedItem, Tree, Item}
+use Rattle.ckc_typed.specs.Interfaces.{seen_params}
+use Rattle.ckc_typed.proofs.Seen.{names_seen}
 use Rattle.ckc_typed_welltyped.specs.Noteless.{bare_decl, bare_item, without_notes}
 use Rattle.ckc_bounds.specs.Frames.{all_of}
 use Rattle.ckc_bounds.specs.ckc_bounds_statements.specs.Paths.{path}
@@ -34,8 +38,8 @@ params_same (d ∷ ds) = ap (λ ns. d.name ∷ ns) (params_same ds)
 -- the names of the locals of a function
 function_names : (h : NotedHead) (body : NotedStmt) → item_names (bare_item (item.Function h body)) ≡ names_declared (all_of h body)
 function_names h body =
-    two (λ xs ys. xs ++ ys) (params_same h.params) (sym (stmt_declares body).is.names)
-    ∙ sym (map-append (λ (d : NotedDecl). d.name) h.params (path body).declared)
+    two (λ xs ys. xs ++ ys) (params_same h.params ∙ sym (names_seen body.note.mode h)) (sym (stmt_declares body).is.names)
+    ∙ sym (map-append (λ (d : NotedDecl). d.name) (seen_params body.note.mode h) (path body).declared)
 
 -- what is so of all that is made from some is so of each, made
 pub all_made : {A B : Type 0} (P : B → Type 0) (f : A → B) (xs : List A) → All P (map f xs) → All (λ x. P (f x)) xs
@@ -64,8 +68,10 @@ params_numbered p h body j there =
 all_locals : (ns : List Name) → AreLocals 0 ns → AreAllLocals ns
 all_locals ns h = let r = counting_numbers 0 ns h in (r.0, r.1, (r.0, r.2, IsPermutation-refl r.0))
 
-pub params_own : (p : Typed) (h : NotedHead) (body : NotedStmt) → IsJudged p → Contains p.tree.items (item.Function h body) → AreAllLocals (names_declared h.params)
-params_own p h body j there = all_locals (names_declared h.params) (params_numbered p h body j there)
+-- what code of a mode sees of parameters has their numbers
+pub params_own : (p : Typed) (h : NotedHead) (body : NotedStmt) → IsJudged p → Contains p.tree.items (item.Function h body) → (mode : Mode) → AreAllLocals (names_declared (seen_params mode h))
+params_own p h body j there mode =
+    all_locals (names_declared (seen_params mode h)) (subst (AreLocals 0) (sym (names_seen mode h)) (params_numbered p h body j there))
 
 -- each local has a number of its own
 pub numbered : (p : Typed) (h : NotedHead) (body : NotedStmt) → IsJudged p → Contains p.tree.items (item.Function h body) → AreAllLocals (names_declared (all_of h body))
@@ -73,3 +79,10 @@ numbered p h body j there =
     let bare = bare_item (item.Function h body) in
     let r : AllNamed (declared_in bare) = item_is p j (λ i. AllNamed (declared_in i)) (locals_named j.spelled j.named j.has_names) (item.Function h body) there in
     (r.0, sym (function_names h body) ∙ names_declared_in bare ∙ r.1, r.2)
+
+-- the same of the locals whose types bounds are judged by
+pub types_numbered_so : (p : Typed) (h : NotedHead) (body : NotedStmt) → IsJudged p → Contains p.tree.items (item.Function h body) → AreAllLocals (names_declared (seen_params Checked h ++ (path body).declared))
+types_numbered_so p h body j there =
+    let names : (mode : Mode) → names_declared (seen_params mode h ++ (path body).declared) ≡ names_declared h.params ++ names_declared (path body).declared =
+    λ mode. map-append (λ (d : NotedDecl). d.name) (seen_params mode h) (path body).declared ∙ ap (λ ns. ns ++ names_declared (path body).declared) (names_seen mode h) in
+    subst AreAllLocals (names body.note.mode ∙ sym (names Checked)) (numbered p h body j there)

@@ -17,12 +17,13 @@ use Rattle.ckc_syntax.specs.declared.tree.Node.{Node-F, map-Node, out-Node, roll
 use Rattle.ckc_syntax.specs.declared.tree.Node.TheVariants as node
 use Rattle.ckc_syntax.specs.declared.tree.Expr.{Expr-F, map-Expr, ind-Expr, roll-Expr, fold-roll-Expr, every_here-Expr, every_held-Expr, every_made-Expr}
 use Rattle.ckc_typed.specs.declared.environment.Globals.{Globals}
+use Rattle.ckc_typed.specs.declared.environment.Parameter.{Parameter}
 use Rattle.ckc_typed.specs.declared.typed.Note.{Note}
 use Rattle.ckc_typed.specs.declared.typed.Range.{Range}
 use Rattle.ckc_typed.specs.declared.typed.Range.TheVariants as range
-use Rattle.ckc_typed.specs.Conversions.{is_null, is_null_form, is_string, is_string_form, is_allocation, is_allocation_form, kind_converts, kind_is_tested, kinds_allow, is_terminated_kind, takes_string, takes_allocation, takes_pointer, pointer_takes, converts, is_tested, is_trusted, is_bounds_cast, limits_fit_kind}
-use Rattle.ckc_typed.specs.Expressions.{address_kind, has_address, is_object, is_object_form, is_placed, is_placed_form}
-use Rattle.ckc_typed.specs.Operands.{unary_type, binary_type, choice_type, index_type, dot_type, arrow_type, is_cast, same_element}
+use Rattle.ckc_typed.specs.Conversions.{is_null, is_unchecked_pointer, is_null_form, is_string, is_string_form, is_allocation, is_allocation_form, kind_converts, kind_is_tested, kinds_allow, is_terminated_kind, takes_string, takes_allocation, takes_pointer, pointer_takes, converts, is_tested, is_trusted, is_bounds_cast, limits_fit_kind}
+use Rattle.ckc_typed.specs.Expressions.{is_checked_mode, takes, address_kind, has_address, is_object, is_object_form, is_placed, is_placed_form}
+use Rattle.ckc_typed.specs.Operands.{unary_type, binary_type, choice_type, index_type, dot_type, arrow_type, is_cast, same_element, is_raw_kind}
 use Rattle.ckc_typed.specs.Trees.{NotedLimits, NotedNode, NotedExpr, NotedLayer}
 use Rattle.ckc_typed.specs.Types.{type_written, is_integer, is_pointer, is_char, is_object_type, kind_of, element_of}
 use Rattle.ckc_typed_welltyped.specs.Expressions.{AnyLimits, AnyNode, HasType, unary_row, AreArguments, IsAllocation}
@@ -124,6 +125,11 @@ module _ (e f : NotedExpr) (a : IsAlike e f) where
   converts_same t =
       ap (λ u. (is_integer t && is_integer u) || (is_pointer t && pointer_takes kind_converts t f)) a.ctype
       ∙ ap (λ b. (is_integer t && is_integer e.note.ctype) || (is_pointer t && b)) (pointer_taken kind_converts t)
+
+  takes_same : (mode : Mode) (p : Parameter) → takes mode p f ≡ takes mode p e
+  takes_same mode p =
+      ap (λ b. b && not (p.is_interface && (is_checked_mode mode && is_unchecked_pointer f))) (converts_same p.ctype)
+      ∙ ap (λ u. converts p.ctype e && not (p.is_interface && (is_checked_mode mode && is_raw_kind (kind_of u)))) a.ctype
 
   tested_same : (t : CType) → is_tested t f ≡ is_tested t e
   tested_same t = ap (λ b. is_pointer t && b) (pointer_taken kind_is_tested t)
@@ -332,20 +338,20 @@ module _ (globals : Globals) (s : Setting) where
   arguments_fit (k ∷ ks) [] g = absurd g
   arguments_fit (k ∷ ks) (e ∷ es) g = let r = arguments_fit ks es g.1 in ((e, g.0.typed) ∷ r.0, ap (λ xs. e ∷ xs) r.1)
 
-  arguments_same : (ts : List CType) (ks : List KeptExpr) (es : List NotedExpr) → AllGood ks es → AreArguments ts (firsts ks) → AreArguments ts es
-  arguments_same [] [] [] g h = tt
-  arguments_same [] [] (e ∷ es) g h = absurd g
-  arguments_same [] (k ∷ ks) es g h = absurd h
-  arguments_same (t ∷ ts) [] es g h = absurd h
-  arguments_same (t ∷ ts) (k ∷ ks) [] g h = absurd g
-  arguments_same (t ∷ ts) (k ∷ ks) (e ∷ es) g h = (converts_same k.0 e g.0.alike t ∙ h.0, arguments_same ts ks es g.1 h.1)
+  arguments_same : (mode : Mode) (ps : List Parameter) (ks : List KeptExpr) (es : List NotedExpr) → AllGood ks es → AreArguments mode ps (firsts ks) → AreArguments mode ps es
+  arguments_same mode [] [] [] g h = tt
+  arguments_same mode [] [] (e ∷ es) g h = absurd g
+  arguments_same mode [] (k ∷ ks) es g h = absurd h
+  arguments_same mode (p ∷ ps) [] es g h = absurd h
+  arguments_same mode (p ∷ ps) (k ∷ ks) [] g h = absurd g
+  arguments_same mode (p ∷ ps) (k ∷ ks) (e ∷ es) g h = (takes_same k.0 e g.0.alike mode p ∙ h.0, arguments_same mode ps ks es g.1 h.1)
 
   call_step : (n : Name) (ks : List KeptExpr) (es : List NotedExpr) → AllGood ks es → IsGoodNode (Node-F.Call n (firsts ks)) (node.Call n es)
   call_step n ks es g =
       let r = arguments_fit ks es g in
       subst (λ xs. IsGoodNode (Node-F.Call n (firsts ks)) (node.Call n xs)) r.1
       (made (Node-F.Call n (firsts ks)) (Node-F.Call n r.0) refl
-      (λ mode t h. (h.0, h.1, subst (AreArguments h.0.params) (sym r.1) (arguments_same h.0.params ks es g h.2), h.3)) (λ h. h))
+      (λ mode t h. (h.0, h.1, subst (AreArguments mode h.0.params) (sym r.1) (arguments_same mode h.0.params ks es g h.2), h.3)) (λ h. h))
 
   allocation_same' : (t u r : CType) (e f : NotedExpr) → IsAlike e f → IsAllocation t e u r → IsAllocation t f u r
   allocation_same' t u r e f a h = record { object = h.object; same = h.same; counted = ap is_integer a.ctype ∙ h.counted; pointer = h.pointer }

@@ -60,6 +60,7 @@ pub mod Accesses
 pub mod Bounds
 pub mod Slots
 pub mod Literals
+pub mod Notes
 pub mod Bodies
 pub mod Parameters
 pub mod Tests

@@ -1,15 +1,17 @@
 -- What replaces a parameter in bounds at a call is what its argument stands for.
-use Rattle.std.proofs.Common.{◌≡◌, ℕ, zero, suc, ◌+◌, ◌==◌, ◌<◌, ◌≤◌, refl, sym, ◌∙◌, ap, subst, List, [], ◌∷◌, ◌++◌, length, arith}
-use Rattle.std.specs.Prelude.{Bool, true, false, pos, if◌then◌else◌, slice_get, slice_index, Option, None, Some}
+use Rattle.std.proofs.Common.{◌≡◌, inl, inr, ℕ, zero, suc, ◌+◌, ◌==◌, ◌<◌, ◌≤◌, refl, sym, ◌∙◌, ap, subst, List, [], ◌∷◌, ◌++◌, length, arith}
+use Rattle.std.specs.Prelude.{◌⊎◌, Bool, true, false, ◌||◌, pos, if◌then◌else◌, slice_get, slice_index, Option, None, Some}
 use Rattle.std.proofs.lemmas.Bool.{eq-eqb, eqb-true}
 use Rattle.std.proofs.lemmas.Bool.Decides.{nat_tests}
 use Rattle.ckc_base.specs.declared.places.Refusal.{Refusal}
-use Rattle.ckc_types.specs.declared.types.CType.{CType, CType-F, out-CType}
+use Rattle.ckc_types.specs.declared.types.CType.{CType}
 use Rattle.ckc_types.specs.declared.types.Structs.{Structs}
 use Rattle.ckc_linear.specs.declared.forms.Base.{Base}
 use Rattle.ckc_linear.specs.declared.forms.Base.TheVariants as base
 use Rattle.ckc_linear.specs.declared.forms.Form.{Form}
-use Rattle.ckc_typed.specs.Types.{is_integer, is_pointer, is_integer_form, is_pointer_form}
+use Rattle.ckc_typed.specs.Constants.{size_of}
+use Rattle.ckc_typed.specs.Types.{is_integer, is_pointer}
+use Rattle.ckc_bounds.specs.ckc_bounds_points.specs.declared.frame.HeadBounds.{HeadBounds}
 use Rattle.ckc_bounds.specs.ckc_bounds_points.specs.declared.frame.Local.{Local}
 use Rattle.ckc_bounds.specs.ckc_bounds_points.specs.Shown.{Known}
 use Rattle.ckc_bounds.specs.ckc_bounds_points.specs.Flow.{State}
@@ -20,7 +22,7 @@ use Rattle.ckc_bounds.specs.ckc_bounds_ranges.specs.declared.replacements.Variab
 use Rattle.ckc_bounds.specs.ckc_bounds_ranges.specs.Replaced.{place_for, variable_replaced}
 use Rattle.ckc_bounds.specs.ckc_bounds_views.specs.Parts.{View, capped, fresh_behind, with_first}
 use Rattle.ckc_bounds.specs.ckc_bounds_views.specs.Arguments.{base_by, bases_by, variable_by, variables_by}
-use Rattle.ckc_bounds.specs.ckc_bounds_views.specs.Judged.{facts_for, contained_in, is_argument, arguments_fault}
+use Rattle.ckc_bounds.specs.ckc_bounds_views.specs.Judged.{facts_for, contained_in, is_owed, is_argument, arguments_fault}
 use Rattle.ckc_source.specs.Eval.{Store}
 use Rattle.ckc_source.specs.Words.{exact}
 use Rattle.ckc_build_values.specs.Kinds.{integer_of, size_behind}
@@ -29,18 +31,30 @@ use Rattle.ckc_blame_sound.specs.Values.{number_of}
 use Rattle.ckc_blame_sound.specs.Valuations.{Valuation, form_address}
 use Rattle.ckc_blame_sound.specs.Arguments.{IsArgumentIf, AreArguments}
 use Rattle.ckc_blame_sound.specs.GivenValues.{memory_of}
-use Rattle.ckc_blame_sound.specs.Passed.{IsNewArgument, IsNewArgumentIf, AreNewArguments}
+use Rattle.ckc_blame_sound.specs.Passed.{IsNewArgument, IsNewArgumentIf, AreNewArguments, IsUnjudged}
+use Rattle.ckc_blame_sound.proofs.Tests.{either}
+use Rattle.ckc_blame_sound.proofs.Types.{no_pointer}
 
-no_pointer : (t : CType) → is_integer t ≡ true → is_pointer t ≡ false
-no_pointer t e = by (out-CType t) e
-  where
-    by : (f : CType-F CType) → is_integer_form f ≡ true → is_pointer_form f ≡ false
-    by CType-F.Int e = refl
-    by CType-F.Unsigned e = refl
-    by CType-F.Char e = refl
-    by CType-F.Void e = refl
-    by (CType-F.Struct tag) e = refl
-    by (CType-F.Pointer k t) e = absurd cc
+-- ---- a parameter as the body has it
+
+module _ (structs : Structs) (p l : Local) (either_so : (l ≡ p) ⊎ IsUnjudged p l) where
+  pub pointer_passed : is_pointer l.ctype ≡ true → (is_pointer p.ctype ≡ true) × (size_behind structs p.ctype ≡ size_behind structs l.ctype)
+  pointer_passed e = elim either_so [
+    | inl is ↦ (ap (λ (x : Local). is_pointer x.ctype) (sym is) ∙ e, ap (λ (x : Local). size_behind structs x.ctype) (sym is))
+    | inr u ↦ (u.passed, ap (size_of structs) (sym u.element))
+  ]
+
+  no_integer : (t : CType) → is_integer t ≡ true → is_pointer t ≡ true → ⊥
+  no_integer t i e = let f = no_pointer t i in cc
+
+  -- what is an integer in the body is the parameter, and the other way round
+  pub integer_in_body : is_integer l.ctype ≡ true → l ≡ p
+  integer_in_body i = elim either_so [ inl is ↦ is | inr u ↦ absurd (no_integer l.ctype i u.seen) ]
+
+  pub integer_in_head : is_integer p.ctype ≡ true → l ≡ p
+  integer_in_head i = elim either_so [ inl is ↦ is | inr u ↦ absurd (no_integer p.ctype i u.passed) ]
+
+-- ---- lists of arguments
 
 next_is : (k : ℕ) → k < 1024 → capped k 1 ≡ k + 1
 next_is k h = omega arith
@@ -146,7 +160,16 @@ module _ (structs : Structs) (v : Valuation) (facts : Known) (params : List Loca
 
 -- ---- the judgement of one argument
 
-module _ (s : Setting) (store : Store) (v : Valuation) (params : List Local) (entry : List ℕ) (at : State) (bases : Known → List BaseBy) (variables : Known → List VariableBy) where
+-- The argument at one place goes to the parameter at another one as the unchecked pointer that it is.
+pub record IsOwed (h : HeadBounds) (es : List View) (i j : ℕ) : Type 0 where
+  pub argument : View
+  pub there : slice_get es i ≡ Some argument
+  pub owed : is_owed (slice_get h.interfaces j) argument ≡ true
+
+owed_later : (h : HeadBounds) (a : View) (es : List View) (i j : ℕ) → IsOwed h es i j → IsOwed h (a ∷ es) (suc i) j
+owed_later h a es i j o = record { argument = o.argument; there = o.there; owed = o.owed }
+
+module _ (s : Setting) (store : Store) (v : Valuation) (h : HeadBounds) (entry : List ℕ) (at : State) (bases : Known → List BaseBy) (variables : Known → List VariableBy) where
   -- the argument of a parameter: it is contained, and what is known of it
   pub record IsContained (j : ℕ) (p : Local) : Type 0 where
     pub argument : View
@@ -160,24 +183,36 @@ module _ (s : Setting) (store : Store) (v : Valuation) (params : List Local) (en
   no_fault true rest r e = (refl, e)
   no_fault false rest r e = absurd cc
 
-  pub argument_contained : (es : List View) (k first fresh i j : ℕ) → k + length es ≤ 1024 → AreNewArguments s store v params entry at k first fresh es → j ≡ k + i → i < length es
-      → (p : Local) → slice_get params j ≡ Some p → arguments_fault bases variables params k es first fresh at ≡ None → IsContained j p
+  -- what the first argument is judged by, and what those behind it are
+  abbrev Passes : ℕ → View → ℕ → ℕ → Bool
+  Passes k a first fresh = is_owed (slice_get h.interfaces k) a || is_argument (slice_get h.params k) a first fresh at bases variables
+
+  abbrev Behind : ℕ → View → List View → ℕ → ℕ → Option Refusal
+  Behind k a es first fresh = arguments_fault bases variables h (capped k 1) es (capped first a.values) (fresh_behind a fresh at) at
+
+  -- an argument that is judged is contained
+  pub argument_contained : (es : List View) (k first fresh i j : ℕ) → k + length es ≤ 1024 → AreNewArguments s store v h.params entry at k first fresh es → j ≡ k + i → i < length es
+      → (p : Local) → slice_get h.params j ≡ Some p → arguments_fault bases variables h k es first fresh at ≡ None → IsOwed h es i j ⊎ IsContained j p
   argument_contained [] k first fresh i j few are is within p there e = absurd (omega arith)
   argument_contained (a ∷ es) k first fresh zero j few are is within p there e =
       let same : k ≡ j = omega arith in
-      let at_k : slice_get params k ≡ Some p = ap (slice_get params) same ∙ there in
-      let f = no_fault (is_argument (slice_get params k) a first fresh at bases variables) (arguments_fault bases variables params (capped k 1) es (capped first a.values) (fresh_behind a fresh at) at)
-      (record { code = not_contained; pos = a.pos }) e in
-      record {
-        argument = a;
-        first = first;
-        fresh = fresh;
-        contained = sym (ap (λ o. is_argument o a first fresh at bases variables) at_k) ∙ f.0;
-        new = subst (λ j. IsNewArgument (memory_of s store p.ctype) v a first fresh at (slice_index entry j)) same
-            (subst (λ o. IsNewArgumentIf s store v o a first fresh at (slice_index entry k)) at_k are.0);
-      }
+      let at_k : slice_get h.params k ≡ Some p = ap (slice_get h.params) same ∙ there in
+      let f = no_fault (Passes k a first fresh) (Behind k a es first fresh) (record { code = not_contained; pos = a.pos }) e in
+      elim (either (is_owed (slice_get h.interfaces k) a) (is_argument (slice_get h.params k) a first fresh at bases variables) f.0) [
+        | inl o ↦ inl (record { argument = a; there = refl; owed = ap (λ j. is_owed (slice_get h.interfaces j) a) (sym same) ∙ o })
+        | inr c ↦ inr (record {
+            argument = a;
+            first = first;
+            fresh = fresh;
+            contained = sym (ap (λ o. is_argument o a first fresh at bases variables) at_k) ∙ c;
+            new = subst (λ j. IsNewArgument (memory_of s store p.ctype) v a first fresh at (slice_index entry j)) same
+                (subst (λ o. IsNewArgumentIf s store v o a first fresh at (slice_index entry k)) at_k are.0);
+          })
+      ]
   argument_contained (a ∷ es) k first fresh (suc i) j few are is within p there e =
       let next : capped k 1 ≡ k + 1 = next_is k (omega arith) in
-      let f = no_fault (is_argument (slice_get params k) a first fresh at bases variables) (arguments_fault bases variables params (capped k 1) es (capped first a.values) (fresh_behind a fresh at) at)
-      (record { code = not_contained; pos = a.pos }) e in
-      argument_contained es (capped k 1) (capped first a.values) (fresh_behind a fresh at) i j (omega arith) are.1 (omega arith) (omega arith) p there f.1
+      let f = no_fault (Passes k a first fresh) (Behind k a es first fresh) (record { code = not_contained; pos = a.pos }) e in
+      elim (argument_contained es (capped k 1) (capped first a.values) (fresh_behind a fresh at) i j (omega arith) are.1 (omega arith) (omega arith) p there f.1) [
+        | inl o ↦ inl (owed_later h a es i j o)
+        | inr c ↦ inr c
+      ]

@@ -24,6 +24,7 @@ use Rattle.ckc_blame_sound.specs.Cells.{IsPart, IsPartIn, IsCell, IsMemberRun, A
 use Rattle.ckc_blame_sound.proofs.Same.{same_equal}
 use Rattle.ckc_blame_sound.proofs.Parts.{HasSize, sized_form, scalar_member}
 use Rattle.ckc_blame_sound.proofs.Places.{elements_between, fewer, element_between}
+use Rattle.ckc_blame_sound.proofs.Tests.{either}
 
 -- ---- tests
 
@@ -60,10 +61,6 @@ within begin end size n low high e =
       high_even = eqb-true (high % size) (begin % size) b.1;
       even = eqb-true (n % size) (begin % size) a.1;
     }
-
-either : (a b : Bool) → (a || b) ≡ true → (a ≡ true) ⊎ (b ≡ true)
-either true b h = inl refl
-either false b h = inr h
 
 pub some_below : (k : ℕ) (test : ℕ → Bool) → any_below k test ≡ true → (i : ℕ) × (i < k) × (test i ≡ true)
 unfolding any_below

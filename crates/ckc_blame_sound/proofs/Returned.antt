@@ -46,7 +46,7 @@ use Rattle.ckc_blame_sound.proofs.New.{new_judged}
 use Rattle.ckc_blame_sound.proofs.Assigned.{base_address_is, some_equal}
 use Rattle.ckc_blame_sound.proofs.Own.{own_replaced, variable_stays}
 use Rattle.ckc_blame_sound.proofs.Passed.{base_over}
-use Rattle.ckc_blame_sound.proofs.Called.{base_by, variable_by}
+use Rattle.ckc_blame_sound.proofs.Called.{base_by, variable_by, number_in}
 
 -- ---- where the call ends
 
@@ -102,7 +102,7 @@ module _ (s c : Setting) (locals entry : List ℕ) (m : Memory) (v w : Valuation
   array k = will.array k ∙ ap (λ t. pos (address_of t k)) text ∙ sym (are.array k)
 
   number : (j : ℕ) (p : Local) → slice_get h.params j ≡ Some p → is_integer p.ctype ≡ true → w.number (suc j) ≡ exact (integer_of p.ctype) (slice_index entry j)
-  number j p there i = will.number j p (parameters.there j p there) i
+  number j p there i = number_in c h.params parameters entry w will j p there i
 
   base_there : (b : Option Base) → IsResultBase c m.to.size b → ((j : ℕ) → names_local j b ≡ true → j < length h.params) → (g : Form)
       → base_replaced (bases_by h.params 0 first facts es ++ own_by own ∷ []) b ≡ Some g → form_address v m.to.size g ≡ w.address b

@@ -24,7 +24,7 @@ use Rattle.ckc_source.specs.Code.{Code, End, Assign, Bundle, Get, Put, Call, If,
 use Rattle.ckc_source.specs.Eval.{given, evaluated, all_evaluated}
 use Rattle.ckc_source.specs.Source.{first_unchecked, by_mode, on_next}
 use Rattle.ckc_source.specs.States.{Work, Rest, Turn, Frame, Caller, State, Leaving, Ended, Broken, Continued, begun, stepped, turned, behind, resumed, settled, entered, active}
-use Rattle.ckc_source.specs.Steps.{store_of, aimed, allowed, writes, all_written, Write, Drawn, allocated, drawn, Planned, and_then_written, planned, bundled, halts, comes_to, and_moves, at_work, writes_allowed, with_blocks, gets, puts, enters, calls, kept_place, reads_result, hands, returns, acts, works, source_step, spot_in, spot_at, spot_of}
+use Rattle.ckc_source.specs.Steps.{store_of, aimed, allowed, writes, all_written, Write, Drawn, allocated, drawn, Planned, and_then_written, planned, bundled, halts, comes_to, and_moves, at_work, writes_allowed, with_blocks, gets, puts, in_call, reads_interfaces, enters, calls, kept_place, reads_result, hands, returns, acts, works, source_step, spot_in, spot_at, spot_of}
 use Rattle.ckc_blame.specs.Checked.{is_checked}
 use Rattle.ckc_blame_sound.proofs.Codes.{AreChecked}
 
@@ -257,20 +257,23 @@ gets_good s to [] g = comes_good (Got None ∷ []) (writes_allowed to 4294967295
 gets_good s to (b ∷ rest) g =
     comes_good (Got (Some b) ∷ []) (writes_allowed to b (record s { input = rest })) (written_good to b (record s { input = rest }) (record { frame = g.frame; callers = g.callers }))
 
-enters_good : (fs : List Function) (s : State) (target : Option Kept) (values : List ℕ) (k : ℕ) (f : Option Function) → slice_get fs k ≡ f → AreAll fs → IsGood s → IsMove (enters s target values f)
+enters_good : (p : Program) (s : State) (target : Option Kept) (values : List ℕ) (k : ℕ) (f : Option Function) → slice_get p.functions k ≡ f → AreAll p.functions → IsGood s
+    → IsMove (enters p.shapes s target values f)
 unfolding IsWork AreFrames
-enters_good fs s target values k (Some f) is all g =
+enters_good p s target values k (Some f) is all g =
     let c : IsChecked f = all.each k f is in
-    record { frame = record { end = c.end; work = (c.body, tt) }; callers = (g.frame, g.callers) }
-enters_good fs s target values k None is all g = tt
+    moves_good (reads_interfaces (store_of p.shapes (in_call s target values f)) f.interfaces) (λ u. Goes [] (in_call s target values f))
+    (λ u. record { frame = record { end = c.end; work = (c.body, tt) }; callers = (g.frame, g.callers) })
+enters_good p s target values k None is all g = tt
 
 chosen_move : (b : Bool) (x y : Move Event State) → IsMove x → IsMove y → IsMove (if b then x else y)
 chosen_move true x y g h = g
 chosen_move false x y g h = h
 
-calls_good : (fs : List Function) (s : State) (target : Option Kept) (callee : ℕ) (at : Pos) (values : List ℕ) → AreAll fs → IsGood s → IsMove (calls fs s target callee at values)
-calls_good fs s target callee at values all g =
-    chosen_move (has_room (active s)) (enters s target values (slice_get fs callee)) (Halts [] (standing.Stopped check.Depth at)) (enters_good fs s target values callee (slice_get fs callee) refl all g) tt
+calls_good : (p : Program) (s : State) (target : Option Kept) (callee : ℕ) (at : Pos) (values : List ℕ) → AreAll p.functions → IsGood s → IsMove (calls p s target callee at values)
+calls_good p s target callee at values all g =
+    chosen_move (has_room (active s)) (enters p.shapes s target values (slice_get p.functions callee)) (Halts [] (standing.Stopped check.Depth at))
+    (enters_good p s target values callee (slice_get p.functions callee) refl all g) tt
 
 hands_good : (shapes : List Shape) (s : State) (limits : Option Limits) (entry : List ℕ) (target : Option Kept) (n : ℕ) → IsGood s → IsResult (hands shapes s limits entry target n)
 hands_good shapes s limits entry None n g = g
@@ -321,7 +324,7 @@ acts_good p s work (Put spot target e rest) all g a w =
     (written_good to (v.number % 256) t (at_good s (Rest rest ∷ work) g (a.1, w)))))
 acts_good p s work (Call spot target callee es rest) all g a w =
     let t : State = at_work s (Rest rest ∷ work) in
-    moves_good (all_evaluated (store_of p.shapes s) es) (calls p.functions t target callee spot.at)
+    moves_good (all_evaluated (store_of p.shapes s) es) (calls p t target callee spot.at)
     (λ values. calls_good p.functions t target callee spot.at values all (at_good s (Rest rest ∷ work) g (a.1, w)))
 acts_good p s work (If spot e one two rest) all g a w =
     moves_good (evaluated (store_of p.shapes s) e) (λ v. Goes [] (at_work s (Rest (if v.number == 0 then two else one) ∷ Rest rest ∷ work)))

@@ -39,7 +39,7 @@ listed_get (g ∷ fs) (suc k) f a e = listed_get fs k f a.1 e
 
 function_checked : (p : Typed) (k : ℕ) (h : NotedHead) (body : NotedStmt) → checked_stmt body ≡ true → IsChecked (function_elaborated p k h body)
 function_checked p k h body c =
-    record { end = mode_checked body c; body = body_checked p (variables_of h body) (type_written h.result) (k + literals_of_head h) body c }
+    record { end = mode_checked body c; body = body_checked p (variables_of body.note.mode h body) (type_written h.result) (k + literals_of_head h) body c }
 
 items_checked : (p : Typed) (k : ℕ) (items : List NotedItem) → inside_each all_have checked_item items ≡ true → AreListed (numbered (functions_in p) literals_of_item k items)
 unfolding AreListed

@@ -27,7 +27,7 @@ ghost use Rattle.ckc_bounds.specs.ckc_bounds_ranges.specs.Members.{is_covered, i
 ghost use Rattle.ckc_bounds.specs.ckc_bounds_ranges.specs.Replaced.{replaced};
 ghost use Rattle.ckc_bounds.specs.ckc_bounds_views.specs.declared.variables.Member.{Member};
 ghost use Rattle.ckc_bounds.specs.ckc_bounds_views.specs.Views.{view};
-ghost use Rattle.ckc_bounds.specs.ckc_bounds_views.specs.Judged.{extended_by, head_fault};
+ghost use Rattle.ckc_bounds.specs.ckc_bounds_views.specs.Judged.{extended_by, head_fault, is_owed};
 ghost use Rattle.ckc_bounds.specs.ckc_bounds_views.specs.Parts.{View};
 ghost use Rattle.ckc_bounds.specs.ckc_bounds_views.specs.Ranges.{range_of_result};
 ghost use Rattle.ckc_bounds.specs.ckc_bounds_stores.specs.Values.{Value, holds};

@@ -158,5 +158,5 @@ pub fn bodies_are_typed()
         → IsBodyJudged (globals_in p) j.typed h body }
     ensures known { (globals : Globals) (typed : Typed) (h : NotedHead) (body : NotedStmt)
         (b : IsBodyJudged globals typed h body) (d : NotedDecl) →
-        Contains (path b.before).declared d → Contains (variables_of h body) (variable_declared d) }
+        Contains (path b.before).declared d → Contains (variables_of body.note.mode h body) (variable_declared d) }
 {}

@@ -3,15 +3,20 @@ use Rattle.std.proofs.Common.{◌≡◌, ◌∙◌, sym, ap, refl, arith, ℕ, s
 use Rattle.std.specs.Prelude.{if◌then◌else◌, Option, Some, slice_get}
 use Rattle.std.specs.List.{Contains, find, flat_map}
 use Rattle.std.proofs.lemmas.Bool.{eqb-true}
+use Rattle.ckc_base.specs.declared.arithmetic.Mode.TheVariants.{Checked}
+use Rattle.ckc_types.specs.declared.types.CType.{CType}
 use Rattle.ckc_syntax.specs.declared.tree.Name.{Name}
 use Rattle.ckc_syntax.specs.declared.tree.Name.TheVariants as name
 use Rattle.ckc_syntax.specs.declared.tree.Item.TheVariants as item
+use Rattle.ckc_typed.specs.declared.environment.Parameter.{Parameter}
 use Rattle.ckc_typed.specs.declared.environment.Signature.{Signature}
 use Rattle.ckc_typed.specs.declared.typed.Typed.{Typed}
-use Rattle.ckc_typed.specs.Environment.{same_name, signature_declared, signatures_of_item, type_declared}
-use Rattle.ckc_typed.specs.Trees.{NotedDecl, NotedHead, NotedItem, NotedStmt}
+use Rattle.ckc_typed.specs.Environment.{same_name, parameter_declared, signature_declared, signatures_of_item, type_declared}
+use Rattle.ckc_typed.specs.Interfaces.{is_interface, seen}
+use Rattle.ckc_typed.specs.Trees.{Decl, NotedDecl, NotedHead, NotedItem, NotedStmt}
 use Rattle.ckc_typed.specs.Types.{type_written}
 use Rattle.ckc_typed_welltyped.specs.Noteless.{bare_decl, bare_head, bare_item}
+use Rattle.ckc_typed_welltyped.proofs.Seen.{seen_bare, is_interface_bare}
 use Rattle.ckc_source.specs.Code.{Function}
 use Rattle.ckc_build_elaborate.specs.Functions.{function_elaborated, functions_in, literals_of_item}
 use Rattle.ckc_build_elaborate.specs.Lists.{numbered}
@@ -105,9 +110,17 @@ module _ (p : Typed) (k : ℕ) (t : Signature) where
   found c (item.Static d ∷ rest) e = passed c (item.Static d) rest refl refl refl (found (c + literals_of_item (item.Static d)) rest e)
   found c (item.Proto g ∷ rest) e = passed c (item.Proto g) rest refl refl refl (found (c + literals_of_item (item.Proto g)) rest e)
 
-types_bare : (ds : List NotedDecl) → map type_declared (map bare_decl ds) ≡ map (λ (d : NotedDecl). type_written d.ctype) ds
-types_bare [] = refl
-types_bare (d ∷ ds) = ap (λ ts. type_written d.ctype ∷ ts) (types_bare ds)
+abbrev parameter : CType → Bool → Parameter
+parameter t b = record { ctype = t; is_interface = b }
+
+parameter_bare : (d : NotedDecl) → parameter_declared (bare_decl d) ≡ parameter_declared d
+parameter_bare d =
+    ap (λ (x : Decl). parameter (type_declared x) (is_interface (bare_decl d))) (seen_bare Checked d)
+    ∙ ap (parameter (type_declared (seen Checked d))) (is_interface_bare d)
+
+params_bare : (ds : List NotedDecl) → map parameter_declared (map bare_decl ds) ≡ map parameter_declared ds
+params_bare [] = refl
+params_bare (d ∷ ds) = ap (λ p. p ∷ map parameter_declared (map bare_decl ds)) (parameter_bare d) ∙ ap (λ ps. parameter_declared d ∷ ps) (params_bare ds)
 
 result_is : (p : Typed) (h : NotedHead) (body : NotedStmt) → (setting_of p h body).result ≡ type_written h.result
 unfolding setting_of
@@ -123,6 +136,6 @@ callees_known p j s f k t is named =
       there = at.at;
       head = head_is p j s f k at.head at.body is at.there at.named;
       params = at.params;
-      types = ap (λ (x : Signature). x.params) at.signature ∙ types_bare at.head.params;
+      types = ap (λ (x : Signature). x.params) at.signature ∙ params_bare at.head.params;
       result = ap (λ (x : Signature). x.result) at.signature ∙ sym (result_is p at.head at.body);
     }

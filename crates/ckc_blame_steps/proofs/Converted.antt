@@ -56,7 +56,7 @@ taken_zero t w h = by (is_char t)
     by true = ap (λ k. k % 256) h
     by false = h
 
-no_char : (t : CType) → is_pointer t ≡ true → is_char t ≡ false
+pub no_char : (t : CType) → is_pointer t ≡ true → is_char t ≡ false
 no_char t e = by (out-CType t) e
   where
     by : (f : CType-F CType) → is_pointer_form f ≡ true → is_char_form f ≡ false

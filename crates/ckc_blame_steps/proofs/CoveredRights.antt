@@ -15,6 +15,7 @@ use Rattle.ckc_syntax.specs.declared.tree.Name.TheVariants as name
 use Rattle.ckc_syntax.specs.declared.tree.Node.{Node-F, map-Node, fold-Node, out-Node, fold-roll-Node}
 use Rattle.ckc_syntax.specs.declared.tree.Expr.{every_here-Expr, fold-roll-Expr}
 use Rattle.ckc_typed.specs.declared.environment.Globals.{Globals}
+use Rattle.ckc_typed.specs.declared.environment.Parameter.{Parameter}
 use Rattle.ckc_typed.specs.declared.environment.Signature.{Signature}
 use Rattle.ckc_typed.specs.declared.environment.Variable.{Variable}
 use Rattle.ckc_typed.specs.declared.typed.Note.{Note}
@@ -214,30 +215,31 @@ module _ (m : Mode) (p : Typed) (j : IsJudged p) (s : Setting) (f : Function) (f
     covered = value_covered e g fresh h callless (converted_scalar globals s t e h.typed goes) judged;
   }
 
-  arguments_covered : (ts : List CType) (es gs : List NotedExpr) (fresh : ℕ) → AllFit es → list_all callless_expr es ≡ true → AreArguments ts es → all_judged (map (view s.frame) es) fresh here.at ≡ Ok gs
+  arguments_covered : (mode : Mode) (ts : List Parameter) (es gs : List NotedExpr) (fresh : ℕ) → AllFit es → list_all callless_expr es ≡ true → AreArguments mode ts es → all_judged (map (view s.frame) es) fresh here.at ≡ Ok gs
       → AreCoveredThere m p s store here es gs fresh
-  arguments_covered [] [] gs fresh h callless goes judged =
+  arguments_covered mode [] [] gs fresh h callless goes judged =
       let same : ◌≡◌ {A = List NotedExpr} [] gs = ok_same judged in subst (λ xs. AreCoveredThere m p s store here [] xs fresh) same tt
-  arguments_covered [] (e ∷ es) gs fresh h callless goes judged = absurd goes
-  arguments_covered (t ∷ ts) [] gs fresh h callless goes judged = absurd goes
-  arguments_covered (t ∷ ts) (e ∷ es) gs fresh h callless goes judged =
+  arguments_covered mode [] (e ∷ es) gs fresh h callless goes judged = absurd goes
+  arguments_covered mode (t ∷ ts) [] gs fresh h callless goes judged = absurd goes
+  arguments_covered mode (t ∷ ts) (e ∷ es) gs fresh h callless goes judged =
       let next : ℕ = fresh_behind (view s.frame e) fresh here.at in
       let c = and_parts (callless_expr e) (list_all callless_expr es) callless in
       let first = made_of ((view s.frame e).judged fresh here.at) (λ a. bind (all_judged (map (view s.frame) es) next here.at) (λ rest. Ok (a ∷ rest))) gs judged in
       let n = made_of (all_judged (map (view s.frame) es) next here.at) (λ rest. Ok (first.0 ∷ rest)) gs first.2 in
       subst (λ xs. AreCoveredThere m p s store here (e ∷ es) xs fresh) (ok_same n.2)
-      (one_covered t e first.0 fresh h.0 c.0 goes.0 first.1, arguments_covered ts es n.0 next h.1 c.1 goes.1 n.1)
+      (one_covered t.ctype e first.0 fresh h.0 c.0 (and_parts (converts t.ctype e) _ goes.0).0 first.1, arguments_covered mode ts es n.0 next h.1 c.1 goes.1 n.1)
 
-  call_row : (e : NotedExpr) (n : Name) (es : List NotedExpr) → Fits e → out-Node Name Note e.node ≡ Node-F.Call n es → IsCall globals n es e.note.ctype
-  call_row e n es h is =
-      let row : IsRow globals s (out-Node Name Note e.node) e.note = every_here-Expr Name Note AnyLimits AnyNode (HasRow globals s) e h.typed in
-      subst (λ (x : NotedLayer). HasType globals s.variables row.mode x e.note.ctype) is row.row
+  row_of : (e : NotedExpr) → Fits e → IsRow globals s (out-Node Name Note e.node) e.note
+  row_of e h = every_here-Expr Name Note AnyLimits AnyNode (HasRow globals s) e h.typed
+
+  call_row : (e : NotedExpr) (n : Name) (es : List NotedExpr) (h : Fits e) → out-Node Name Note e.node ≡ Node-F.Call n es → IsCall globals (row_of e h).mode n es e.note.ctype
+  call_row e n es h is = subst (λ (x : NotedLayer). HasType globals s.variables (row_of e h).mode x e.note.ctype) is (row_of e h).row
 
   pub parts_covered : (e : NotedExpr) (n : Name) (es gs : List NotedExpr) (fresh : ℕ) → Fits e → out-Node Name Note e.node ≡ Node-F.Call n es → list_all callless_expr es ≡ true
       → all_judged (map (view s.frame) es) fresh here.at ≡ Ok gs → AreCoveredThere m p s store here es gs fresh
   parts_covered e n es gs fresh h is callless judged =
       let w = call_row e n es h is in
-      arguments_covered w.0.params es gs fresh (arguments_fit e n es is h) callless w.2 judged
+      arguments_covered (row_of e h).mode w.0.params es gs fresh (arguments_fit e n es is h) callless w.2 judged
 
   -- what a right side that is a call passes has no calls
   pub right_arguments : (e : NotedExpr) (n : Name) (es : List NotedExpr) → is_right e ≡ true → out-Node Name Note e.node ≡ Node-F.Call n es → list_all callless_expr es ≡ true
@@ -247,10 +249,10 @@ module _ (m : Mode) (p : Typed) (j : IsJudged p) (s : Setting) (f : Function) (f
       different : false ≡ true → ⊥
       different h = cc
 
-  first_covered : (t : CType) (ts : List CType) (es gs : List NotedExpr) (fresh : ℕ) → AreArguments (t ∷ ts) es → AreCoveredThere m p s store here es gs fresh → IsCoveredFirst m s store here.seen gs
-  first_covered t ts [] gs fresh goes h = absurd goes
-  first_covered t ts (e ∷ es) [] fresh goes h = absurd h
-  first_covered t ts (e ∷ es) (g ∷ gs) fresh goes h = h.0.covered
+  first_covered : (mode : Mode) (t : Parameter) (ts : List Parameter) (es gs : List NotedExpr) (fresh : ℕ) → AreArguments mode (t ∷ ts) es → AreCoveredThere m p s store here es gs fresh → IsCoveredFirst m s store here.seen gs
+  first_covered mode t ts [] gs fresh goes h = absurd goes
+  first_covered mode t ts (e ∷ es) [] fresh goes h = absurd h
+  first_covered mode t ts (e ∷ es) (g ∷ gs) fresh goes h = h.0.covered
 
   -- A call becomes one, with its arguments covered.
   pub record IsCallCovered (n : Name) (es : List NotedExpr) (g : NotedExpr) (fresh : ℕ) : Type 0 where
@@ -267,12 +269,12 @@ module _ (m : Mode) (p : Typed) (j : IsJudged p) (s : Setting) (f : Function) (f
       let arguments = parts_covered e n es made.afters fresh h is callless made.judged in
       record { afters = made.afters; node = made.node; arguments = arguments; call = by n w.0 (called_callable p j n w.0 w.1) w.1 w.2 made.afters arguments }
     where
-      by : (n : Name) (t : Signature) → IsCallable n → signature_named globals n ≡ Some t → AreArguments t.params es → (gs : List NotedExpr) → AreCoveredThere m p s store here es gs fresh → IsCoveredCall m s store here.seen n gs
+      by : (n : Name) (t : Signature) → IsCallable n → signature_named globals n ≡ Some t → AreArguments (row_of e h).mode t.params es → (gs : List NotedExpr) → AreCoveredThere m p s store here es gs fresh → IsCoveredCall m s store here.seen n gs
       by (name.Function k) t c named goes gs a = tt
       by name.Getchar t c named goes gs a = tt
       by name.Putchar t c named goes gs a =
           let same : putchar ≡ t = let e : Some putchar ≡ Some t = named in cc in
-          first_covered ctype.Int [] es gs fresh (subst (λ (x : Signature). AreArguments x.params es) (sym same) goes) a
+          first_covered (row_of e h).mode (record { ctype = ctype.Int; is_interface = false }) [] es gs fresh (subst (λ (x : Signature). AreArguments (row_of e h).mode x.params es) (sym same) goes) a
       by n t c named goes gs a = absurd c
 
   -- ---- right sides
@@ -293,8 +295,7 @@ module _ (m : Mode) (p : Typed) (j : IsJudged p) (s : Setting) (f : Function) (f
 
   calloc_row : (e n : NotedExpr) (w u : TypeTree) → Fits e → out-Node Name Note e.node ≡ Node-F.Calloc w n u → IsAllocation (type_written w) n (type_written u) e.note.ctype
   calloc_row e n w u h is =
-      let row : IsRow globals s (out-Node Name Note e.node) e.note = every_here-Expr Name Note AnyLimits AnyNode (HasRow globals s) e h.typed in
-      subst (λ (x : NotedLayer). HasType globals s.variables row.mode x e.note.ctype) is row.row
+      subst (λ (x : NotedLayer). HasType globals s.variables (row_of e h).mode x e.note.ctype) is (row_of e h).row
 
   calloc_covered : (t : CType) (e g n : NotedExpr) (w u : TypeTree) (fresh : ℕ) → Fits e → out-Node Name Note e.node ≡ Node-F.Calloc w n u → callless_expr n ≡ true → converts t e ≡ true → IsFine t
       → (view s.frame e).judged fresh here.at ≡ Ok g → IsCoveredRight m s store here.seen t g (out-Node Name Note g.node)

@@ -22,15 +22,17 @@ use Rattle.ckc_typed.specs.declared.environment.Signature.{Signature}
 use Rattle.ckc_typed.specs.declared.environment.Variable.{Variable}
 use Rattle.ckc_typed.specs.declared.typed.Typed.{Typed}
 use Rattle.ckc_typed.specs.Declarations.{is_element_for}
-use Rattle.ckc_typed.specs.Environment.{getchar, putchar, is_member_named, kind_of_array, object_named, object_type, objects_of, or_variable, member_type, same_name, signature_named, signatures_of, signatures_of_item, type_of_name, used, variable_declared, variable_named, variables_of, object_declared, locals_of}
+use Rattle.ckc_typed.specs.Environment.{getchar, putchar, is_member_named, kind_of_array, object_named, object_type, objects_of, or_variable, member_type, same_name, signature_named, signatures_of, signatures_of_item, type_of_name, used, variable_declared, variable_named, variables_of, object_declared, locals_of, params_of}
+use Rattle.ckc_typed.specs.Interfaces.{seen, seen_params}
 use Rattle.ckc_typed.specs.Layouts.{members_declared, members_in_item, bare_structs, structs_of}
 use Rattle.ckc_typed.specs.Texts.{globals_of, is_result_type}
 use Rattle.ckc_typed.specs.Trees.{Decl, Item, Tree, NotedDecl, NotedHead, NotedItem, NotedStmt}
 use Rattle.ckc_typed.specs.Types.{type_written, is_object_type, is_scalar, is_scalar_type, is_void}
 use Rattle.ckc_typed.specs.Walk.{head_mode}
 use Rattle.ckc_typed_welltyped.specs.Declarations.{WellTypedBare}
-use Rattle.ckc_typed_welltyped.specs.Noteless.{bare_decl, bare_item, bare_stmt}
+use Rattle.ckc_typed_welltyped.specs.Noteless.{bare_decl, bare_head, bare_item, bare_stmt}
 use Rattle.ckc_typed_welltyped.specs.Texts.{WellTypedItems}
+use Rattle.ckc_typed_welltyped.proofs.Seen.{variables_bare}
 use Rattle.ckc_source.specs.Code.{Function}
 use Rattle.ckc_blame_sound.specs.Settings.{Setting, IsFunction}
 use Rattle.ckc_blame_sound.specs.JudgedTexts.{IsJudged, globals_in}
@@ -39,6 +41,7 @@ use Rattle.ckc_blame_sound.proofs.Lists.{found}
 use Rattle.ckc_blame_sound.proofs.Locals.{stmt_declares}
 use Rattle.ckc_blame_sound.proofs.Members.{members_are}
 use Rattle.ckc_blame_steps.specs.Pointees.{AreFine, IsFine}
+use Rattle.ckc_blame_steps.proofs.Interfaces.{scalar_seen}
 use Rattle.ckc_blame_steps.proofs.Pointees.{fine_int, object_fine, void_fine}
 use Rattle.ckc_blame_steps.proofs.Small.{variables_are}
 use Rattle.ckc_blame_steps.proofs.Statics.{bare}
@@ -72,7 +75,7 @@ IsScalarDecl d = is_scalar_type (type_written d.ctype) ≡ true
 abbrev HasObjectTypes : Item → Type 0
 HasObjectTypes (item.Struct n members at) = All IsScalarDecl members
 HasObjectTypes (item.Static d) = is_object_type (object_type (object_declared d)) ≡ true
-HasObjectTypes (item.Function h body) = IsFine (type_written h.result) × HaveScalarTypes (variables_of h body)
+HasObjectTypes (item.Function h body) = IsFine (type_written h.result) × ((mode : Mode) → HaveScalarTypes (variables_of mode h body))
 HasObjectTypes i = Unit {0}
 
 bares_scalar : (globals : Globals) (variables : List Variable) (mode : Mode) (ds : List NotedDecl) → AllByRecursion (WellTypedBare globals variables mode) ds → All IsScalarDecl (map (λ (d : NotedDecl). bare_decl d) ds)
@@ -82,6 +85,12 @@ bares_scalar globals variables mode (d ∷ ds) w = All-cons IsScalarDecl (bare_d
 params_scalar : (ds : List Decl) → All IsScalarDecl ds → HaveScalarTypes (map (λ (d : Decl). variable_declared d) ds)
 params_scalar [] h = no_variables
 params_scalar (d ∷ ds) h = All-cons IsScalarVariable (variable_declared d) (map (λ (d : Decl). variable_declared d) ds) (All-head IsScalarDecl d ds h) (params_scalar ds (All-tail IsScalarDecl d ds h))
+
+-- a parameter has such a type as each body sees it
+seen_scalar : (mode : Mode) (ds : List Decl) → All IsScalarDecl ds → All IsScalarDecl (map (seen mode) ds)
+seen_scalar mode [] h = All-nil IsScalarDecl
+seen_scalar mode (d ∷ ds) h =
+    All-cons IsScalarDecl (seen mode d) (map (seen mode) ds) (scalar_seen mode d (All-head IsScalarDecl d ds h)) (seen_scalar mode ds (All-tail IsScalarDecl d ds h))
 
 more : (i : NotedItem) (items : List NotedItem) → HasObjectTypes (bare i) → All HasObjectTypes (map bare items) → All HasObjectTypes (map bare (i ∷ items))
 more i items h hs = All-cons HasObjectTypes (bare i) (map bare items) h hs
@@ -96,8 +105,8 @@ items_objects globals mode (item.Proto h ∷ items) w = more (item.Proto h) item
 items_objects globals mode (item.Function h body ∷ items) w =
     more (item.Function h body) items (
       result_fine (type_written h.result) w.0.0.result,
-      joined (map (λ (d : Decl). variable_declared d) (map (λ (d : NotedDecl). bare_decl d) h.params)) (locals_of (bare_stmt body))
-          (params_scalar (map (λ (d : NotedDecl). bare_decl d) h.params) (bares_scalar globals _ _ h.params w.0.0.params))
+      λ seen_in. joined (params_of seen_in (bare_head h)) (locals_of (bare_stmt body))
+          (params_scalar (seen_params seen_in (bare_head h)) (seen_scalar seen_in (map (λ (d : NotedDecl). bare_decl d) h.params) (bares_scalar globals _ _ h.params w.0.0.params)))
           (subst HaveScalarTypes (sym (stmt_declares body).same) (statement_scalars globals _ (type_written h.result) body (head_mode mode h) false w.0.1)),
     )
     (items_objects globals _ items w.1)
@@ -155,15 +164,10 @@ members_scalar is tag h =
 
 -- ---- the variables of a function
 
-params_bare : (ds : List NotedDecl) → map (λ (d : Decl). variable_declared d) (map (λ (d : NotedDecl). bare_decl d) ds) ≡ map (λ (d : NotedDecl). variable_declared d) ds
-params_bare [] = refl
-params_bare (d ∷ ds) = ap (λ vs. variable_declared d ∷ vs) (params_bare ds)
-
-function_scalars : (p : Typed) (j : IsJudged p) (h : NotedHead) (body : NotedStmt) → Contains p.tree.items (item.Function h body) → HaveScalarTypes (variables_of h body)
+function_scalars : (p : Typed) (j : IsJudged p) (h : NotedHead) (body : NotedStmt) → Contains p.tree.items (item.Function h body) → HaveScalarTypes (variables_of body.note.mode h body)
 function_scalars p j h body there =
     let one : HasObjectTypes (bare_item (item.Function h body)) = item_is p j HasObjectTypes (named_objects p j) (item.Function h body) there in
-    subst (λ vs. HaveScalarTypes (vs ++ locals_of body)) (params_bare h.params)
-    (subst (λ vs. HaveScalarTypes (map (λ (d : Decl). variable_declared d) (map (λ (d : NotedDecl). bare_decl d) h.params) ++ vs)) (stmt_declares body).same one.1)
+    subst HaveScalarTypes (variables_bare body.note.mode h body) (one.1 body.note.mode)
 
 setting_scalars : (p : Typed) (j : IsJudged p) (s : Setting) (f : Function) → IsFunction p s f → HaveScalarTypes s.variables
 setting_scalars p j s f is =

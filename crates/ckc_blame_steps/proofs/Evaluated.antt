@@ -1,8 +1,10 @@
 -- The arguments of a call are evaluated, one after another.
-use Rattle.std.proofs.Common.{◌≡◌, refl, sym, subst, ℕ, ◌+◌, List, [], ◌∷◌}
-use Rattle.std.specs.Prelude.{Result, Ok, Err}
+use Rattle.std.proofs.Common.{◌≡◌, refl, sym, ap, subst, ℕ, ◌+◌, List, [], ◌∷◌, map}
+use Rattle.std.specs.Prelude.{if◌then◌else◌, Result, Ok, Err}
 use Rattle.ckc_base.specs.declared.arithmetic.Mode.{Mode}
+use Rattle.ckc_base.specs.declared.arithmetic.Mode.TheVariants.{Checked}
 use Rattle.ckc_types.specs.declared.types.CType.{CType}
+use Rattle.ckc_typed.specs.Interfaces.{seen}
 use Rattle.ckc_typed.specs.Trees.{NotedDecl, NotedExpr}
 use Rattle.ckc_typed.specs.Types.{type_written}
 use Rattle.ckc_blame_sound.specs.ckc_bounds_points.specs.Flow.{State}
@@ -10,7 +12,7 @@ use Rattle.ckc_blame_sound.specs.ckc_bounds_stores.specs.declared.values.Numbere
 use Rattle.ckc_source.specs.declared.outcome.Halt.{Halt}
 use Rattle.ckc_source.specs.declared.outcome.Halt.TheVariants as halt
 use Rattle.ckc_source.specs.declared.outcome.Value.{Value}
-use Rattle.ckc_source.specs.Code.{Expr}
+use Rattle.ckc_source.specs.Code.{Expr, Narrow}
 use Rattle.ckc_source.specs.Eval.{Store, given, evaluated, all_evaluated}
 use Rattle.ckc_build_values.specs.Expressions.{expr_elaborated, literals_of}
 use Rattle.ckc_build_values.specs.Operators.{converted}
@@ -23,6 +25,7 @@ use Rattle.ckc_blame_given.specs.Gives.{Continues, GivesOn}
 use Rattle.ckc_blame_steps.specs.Arguments.{GivesWord, GiveWords, numbers_behind}
 use Rattle.ckc_blame_given.proofs.Converted.{Becomes}
 use Rattle.ckc_blame_steps.proofs.Converted.{taken, converted_is, converted_halts}
+use Rattle.ckc_blame_steps.proofs.Interfaces.{char_seen}
 use Rattle.ckc_blame_steps.proofs.Numbering.{AreWords, numbers_after, behind_words, behind_later, after_later, continues_on}
 use Rattle.ckc_blame_steps.proofs.Passed.{AreTaken}
 
@@ -39,6 +42,10 @@ pub record AllGiven (s : Setting) (store : Store) (at : State) (ts : List CType)
   pub continues : Continues from.value from.fresh before after
   pub given : (later : Valuation) → IsValuationOf s store.locals later → Continues (numbers_after s at es from).value (numbers_after s at es from).fresh after later
       → AreTaken s store later at ts es from ns
+
+-- An argument for an interface is converted as one for a pointer of any kind.
+converted_seen : (d : NotedDecl) (x : Expr) → converted (type_written (seen Checked d).ctype) x ≡ converted (type_written d.ctype) x
+converted_seen d x = ap (λ b. if b then Narrow x else x) (char_seen Checked d)
 
 module _ (m : Mode) (s : Setting) (store : Store) (at : State) where
   module _ (d : NotedDecl) (ds : List NotedDecl) (e : NotedExpr) (es : List NotedExpr) (from : Numbered) (before : Valuation) (words : AreWords from) (become : Becomes (type_written d.ctype) e) (x : Expr) (xs : List Expr)
@@ -91,13 +98,15 @@ module _ (m : Mode) (s : Setting) (store : Store) (at : State) where
         by (Err (halt.Stopped why pos)) is g = subst (λ o. Comes m Given (goes o)) (sym (converted_halts store (type_written d.ctype) x (halt.Stopped why pos) is)) tt
         by (Err halt.Stuck) is g = subst (λ o. Comes m Given (goes o)) (sym (converted_halts store (type_written d.ctype) x halt.Stuck is)) g
 
-  pub all_given : (ds : List NotedDecl) (es fs : List NotedExpr) (k : ℕ) (from : Numbered) (before : Valuation) → AreWords from → IsValuationOf s store.locals before → AllBecome (types_declared ds) es
-      → GiveWords m s store at k es fs from → Comes m (AllGiven s store at (types_declared ds) es from before) (all_evaluated store (arguments s.text s.variables k ds fs))
+  pub all_given : (ds : List NotedDecl) (es fs : List NotedExpr) (k : ℕ) (from : Numbered) (before : Valuation) → AreWords from → IsValuationOf s store.locals before → AllBecome (types_declared (map (seen Checked) ds)) es
+      → GiveWords m s store at k es fs from → Comes m (AllGiven s store at (types_declared (map (seen Checked) ds)) es from before) (all_evaluated store (arguments s.text s.variables k ds fs))
   unfolding GiveWords
   all_given [] [] [] k from before words values become h = record { after = before; values = values; continues = record { address = λ n l. refl; number = λ x l. refl }; given = λ later v c. tt }
   all_given (d ∷ ds) (e ∷ es) (f ∷ fs) k from before words values become h =
-      one_more d ds e es from before words become.0 (expr_elaborated s.text s.variables k f) (arguments s.text s.variables (k + literals_of f) ds fs) h.0 values
-      (λ after v. all_given ds es fs (k + literals_of f) (numbers_behind s at e from) after (behind_words s at e from) v become.1 h.1)
+      subst (λ x. Comes m (AllGiven s store at (types_declared (map (seen Checked) (d ∷ ds))) (e ∷ es) from before) (all_evaluated store (x ∷ arguments s.text s.variables (k + literals_of f) ds fs)))
+      (converted_seen d (expr_elaborated s.text s.variables k f))
+      (one_more (seen Checked d) (map (seen Checked) ds) e es from before words become.0 (expr_elaborated s.text s.variables k f) (arguments s.text s.variables (k + literals_of f) ds fs) h.0 values
+      (λ after v. all_given ds es fs (k + literals_of f) (numbers_behind s at e from) after (behind_words s at e from) v become.1 h.1))
   all_given [] (e ∷ es) fs k from before words values become h = absurd become
   all_given (d ∷ ds) [] fs k from before words values become h = absurd become
   all_given [] [] (f ∷ fs) k from before words values become h = absurd h

@@ -8,9 +8,8 @@ use Rattle.ckc_linear.specs.declared.forms.Form.{Form}
 use Rattle.ckc_syntax.specs.declared.tree.Name.TheVariants as name
 use Rattle.ckc_syntax.specs.declared.tree.Node.{Node-F}
 use Rattle.ckc_typed.specs.declared.typed.Typed.{Typed}
-use Rattle.ckc_typed.specs.Environment.{signature_named}
-use Rattle.ckc_typed.specs.Trees.{NotedDecl, NotedLayer}
-use Rattle.ckc_typed.specs.Types.{type_written}
+use Rattle.ckc_typed.specs.Environment.{parameter_declared, signature_named}
+use Rattle.ckc_typed.specs.Trees.{NotedLayer}
 use Rattle.ckc_typed_welltyped.specs.Expressions.{HasType}
 use Rattle.ckc_typed_welltyped.proofs.ByParts.{expr_by_parts}
 use Rattle.ckc_blame_sound.specs.ckc_bounds_points.specs.declared.frame.Bounds.{Bounds}
@@ -153,7 +152,7 @@ module _ (p : Typed) (s : State) (h : Sound p s) (j : IsJudged p) (few : HaveFew
 
     params_count : length step.is.args ≡ length h.setting.head.params
     params_count =
-        many_arguments row.0.params step.is.args row.2 ∙ ap length callee.types ∙ length-map callee.function.head.params (λ (d : NotedDecl). type_written d.ctype)
+        many_arguments waits.call.inside.mode row.0.params step.is.args row.2 ∙ ap length callee.types ∙ length-map callee.function.head.params parameter_declared
         ∙ sym (params_many p callee.function.head callee.function.body) ∙ ap (λ (x : Setting). length x.head.params) (sym callee.function.judged)
         ∙ ap (λ (x : HeadBounds). length x.params) (sym same_head)
 

@@ -25,7 +25,7 @@ use Rattle.ckc_blame_sound.specs.ckc_bounds_points.specs.declared.frame.Bounds.T
 use Rattle.ckc_blame_sound.specs.ckc_bounds_points.specs.declared.frame.Frame.{Frame}
 use Rattle.ckc_blame_sound.specs.ckc_bounds_declared.specs.declared.limits.Holder.TheVariants as holder
 use Rattle.ckc_blame_sound.specs.ckc_bounds_declared.specs.Written.{counted, known_between, bounds_written, bounds_of_kind, takes_bounds, place_of_limits, bounds_taken, bounds_declared}
-use Rattle.ckc_blame_sound.specs.ckc_bounds.specs.Declarations.{known_or_not, result_bounds, types_in}
+use Rattle.ckc_blame_sound.specs.ckc_bounds.specs.Declarations.{known_or_not, result_bounds, params_frame}
 use Rattle.ckc_source.specs.declared.expr.Limits as program
 use Rattle.ckc_source.specs.Code.{Function}
 use Rattle.ckc_build_elaborate.specs.Functions.{function_elaborated}
@@ -89,15 +89,15 @@ declared_known p locals frame t (Some l) r limits b e =
     taken true w = written_known p locals frame t (out-Limits Name Note l) r limits w e
     taken false w = absurd cc
 
-head_known : (p : Typed) (k : ℕ) (head : NotedHead) (body : NotedStmt) (r : Bounds) (limits : program.Limits) → result_bounds (types_in (frame_of_text p) head.params) head ≡ Ok r
+head_known : (p : Typed) (k : ℕ) (head : NotedHead) (body : NotedStmt) (r : Bounds) (limits : program.Limits) → result_bounds (params_frame (frame_of_text p) head) head ≡ Ok r
     → (function_elaborated p k head body).result ≡ Some limits → AreKnown (setting_of p head body).head.bounds
 unfolding setting_of
 head_known p k head body r limits b e =
-    subst AreKnown (ap (known_or_not) (sym b)) (declared_known p (variables_of head body) (types_in (frame_of_text p) head.params) (type_written head.result) head.bounds r limits b e)
+    subst AreKnown (ap (known_or_not) (sym b)) (declared_known p (variables_of body.note.mode head body) (params_frame (frame_of_text p) head) (type_written head.result) head.bounds r limits b e)
 
 pub results_known : (p : Typed) → IsJudged p → (s : Setting) (f : Function) (limits : program.Limits) → IsFunction p s f → f.result ≡ Some limits → AreKnown s.head.bounds
 results_known p j s f limits i e =
     let w = (function_well p j i.head i.body i.there).result in
     let same = (text_same j.typed p j.has_bounds).frame in
     subst (λ (t : Setting). AreKnown t.head.bounds) (sym i.judged)
-    (head_known p i.literals i.head i.body w.0 limits (ap (λ (frame : Frame). result_bounds (types_in frame i.head.params) i.head) same ∙ w.1) (ap (λ (g : Function). g.result) (sym i.runs) ∙ e))
+    (head_known p i.literals i.head i.body w.0 limits (ap (λ (frame : Frame). result_bounds (params_frame frame i.head) i.head) same ∙ w.1) (ap (λ (g : Function). g.result) (sym i.runs) ∙ e))

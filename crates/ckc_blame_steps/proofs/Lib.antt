@@ -31,6 +31,7 @@ pub mod Entering
 pub mod Returning
 pub mod Results
 pub mod Handing
+pub mod Interfaces
 pub mod Known
 pub mod Returned
 pub mod Callees

@@ -19,7 +19,8 @@ use Rattle.ckc_syntax.specs.declared.tree.Stmt.{Stmt-F, map-Stmt, ind-Stmt, roll
 use Rattle.ckc_typed.specs.declared.typed.Note.{Note}
 use Rattle.ckc_typed.specs.declared.typed.Typed.{Typed}
 use Rattle.ckc_typed.specs.Environment.{kind_of_array}
-use Rattle.ckc_typed.specs.Trees.{NotedAct, NotedDecl, NotedExpr, NotedHead, NotedLimits, NotedStmt}
+use Rattle.ckc_typed.specs.Interfaces.{interface_to, seen_as, seen, seen_params}
+use Rattle.ckc_typed.specs.Trees.{TypeTree, NotedAct, NotedDecl, NotedExpr, NotedHead, NotedLimits, NotedStmt}
 use Rattle.ckc_typed.specs.Types.{kind_of, type_written}
 use Rattle.ckc_blame_sound.specs.ckc_bounds_points.specs.declared.frame.Bounds.{Bounds}
 use Rattle.ckc_blame_sound.specs.ckc_bounds_points.specs.declared.frame.Bounds.TheVariants as bounds
@@ -32,7 +33,7 @@ use Rattle.ckc_blame_sound.specs.ckc_bounds_declared.specs.declared.limits.Holde
 use Rattle.ckc_blame_sound.specs.ckc_bounds_declared.specs.Written.{bounds_declared, bounds_of_kind, takes_bounds_kind}
 use Rattle.ckc_blame_sound.specs.ckc_bounds_statements.specs.DeclBounds.{bounds_there, holder_of}
 use Rattle.ckc_blame_sound.specs.ckc_bounds_statements.specs.Paths.{Here, Path, ActPath, ActOfPaths, value_judged, maybe_judged, init_judged, bounds_judged, starts_within, declared_here, stated, sides_judged, behind_stores, side_of, maybe_side, maybe_other, other_side, loop_head, closed, gone, is_good, is_returned, parts_judged, bundle_judged, all_judged, part_judged, if_judged, for_judged, to_step, maybe_point, act_path, stmt_path, path_of_act, path}
-use Rattle.ckc_blame_sound.specs.ckc_bounds.specs.Declarations.{declared_in, head_bounds, known_or_not, types_in}
+use Rattle.ckc_blame_sound.specs.ckc_bounds.specs.Declarations.{all_made, head_bounds, known_or_not, params_frame}
 use Rattle.ckc_blame_sound.specs.ckc_bounds.specs.Frames.{all_of, begin_of, function_frame, nameless}
 use Rattle.ckc_blame_sound.specs.ckc_bounds.specs.Texts.{body_judged}
 use Rattle.ckc_source.specs.Code.{Function}
@@ -361,6 +362,21 @@ params_fit frame (d ∷ ds) h =
     All-cons IsBoundable d ds (given_from (λ (x : Bounds). IsBoundable d) (bounds_there frame d) one.0 (decl_fits frame (holder_of d.name) d) one.1)
     (params_fit frame ds (All-tail IsJudgedWell (bounds_there frame d) (map (bounds_there frame) ds) h))
 
+-- A body that is not checked sees an interface without its bounds.
+seen_one_fits : (mode : Mode) (d : NotedDecl) → IsBoundable (seen Checked d) → IsBoundable (seen mode d)
+seen_one_fits Checked d h = h
+seen_one_fits Unchecked d h = by (interface_to d) h
+  where
+    by : (o : Option TypeTree) → IsBoundable (seen_as Checked d o) → IsBoundable (seen_as Unchecked d o)
+    by None h = h
+    by (Some t) h = λ e. absurd cc
+
+seen_fit : (mode : Mode) (ds : List NotedDecl) → All IsBoundable (map (seen Checked) ds) → All IsBoundable (map (seen mode) ds)
+seen_fit mode [] h = All-nil IsBoundable
+seen_fit mode (d ∷ ds) h =
+    All-cons IsBoundable (seen mode d) (map (seen mode) ds) (seen_one_fits mode d (All-head IsBoundable (seen Checked d) (map (seen Checked) ds) h))
+    (seen_fit mode ds (All-tail IsBoundable (seen Checked d) (map (seen Checked) ds) h))
+
 -- ---- a `_Ptr`
 
 first_true : (a b : Bool) → (a && b) ≡ true → a ≡ true
@@ -375,7 +391,7 @@ module _ (p : Typed) (h : NotedHead) (body : NotedStmt) (j : IsJudged p) (there 
   all_boundable : All IsBoundable (all_of h body)
   all_boundable =
       let b : IsBodyJudged (globals_in p) j.typed h body = bodies_are_typed p j h body there in
-      All-append IsBoundable h.params (path body).declared (params_fit (types_in (frame_of_text j.typed) h.params) h.params (function_well p j h body there).params)
+      All-append IsBoundable (seen_params body.note.mode h) (path body).declared (seen_fit body.note.mode h.params (params_fit (params_frame (frame_of_text j.typed) h) (seen_params Checked h) (function_well p j h body there).params))
       (body_fits (frame_of_text j.typed) h b.before body b.judged)
 
   one_bounds : (frame : Frame) (k : ℕ) (d : NotedDecl) → IsBoundable d → kind_of (type_written d.ctype) ≡ Some kind.One
@@ -390,9 +406,9 @@ module _ (p : Typed) (h : NotedHead) (body : NotedStmt) (j : IsJudged p) (there 
       by (Some l) is =
           absurd (no_bounds (first_true (takes_bounds_kind (kind_of (type_written d.ctype))) (is_none (kind_of_array d.length)) (fits (ap (λ (o : Option NotedLimits). is_some o) is))))
 
-  declared_one : (k : ℕ) (l : Local) → slice_get (declared_in (frame_of_text p) (all_of h body)) k ≡ Some l → kind_of l.ctype ≡ Some kind.One → l.bounds ≡ bounds_of_kind (base.Local k) (Some kind.One)
+  declared_one : (k : ℕ) (l : Local) → slice_get (all_made (types_frame (frame_of_text p) h body) true (all_of h body)) k ≡ Some l → kind_of l.ctype ≡ Some kind.One → l.bounds ≡ bounds_of_kind (base.Local k) (Some kind.One)
   declared_one k l e one =
-      let frame = types_in (frame_of_text p) (all_of h body) in
+      let frame = types_frame (frame_of_text p) h body in
       let d = declaration_at frame true (all_of h body) k l (numbered p h body j there) e in
       let fits : IsBoundable d.0 = All-contains IsBoundable (all_of h body) d.0 all_boundable d.1 in
       ap (λ (x : Local). x.bounds) d.3 ∙ one_bounds frame k d.0 fits (sym (ap (λ (x : Local). kind_of x.ctype) d.3) ∙ one)

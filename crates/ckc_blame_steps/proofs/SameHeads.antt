@@ -2,6 +2,7 @@
 use Rattle.std.proofs.Common.{◌≡◌, ◌∙◌, sym, ap, refl, ℕ, suc, Bool, true, false, List, [], ◌∷◌, ◌++◌, map, length, replicate}
 use Rattle.std.specs.Prelude.{if◌then◌else◌, ◌&&◌, Option, Some, None, unwrap_or, is_none, slice_get, slice_set, Ok, Err}
 use Rattle.std.specs.Option.{option_map}
+use Rattle.ckc_base.specs.declared.arithmetic.Mode.TheVariants.{Checked}
 use Rattle.ckc_base.specs.declared.places.Pos.{Pos}
 use Rattle.ckc_base.specs.Outcomes.{Outcome, there_or}
 use Rattle.ckc_types.specs.declared.types.CType.{CType}
@@ -10,11 +11,13 @@ use Rattle.ckc_syntax.specs.declared.tree.Name.TheVariants as name
 use Rattle.ckc_syntax.specs.declared.tree.Length.{Length}
 use Rattle.ckc_syntax.specs.declared.tree.Length.TheVariants as lengths
 use Rattle.ckc_syntax.specs.declared.tree.Limits.{out-Limits}
-use Rattle.ckc_syntax.specs.Placeless.{placeless_length, placeless_bounds, placeless_decl, placeless_head}
+use Rattle.ckc_syntax.specs.Placeless.{placeless_type, placeless_length, placeless_bounds, placeless_decl, placeless_head}
 use Rattle.ckc_typed.specs.Environment.{kind_of_array}
+use Rattle.ckc_typed.specs.Interfaces.{is_interface, seen, seen_params}
 use Rattle.ckc_typed.specs.Trees.{Decl, Head, Limits, NotedDecl, NotedHead, NotedLimits}
 use Rattle.ckc_typed.specs.Types.{type_written, kind_of}
 use Rattle.ckc_typed_welltyped.specs.Noteless.{bare_limits, bare_decl, bare_head}
+use Rattle.ckc_typed_welltyped.proofs.Seen.{seen_bare, is_interface_bare}
 use Rattle.ckc_blame_sound.specs.ckc_bounds_points.specs.Codes.{bad_limits}
 use Rattle.ckc_blame_sound.specs.ckc_bounds_points.specs.declared.frame.Bounds.{Bounds}
 use Rattle.ckc_blame_sound.specs.ckc_bounds_points.specs.declared.frame.Bounds.TheVariants as bounds
@@ -26,6 +29,7 @@ use Rattle.ckc_blame_sound.specs.ckc_bounds_declared.specs.declared.limits.Holde
 use Rattle.ckc_blame_sound.specs.ckc_bounds_declared.specs.Written.{own, takes_bounds_kind, takes_bounds, bounds_by_type, place_of_limits, bounds_taken, bounds_declared}
 use Rattle.ckc_blame_sound.specs.ckc_bounds.specs.Declarations.{result_bounds, known_or_not, bare, few_of, nameless, local_made, with_local, with_all, all_made, with_locals, types_in, declared_in, head_bounds}
 use Rattle.ckc_blame_walk.specs.ckc_blame_declared.proofs.More.{KnowsAs, declared_stays}
+use Rattle.ckc_blame_steps.proofs.Interfaces.{seen_placeless, is_interface_placeless}
 use Rattle.ckc_blame_steps.proofs.Plain.{type_plain, plain_limits, plain_written, written_plain}
 
 -- ---- without places and notes
@@ -106,28 +110,50 @@ all_plain frame b ds =
 abbrev plain_types : Frame → List Decl → Frame
 plain_types frame ds = with_locals frame (plain_all frame false ds)
 
-abbrev plain_head : Frame → Head → HeadBounds
-plain_head frame h = record {
-  params = plain_all (plain_types frame h.params) true h.params;
-  result = type_written h.result;
-  bounds = plain_bounds (plain_types frame h.params) holder.Result (type_written h.result) lengths.Plain h.bounds;
+abbrev plain_parts : Frame → List Decl → List Bool → CType → Option Limits → HeadBounds
+plain_parts frame ds is t l = record {
+  params = plain_all (plain_types frame ds) true ds;
+  interfaces = is;
+  result = t;
+  bounds = plain_bounds (plain_types frame ds) holder.Result t lengths.Plain l;
 }
+
+abbrev plain_head : Frame → Head → HeadBounds
+plain_head frame h = plain_parts frame (seen_params Checked h) (map is_interface h.params) (type_written h.result) h.bounds
+
+seen_plain : (ds : List NotedDecl) → map placeless_decl (map bare_decl (map (seen Checked) ds)) ≡ map (seen Checked) (map placeless_decl (map bare_decl ds))
+seen_plain [] = refl
+seen_plain (d ∷ ds) =
+    ap (λ (x : Decl). placeless_decl x ∷ map placeless_decl (map bare_decl (map (seen Checked) ds))) (sym (seen_bare Checked d))
+    ∙ ap (λ (x : Decl). x ∷ map placeless_decl (map bare_decl (map (seen Checked) ds))) (sym (seen_placeless Checked (bare_decl d)))
+    ∙ ap (λ (xs : List Decl). seen Checked (placeless_decl (bare_decl d)) ∷ xs) (seen_plain ds)
+
+interfaces_plain : (ds : List NotedDecl) → map is_interface ds ≡ map is_interface (map placeless_decl (map bare_decl ds))
+interfaces_plain [] = refl
+interfaces_plain (d ∷ ds) =
+    ap (λ b. b ∷ map is_interface ds) (sym (is_interface_placeless (bare_decl d) ∙ is_interface_bare d))
+    ∙ ap (λ bs. is_interface (placeless_decl (bare_decl d)) ∷ bs) (interfaces_plain ds)
 
 types_plain : (frame : Frame) (ds : List NotedDecl) → types_in frame ds ≡ plain_types frame (map placeless_decl (map bare_decl ds))
 types_plain frame ds = ap (with_locals frame) (all_plain frame false ds)
 
 pub head_plain : (frame : Frame) (h : NotedHead) → head_bounds frame h ≡ plain_head frame (placeless_head (bare_head h))
 head_plain frame h =
-    let ds = map placeless_decl (map bare_decl h.params) in
+    let ps = seen_params Checked h in
+    let is = map is_interface h.params in
+    let ds = map placeless_decl (map bare_decl ps) in
+    let seen_in = map (seen Checked) (map placeless_decl (map bare_decl h.params)) in
     let l = placeless_bounds (option_map bare_limits h.bounds) in
-    let params : declared_in frame h.params ≡ plain_all (plain_types frame ds) true ds =
-    all_plain (types_in frame h.params) true h.params ∙ ap (λ f. plain_all f true ds) (types_plain frame h.params) in
-    let result : known_or_not (result_bounds (types_in frame h.params) h) ≡ plain_bounds (plain_types frame ds) holder.Result (type_written h.result) lengths.Plain l =
-    bounds_plain (types_in frame h.params) holder.Result (type_written h.result) lengths.Plain h.bounds
-    ∙ ap (λ f. plain_bounds f holder.Result (type_written h.result) lengths.Plain l) (types_plain frame h.params) in
-    ap (λ ps. record { params = ps; result = type_written h.result; bounds = known_or_not (result_bounds (types_in frame h.params) h) }) params
-    ∙ ap (λ b. record { params = plain_all (plain_types frame ds) true ds; result = type_written h.result; bounds = b }) result
-    ∙ ap (λ t. record { params = plain_all (plain_types frame ds) true ds; result = t; bounds = plain_bounds (plain_types frame ds) holder.Result t lengths.Plain l }) (sym (type_plain h.result))
+    let params : declared_in frame ps ≡ plain_all (plain_types frame ds) true ds =
+    all_plain (types_in frame ps) true ps ∙ ap (λ f. plain_all f true ds) (types_plain frame ps) in
+    let result : known_or_not (result_bounds (types_in frame ps) h) ≡ plain_bounds (plain_types frame ds) holder.Result (type_written h.result) lengths.Plain l =
+    bounds_plain (types_in frame ps) holder.Result (type_written h.result) lengths.Plain h.bounds
+    ∙ ap (λ f. plain_bounds f holder.Result (type_written h.result) lengths.Plain l) (types_plain frame ps) in
+    ap (λ ls. record { params = ls; interfaces = is; result = type_written h.result; bounds = known_or_not (result_bounds (types_in frame ps) h) }) params
+    ∙ ap (λ b. record { params = plain_all (plain_types frame ds) true ds; interfaces = is; result = type_written h.result; bounds = b }) result
+    ∙ ap (λ t. plain_parts frame ds is t l) (sym (type_plain h.result))
+    ∙ ap (λ xs. plain_parts frame xs is (type_written (placeless_type h.result)) l) (seen_plain h.params)
+    ∙ ap (λ bs. plain_parts frame seen_in bs (type_written (placeless_type h.result)) l) (interfaces_plain h.params)
 
 -- Heads that are the same but for places say the same of bounds.
 pub heads_same : (frame : Frame) (g h : NotedHead) → placeless_head (bare_head g) ≡ placeless_head (bare_head h) → head_bounds frame g ≡ head_bounds frame h
@@ -194,5 +220,7 @@ module _ (frame other : Frame) (w : KnowsText frame other) where
 
   pub same_bounds : (h : NotedHead) → head_bounds other h ≡ head_bounds frame h
   same_bounds h =
-      ap (λ ps. record { params = ps; result = type_written h.result; bounds = known_or_not (result_bounds (second h.params) h) }) (all_same h.params (replicate (length h.params) nameless) h.params)
-      ∙ ap (λ b. record { params = declared_in frame h.params; result = type_written h.result; bounds = b }) (declared_same h.params holder.Result (type_written h.result) lengths.Plain h.bounds)
+      let ps = seen_params Checked h in
+      let is = map is_interface h.params in
+      ap (λ ls. record { params = ls; interfaces = is; result = type_written h.result; bounds = known_or_not (result_bounds (second ps) h) }) (all_same ps (replicate (length ps) nameless) ps)
+      ∙ ap (λ b. record { params = declared_in frame ps; interfaces = is; result = type_written h.result; bounds = b }) (declared_same ps holder.Result (type_written h.result) lengths.Plain h.bounds)

@@ -12,7 +12,7 @@ use Rattle.ckc_typed.specs.Scoped.{Scoped}
 use Rattle.ckc_typed.specs.Trees.{NotedHead, NotedItem, NotedStmt}
 use Rattle.ckc_typed.specs.Walk.{spots_of_stmt, spots_of_head, spots_of_item, spots_of_items, pragma_after}
 use Rattle.ckc_blame_sound.specs.ckc_bounds_points.specs.declared.frame.Frame.{Frame}
-use Rattle.ckc_blame_sound.specs.ckc_bounds.specs.Declarations.{types_in, head_judged}
+use Rattle.ckc_blame_sound.specs.ckc_bounds.specs.Declarations.{params_frame, head_judged}
 use Rattle.ckc_blame_sound.specs.ckc_bounds.specs.Texts.{body_judged, item_judged, items_judged}
 use Rattle.ckc_blame_sound.specs.ckc_bounds.specs.Phase.{bounding}
 use Rattle.ckc_blame_sound.specs.Settings.{frame_of_text}
@@ -55,7 +55,7 @@ item_forth frame (item.Struct n ms at) = record { made = λ j e. record { functi
 item_forth frame (item.Static d) = record { made = λ j e. record { function = λ h body is. absurd (cc) } }
 item_forth frame (item.Proto h) = record { made = λ j e. record { function = λ g body is. absurd (cc) } }
 item_forth frame (item.Function h body) =
-    nested (ItemForth frame (item.Function h body)) (head_judged (types_in frame h.params) h) _ _ (λ b is.
+    nested (ItemForth frame (item.Function h body)) (head_judged (params_frame frame h) h) _ _ (λ b is.
     through (ItemForth frame (item.Function h body)) (body_judged frame h body) _ (λ after judged.
     given (ItemForth frame (item.Function h body)) (item.Function h after) (record {
       function = λ g start e. (

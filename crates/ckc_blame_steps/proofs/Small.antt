@@ -3,6 +3,7 @@ use Rattle.std.proofs.Common.{◌≡◌, ◌∙◌, sym, ap, subst, refl, arith,
 use Rattle.std.specs.Prelude.{Option, None, Some}
 use Rattle.std.specs.List.{Contains, flat_map}
 use Rattle.std.proofs.lemmas.List.Elements.{All-from_recursion}
+use Rattle.ckc_base.specs.declared.arithmetic.Mode.{Mode}
 use Rattle.ckc_syntax.specs.declared.tree.Name.{Name}
 use Rattle.ckc_syntax.specs.declared.tree.Item.TheVariants as item
 use Rattle.ckc_syntax.specs.declared.tree.Act.{Act, Act-F, map-Act, roll-Act, fold-roll-Act}
@@ -14,6 +15,7 @@ use Rattle.ckc_syntax_limits.specs.Small.{Small, SmallItem}
 use Rattle.ckc_typed.specs.declared.environment.Variable.{Variable}
 use Rattle.ckc_typed.specs.declared.typed.Typed.{Typed}
 use Rattle.ckc_typed.specs.Environment.{variable_declared, act_variables, stmt_variables, locals_of, locals_of_act, variables_of}
+use Rattle.ckc_typed.specs.Interfaces.{seen, seen_params}
 use Rattle.ckc_typed.specs.Trees.{Decl, Head, Item, NotedDecl, NotedHead, NotedStmt}
 use Rattle.ckc_typed_welltyped.specs.Noteless.{bare_decl, bare_head, bare_item, bare_stmt}
 use Rattle.ckc_source.specs.Code.{Function}
@@ -125,9 +127,9 @@ params_few [] = none []
 params_few (d ∷ ds) =
     both (variable_declared d ∷ []) (map (λ (d : Decl). variable_declared d) ds) (marks_of_param d) (flat_map (λ (d : Decl). marks_of_param d) ds) (record { few = omega arith }) (params_few ds)
 
-bare_params : (ds : List NotedDecl) → length (map (λ (d : Decl). variable_declared d) (map bare_decl ds)) ≡ length (map (λ (d : NotedDecl). variable_declared d) ds)
-bare_params [] = refl
-bare_params (d ∷ ds) = ap (λ n. suc n) (bare_params ds)
+bare_params : (mode : Mode) (ds : List NotedDecl) → length (map (λ (d : Decl). variable_declared d) (map bare_decl ds)) ≡ length (map (λ (d : NotedDecl). variable_declared d) (map (seen mode) ds))
+bare_params mode [] = refl
+bare_params mode (d ∷ ds) = ap (λ n. suc n) (bare_params mode ds)
 
 function_few : (h : Head) (vs : List Variable) (ms : List Mark) → IsFew vs ms → IsFew (map (λ (d : Decl). variable_declared d) h.params ++ vs) (function ∷ marks_of_head h ++ ms)
 function_few h vs ms g =
@@ -144,7 +146,7 @@ function_few h vs ms g =
       );
     }
 
-pub few_variables : (p : Typed) (j : IsJudged p) (h : NotedHead) (body : NotedStmt) → Small j.named.tree → Contains p.tree.items (item.Function h body) → length (variables_of h body) ≤ 255
+pub few_variables : (p : Typed) (j : IsJudged p) (h : NotedHead) (body : NotedStmt) → Small j.named.tree → Contains p.tree.items (item.Function h body) → length (variables_of body.note.mode h body) ≤ 255
 few_variables p j h body small c =
     let one : SmallItem (bare_item (item.Function h body)) = item_is p j (λ (i : Item). SmallItem i) (All-from_recursion (λ (i : Item). SmallItem i) j.named.tree.items small.each) (item.Function h body) c in
     let limit = one.body.locals in
@@ -157,12 +159,12 @@ few_variables p j h body small c =
       marks,
       few,
       same,
-      bare_params h.params,
-      length-append (map (λ (d : NotedDecl). variable_declared d) h.params) (locals_of body),
+      bare_params body.note.mode h.params,
+      length-append (map (λ (d : NotedDecl). variable_declared d) (seen_params body.note.mode h)) (locals_of body),
       length-append (map (λ (d : Decl). variable_declared d) (map bare_decl h.params)) (locals_of (bare_stmt body)),
     )
 
-pub variables_are : (p : Typed) (h : NotedHead) (body : NotedStmt) → (setting_of p h body).variables ≡ variables_of h body
+pub variables_are : (p : Typed) (h : NotedHead) (body : NotedStmt) → (setting_of p h body).variables ≡ variables_of body.note.mode h body
 unfolding setting_of
 variables_are p h body = refl
 

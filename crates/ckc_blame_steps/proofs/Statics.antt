@@ -25,7 +25,7 @@ use Rattle.ckc_blame_sound.specs.ckc_bounds_points.specs.declared.frame.Bounds.{
 use Rattle.ckc_blame_sound.specs.ckc_bounds_points.specs.declared.frame.Frame.{Frame}
 use Rattle.ckc_blame_sound.specs.ckc_bounds_statements.specs.DeclBounds.{bounds_there}
 use Rattle.ckc_blame_sound.specs.ckc_bounds_statements.specs.Paths.{init_judged}
-use Rattle.ckc_blame_sound.specs.ckc_bounds.specs.Declarations.{head_judged, member_holder, types_in, object_bounds, objects_of}
+use Rattle.ckc_blame_sound.specs.ckc_bounds.specs.Declarations.{head_judged, member_holder, params_frame, object_bounds, objects_of}
 use Rattle.ckc_blame_sound.specs.ckc_bounds.specs.Texts.{outside, members_judged, body_judged, item_judged, items_judged}
 use Rattle.ckc_build_values.specs.Names.{declares, limits_in}
 use Rattle.ckc_build_elaborate.specs.Lists.{beside}
@@ -244,9 +244,9 @@ item_again frame (item.Static d) =
     nested (ItemAgain frame (item.Static d)) (init_judged frame d.init (outside frame)) _ _ (λ p p_is.
     given (ItemAgain frame (item.Static d)) (item.Static (record d { init = p.0 })) (record { init = p.0; same = refl; bounds = b; judged = b_is }, tt)))
 item_again frame (item.Proto h) =
-    nested (ItemAgain frame (item.Proto h)) (head_judged (types_in frame h.params) h) _ _ (λ b is. given (ItemAgain frame (item.Proto h)) (item.Proto h) tt)
+    nested (ItemAgain frame (item.Proto h)) (head_judged (params_frame frame h) h) _ _ (λ b is. given (ItemAgain frame (item.Proto h)) (item.Proto h) tt)
 item_again frame (item.Function h body) =
-    nested (ItemAgain frame (item.Function h body)) (head_judged (types_in frame h.params) h) _ _ (λ b is.
+    nested (ItemAgain frame (item.Function h body)) (head_judged (params_frame frame h) h) _ _ (λ b is.
     through (ItemAgain frame (item.Function h body)) (body_judged frame h body) _ (λ after judged. given (ItemAgain frame (item.Function h body)) (item.Function h after) tt))
 
 pub items_again : (frame : Frame) (items : List NotedItem) → Gives (λ js. Again frame (decls items) (decls js)) (items_judged frame items)

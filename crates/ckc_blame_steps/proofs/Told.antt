@@ -201,13 +201,13 @@ module _ (p : Typed) (j : IsJudged p) where
   locals_named [] (d ∷ ds) h = absurd cc
   locals_named (k ∷ ks) (d ∷ ds) h = All-cons IsLocalName (variable_declared d) (variables_declared ds) (k, cc) (locals_named ks ds cc)
 
-  among : (h : NotedHead) (body : NotedStmt) → Contains p.tree.items (item.Function h body) → (v : Variable) → Contains (variables_of h body) v → IsLocalName v
+  among : (h : NotedHead) (body : NotedStmt) → Contains p.tree.items (item.Function h body) → (v : Variable) → Contains (variables_of body.note.mode h body) v → IsLocalName v
   among h body c v there =
       All-contains IsLocalName (variables_declared (all_of h body)) v (locals_named (numbered p h body j c).0 (all_of h body) (numbered p h body j c).1)
-      (Contains-permutation (variables_of h body) (variables_declared (all_of h body)) v (IsPermutation-sym (variables_declared (all_of h body)) (variables_of h body) (variables_moved h body)) there)
+      (Contains-permutation (variables_of body.note.mode h body) (variables_declared (all_of h body)) v (IsPermutation-sym (variables_declared (all_of h body)) (variables_of body.note.mode h body) (variables_moved h body)) there)
 
-  no_variable : (h : NotedHead) (body : NotedStmt) (k : ℕ) → Contains p.tree.items (item.Function h body) → variable_named (variables_of h body) (name.Static k) ≡ None
-  no_variable h body k c = by (variable_named (variables_of h body) (name.Static k)) refl
+  no_variable : (h : NotedHead) (body : NotedStmt) (k : ℕ) → Contains p.tree.items (item.Function h body) → variable_named (variables_of body.note.mode h body) (name.Static k) ≡ None
+  no_variable h body k c = by (variable_named (variables_of body.note.mode h body) (name.Static k)) refl
     where
       static : (v : Variable) → IsLocalName v → same_name v.name (name.Static k) ≡ true → ⊥
       static v l e = absurd (no_static (sym (ap (λ n. same_name n (name.Static k)) l.1) ∙ e))
@@ -215,26 +215,26 @@ module _ (p : Typed) (j : IsJudged p) where
           no_static : false ≡ true → ⊥
           no_static e = absurd cc
 
-      by : (o : Option Variable) → variable_named (variables_of h body) (name.Static k) ≡ o → variable_named (variables_of h body) (name.Static k) ≡ None
+      by : (o : Option Variable) → variable_named (variables_of body.note.mode h body) (name.Static k) ≡ o → variable_named (variables_of body.note.mode h body) (name.Static k) ≡ None
       by None e = e
       by (Some v) e =
-          let f = found (Contains (variables_of h body)) (λ (x : Variable). same_name x.name (name.Static k)) (variables_of h body) v (All-contains_itself (variables_of h body)) e in
+          let f = found (Contains (variables_of body.note.mode h body)) (λ (x : Variable). same_name x.name (name.Static k)) (variables_of body.note.mode h body) v (All-contains_itself (variables_of body.note.mode h body)) e in
           absurd (static v (among h body c v f.0) f.1)
 
-  variables_are : (h : NotedHead) (body : NotedStmt) → (setting_of p h body).variables ≡ variables_of h body
+  variables_are : (h : NotedHead) (body : NotedStmt) → (setting_of p h body).variables ≡ variables_of body.note.mode h body
   unfolding setting_of
   variables_are h body = refl
 
   -- each variable of a function has the name of a local
   pub local_named : (s : Setting) (f : Function) (v : Variable) → IsFunction p s f → Contains s.variables v → (n : ℕ) × (v.name ≡ name.Local n)
   local_named s f v is there =
-      let variables : s.variables ≡ variables_of is.head is.body = ap (λ (r : Setting). r.variables) is.judged ∙ variables_are is.head is.body in
+      let variables : s.variables ≡ variables_of is.body.note.mode is.head is.body = ap (λ (r : Setting). r.variables) is.judged ∙ variables_are is.head is.body in
       among is.head is.body is.there v (subst (λ vs. Contains vs v) variables there)
 
   -- and none that of an object of file scope
   pub none_named : (s : Setting) (f : Function) (k : ℕ) → IsFunction p s f → variable_named s.variables (name.Static k) ≡ None
   none_named s f k is =
-      let variables : s.variables ≡ variables_of is.head is.body = ap (λ (r : Setting). r.variables) is.judged ∙ variables_are is.head is.body in
+      let variables : s.variables ≡ variables_of is.body.note.mode is.head is.body = ap (λ (r : Setting). r.variables) is.judged ∙ variables_are is.head is.body in
       ap (λ vs. variable_named vs (name.Static k)) variables ∙ no_variable is.head is.body k is.there
 
   by_type : (s : Setting) (f : Function) (t : CType) (k : ℕ) → IsFunction p s f → type_of_name (globals_in p) s.variables (name.Static k) ≡ Some t → IsStatic s t k

@@ -13,8 +13,8 @@ use Rattle.ckc_typed.specs.declared.typed.Typed.{Typed}
 use Rattle.ckc_typed.specs.Environment.{variable_named, variables_of}
 use Rattle.ckc_typed.specs.Trees.{NotedHead, NotedStmt}
 use Rattle.ckc_typed.specs.Types.{is_scalar}
-use Rattle.ckc_blame_sound.specs.ckc_bounds.specs.Declarations.{few_of, declared_in}
-use Rattle.ckc_blame_sound.specs.ckc_bounds.specs.Frames.{all_of, function_frame}
+use Rattle.ckc_blame_sound.specs.ckc_bounds.specs.Declarations.{few_of, all_made}
+use Rattle.ckc_blame_sound.specs.ckc_bounds.specs.Frames.{all_of, types_frame, function_frame}
 use Rattle.ckc_blame_sound.specs.ckc_bounds_points.specs.declared.frame.Bounds.{Bounds}
 use Rattle.ckc_blame_sound.specs.ckc_bounds_points.specs.declared.frame.Bounds.TheVariants as bounds
 use Rattle.ckc_blame_sound.specs.ckc_bounds_points.specs.declared.frame.Local.{Local}
@@ -44,11 +44,11 @@ module _ (p : Typed) (h : NotedHead) (body : NotedStmt) (j : IsJudged p) (there 
   variable_at : (k : ℕ) (l : Local) → local_at (setting_of p h body).frame k ≡ Some l → k < length (setting_of p h body).variables → IsVariable (setting_of p h body).variables k l.ctype
   unfolding setting_of
   variable_at k l at less =
-      let D = declared_in (frame_of_text p) (all_of h body) in
+      let D = all_made (types_frame (frame_of_text p) h body) true (all_of h body) in
       let few = few_at k l at in
       let x = some_at D k (subst (λ n. k < n) (sym (locals_counted (frame_of_text p) h body)) less) in
       let same = same_some (local_there (frame_of_text p) h body k x.0 x.1 few) at in
-      subst (λ (y : Local). IsVariable (variables_of h body) k y.ctype) same (variable_there p h body k x.0 j there x.1 few)
+      subst (λ (y : Local). IsVariable (variables_of body.note.mode h body) k y.ctype) same (variable_there p h body k x.0 j there x.1 few)
     where
       same_some : {o : Option Local} {a b : Local} → o ≡ Some a → o ≡ Some b → a ≡ b
       same_some e f = cc

@@ -336,21 +336,21 @@ module _ (p : source.Program) (all : All (IsCompilableFunction p.functions) p.fu
     pub call_meets : (target : Option Kept) (callee : ℕ) (es : List source.Expr) (place : Pos) (code : source.Code) (k : ℕ) → IfSome target (IsCompilableKept t) → HasParams (length es) (slice_get p.functions callee)
         → All (IsCompilablePart t) es → IsGood code → 14 * exprs_nodes es + 1 ≤ k
         → Meets (here (operands_code es t (Call (result_in target t) callee (operands es t) place (result_kept target t (statements t code)))) l) k
-        (and_moves (all_evaluated st es) (calls p.functions (at_work s (Rest code ∷ work)) target callee place))
+        (and_moves (all_evaluated st es) (calls p (at_work s (Rest code ∷ work)) target callee place))
     call_meets target callee es place code k ht hp he good few =
         let next = result_kept target t (statements t code) in
         let now = Call (result_in target t) callee (operands es t) place next in
         let n = all_nodes (operands es t) + length (operands es t) + 1 in
         let s1 = at_work s (Rest code ∷ work) in
         then_matched p.functions core may heap (operands_steps es t) n k (here (operands_code es t now) l) (all_evaluated st es)
-        (calls p.functions s1 target callee place)
+        (calls p s1 target callee place)
         (λ vs u. (after : Values) × (u ≡ here now after) × AllHeld core ds world t st sees es t l vs after)
         (omega (arith, operands_nodes es t, operands_count es t))
         (operands_comes core ds world t st sees es t now rest l (omega arith) he r.agree)
         (λ vs w is q.
         let ready = ready_below s work looped ds world rest l q.0 r q.2.0 in
-        subst (λ w. Meets w n (calls p.functions s1 target callee place vs)) (sym q.1)
-        (called p.functions all may heap s1 ds world now next rest q.0 target vs n (length es) callee place hp q.2.2 q.2.3 ready.callers
+        subst (λ w. Meets w n (calls p s1 target callee place vs)) (sym q.1)
+        (called p.functions all may heap p.shapes s1 ds world now next rest q.0 target vs n (length es) callee place hp q.2.2 q.2.3 ready.callers
         (record { memory = ready.outside.memory; input = ready.outside.input; bytes = ready.outside.bytes })
         (record {
           frame = record {

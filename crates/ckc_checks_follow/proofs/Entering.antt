@@ -1,6 +1,6 @@
 -- Calls and returns in both.
 use Rattle.std.proofs.Common.{◌≡◌, inl, inr, ℕ, zero, suc, ◌+◌, ◌-◌, ◌*◌, ◌^◌, ◌%◌, ◌≤◌, ◌<◌, List, [], ◌∷◌, ◌++◌, length, map, replicate, refl, sym, ◌∙◌, ap, subst, arith}
-use Rattle.std.specs.Prelude.{Bool, true, false, if◌then◌else◌, slice_get, slice_set, Option, Some, None, IfSome, Result, Ok, Err, All}
+use Rattle.std.specs.Prelude.{Bool, true, false, if◌then◌else◌, slice_get, slice_index, slice_set, Option, Some, None, IfSome, Result, Ok, Err, All}
 use Rattle.std.specs.Option.{option_map}
 use Rattle.std.proofs.lemmas.Option.{slice_get-map, slice_get-get_or}
 use Rattle.std.proofs.lemmas.List.{get_or_append_left, get_or-append_right, get_or-replicate, length-replicate}
@@ -16,18 +16,19 @@ use Rattle.ckc_base.specs.Actions.{World}
 use Rattle.ckc_base.specs.Activations.{Values, with_written, with_result, first_values, has_room}
 use Rattle.ckc_base.proofs.Travelling.{below_or_from, one_travel}
 use Rattle.ckc_source.specs.declared.expr.Limits.{Limits}
+use Rattle.ckc_source.specs.declared.program.Interface.{Interface}
 use Rattle.ckc_source.specs.declared.program.Shape.{Shape}
 use Rattle.ckc_source.specs.declared.stmt.Kept.{Kept}
 use Rattle.ckc_source.specs.declared.stmt.Kept.TheVariants as kept
 use Rattle.ckc_source.specs.declared.outcome.Value.{Value}
-use Rattle.ckc_source.specs.Eval.{given, reads_limited, end_address}
+use Rattle.ckc_source.specs.Eval.{Store as Reads, given, reads_limited, end_address}
 use Rattle.ckc_source.specs.declared.outcome.Halt.{Halt}
 use Rattle.ckc_source.specs.declared.outcome.Halt.TheVariants.{Stopped, Stuck}
 use Rattle.ckc_source.specs.Code as source
 use Rattle.ckc_source.specs.Blocks.{Block, stored}
 use Rattle.ckc_source.specs.States.{Work, Rest, entered}
 use Rattle.ckc_source.specs.States as S
-use Rattle.ckc_source.specs.Steps.{at_work, writes, with_blocks, comes_to, kept_place, hands, returns, enters, calls}
+use Rattle.ckc_source.specs.Steps.{at_work, writes, with_blocks, comes_to, store_of, and_moves, kept_place, hands, returns, in_call, reads_interfaces, enters}
 use Rattle.ckc_core.specs.Code.{Const, Local, Code, Set, Store, Function}
 use Rattle.ckc_core.specs.Meaning.{Stop, core_step, core_system, extra_steps}
 use Rattle.ckc_core.specs.Meaning as C
@@ -104,6 +105,28 @@ small_zeros : (n : ℕ) → AreSmall (replicate n 0)
 small_zeros zero i = omega arith
 small_zeros (suc n) zero = omega arith
 small_zeros (suc n) (suc i) = small_zeros n i
+
+-- ---- interfaces
+
+-- there is a value, or it is stuck
+abbrev NeverStops : {A : Type 0} → Result A Halt → Type 0
+NeverStops (Ok v) = Unit {0}
+NeverStops (Err Stuck) = Unit {0}
+NeverStops (Err (Stopped why at)) = ⊥
+
+read_first : (n : ℕ) (r : Result Value Halt) (next : Result (Unit {0}) Halt) → Gives n r → NeverStops next → NeverStops (given r (λ v. next))
+read_first n (Ok v) next e h = h
+read_first n (Err Stuck) next e h = tt
+read_first n (Err (Stopped why at)) next e h = absurd e
+
+-- no check stops the reading of interfaces
+interfaces_never_stop : (s : Reads) (is : List Interface) → NeverStops (reads_interfaces s is)
+interfaces_never_stop s [] = tt
+interfaces_never_stop s (i ∷ is) =
+    let n = slice_index s.locals i.param in
+    read_first n (reads_limited s i.limits n) (reads_interfaces s is)
+    (reads_number s.shapes s.blocks i.limits.to n (end_address s.locals i.limits.to.size n i.limits.lower) (end_address s.locals i.limits.to.size n i.limits.upper))
+    (interfaces_never_stop s is)
 
 module _ (functions : List source.Function) (all : All (IsCompilableFunction functions) functions) where
   abbrev core : List Function
@@ -249,22 +272,23 @@ module _ (functions : List source.Function) (all : All (IsCompilableFunction fun
     -- ---- calls
 
     -- the entry of a function, from core code that is at the call
-    enters_matched : (s : S.State) (ds : List C.Caller) (world : World) (now next : Code) (rest : C.Rest) (l : Values) (target : Option Kept) (values : List ℕ) (most arguments callee : ℕ)
+    enters_matched : (shapes : List Shape) (s : S.State) (ds : List C.Caller) (world : World) (now next : Code) (rest : C.Rest) (l : Values) (target : Option Kept) (values : List ℕ) (most arguments callee : ℕ)
         (found : Option source.Function) → slice_get functions callee ≡ found → HasParams arguments found → length values ≡ arguments → AreSmall values
         → SameCallers functions s.callers ds → SameWorld functions s world
         → SameCaller functions (record { frame = s.frame; target = target }) (record { frame = record { code = next; rest = rest; locals = l }; target = result_in target s.frame.function.locals })
         → extra_steps now + 1 ≤ most
         → core_step core (at ds world now rest l) ≡ C.enters (at ds world now rest l) next (result_in target s.frame.function.locals) values (slice_get core callee)
-        → Matches functions core may heap (at ds world now rest l) most (enters s target values found)
-    enters_matched s ds world now next rest l target values most arguments callee None is h count small same outside caller few e = absurd h
-    enters_matched s ds world now next rest l target values most arguments callee (Some f) is h count small same outside caller few e =
+        → Matches functions core may heap (at ds world now rest l) most (enters shapes s target values found)
+    enters_matched shapes s ds world now next rest l target values most arguments callee None is h count small same outside caller few e = absurd h
+    enters_matched shapes s ds world now next rest l target values most arguments callee (Some f) is h count small same outside caller few e =
         let u = at ds world now rest l in
         let got : slice_get core callee ≡ Some (function_code f) = slice_get-map function_code functions callee ∙ ap (option_map function_code) is in
         let d : C.Caller = record { frame = record { code = next; rest = rest; locals = l }; target = result_in target s.frame.function.locals } in
         let w = at (d ∷ ds) world (function_code f).body Stop (first_values values) in
         let go : core_step core u ≡ Goes (Entered ∷ []) w =
         e ∙ ap (C.enters u next (result_in target s.frame.function.locals) values) got in
-        record {
+        reads (reads_interfaces (store_of shapes (in_call s target values f)) f.interfaces) (interfaces_never_stop (store_of shapes (in_call s target values f)) f.interfaces)
+        (record {
           count = extra_steps now + 1;
           events = Entered ∷ [];
           via = w;
@@ -275,33 +299,40 @@ module _ (functions : List source.Function) (all : All (IsCompilableFunction fun
           keeps = record { allowed = All-cons may Entered [] (heap Entered tt) (All-nil may); beside = stays core may u };
           near = entered_related s f values (record { frame = s.frame; target = target } ∷ s.callers) (d ∷ ds) world (all_got (IsCompilableFunction functions) functions callee f all is)
               (count ∙ sym h) small (caller, same) outside;
-        }
+        })
+      where
+        reads : (r : Result (Unit {0}) Halt) → NeverStops r → Matches functions core may heap (at ds world now rest l) most (Goes [] (in_call s target values f))
+            → Matches functions core may heap (at ds world now rest l) most (and_moves r (λ u. Goes [] (in_call s target values f)))
+        reads (Ok v) never m = m
+        reads (Err Stuck) never m = inl refl
+        reads (Err (Stopped why place)) never m = absurd never
 
     -- the test of the depth
-    admitted : (room : Bool) (s : S.State) (ds : List C.Caller) (world : World) (now next : Code) (rest : C.Rest) (l : Values) (target : Option Kept) (values : List ℕ) (most arguments callee : ℕ) (place : Pos)
+    admitted : (room : Bool) (shapes : List Shape) (s : S.State) (ds : List C.Caller) (world : World) (now next : Code) (rest : C.Rest) (l : Values) (target : Option Kept) (values : List ℕ) (most arguments callee : ℕ) (place : Pos)
         → HasParams arguments (slice_get functions callee) → length values ≡ arguments → AreSmall values
         → SameCallers functions s.callers ds → SameWorld functions s world
         → SameCaller functions (record { frame = s.frame; target = target }) (record { frame = record { code = next; rest = rest; locals = l }; target = result_in target s.frame.function.locals })
         → extra_steps now + 1 ≤ most
         → core_step core (at ds world now rest l)
         ≡ (if room then C.enters (at ds world now rest l) next (result_in target s.frame.function.locals) values (slice_get core callee) else Halts [] (standing.Stopped Depth place))
-        → Matches functions core may heap (at ds world now rest l) most (if room then enters s target values (slice_get functions callee) else Halts [] (standing.Stopped Depth place))
-    admitted true s ds world now next rest l target values most arguments callee place h count small same outside caller few e =
-        enters_matched s ds world now next rest l target values most arguments callee (slice_get functions callee) refl h count small same outside caller few e
-    admitted false s ds world now next rest l target values most arguments callee place h count small same outside caller few e =
+        → Matches functions core may heap (at ds world now rest l) most (if room then enters shapes s target values (slice_get functions callee) else Halts [] (standing.Stopped Depth place))
+    admitted true shapes s ds world now next rest l target values most arguments callee place h count small same outside caller few e =
+        enters_matched shapes s ds world now next rest l target values most arguments callee (slice_get functions callee) refl h count small same outside caller few e
+    admitted false shapes s ds world now next rest l target values most arguments callee place h count small same outside caller few e =
         inr (extra_steps now + 1, few, tt, ends_by core may (at ds world now rest l) (standing.Stopped Depth place) e)
 
-    pub called : (s : S.State) (ds : List C.Caller) (world : World) (now next : Code) (rest : C.Rest) (l : Values) (target : Option Kept) (values : List ℕ) (most arguments callee : ℕ) (place : Pos)
+    pub called : (shapes : List Shape) (s : S.State) (ds : List C.Caller) (world : World) (now next : Code) (rest : C.Rest) (l : Values) (target : Option Kept) (values : List ℕ) (most arguments callee : ℕ) (place : Pos)
         → HasParams arguments (slice_get functions callee) → length values ≡ arguments → AreSmall values
         → SameCallers functions s.callers ds → SameWorld functions s world
         → SameCaller functions (record { frame = s.frame; target = target }) (record { frame = record { code = next; rest = rest; locals = l }; target = result_in target s.frame.function.locals })
         → extra_steps now + 1 ≤ most
         → core_step core (at ds world now rest l) ≡ C.calls core (at ds world now rest l) next (result_in target s.frame.function.locals) callee place (Some values)
-        → Matches functions core may heap (at ds world now rest l) most (calls functions s target callee place values)
-    called s ds world now next rest l target values most arguments callee place h count small same outside caller few e =
+        → Matches functions core may heap (at ds world now rest l) most
+        (if has_room (S.active s) then enters shapes s target values (slice_get functions callee) else Halts [] (standing.Stopped Depth place))
+    called shapes s ds world now next rest l target values most arguments callee place h count small same outside caller few e =
         let u = at ds world now rest l in
         let depth : has_room (length ds + 1) ≡ has_room (length s.callers + 1) = ap has_room (sym (same_level functions s u same)) in
-        admitted (has_room (length s.callers + 1)) s ds world now next rest l target values most arguments callee place h count small same outside caller few
+        admitted (has_room (length s.callers + 1)) shapes s ds world now next rest l target values most arguments callee place h count small same outside caller few
         (e ∙ ap (λ room. if room then C.enters u next (result_in target s.frame.function.locals) values (slice_get core callee) else Halts [] (standing.Stopped Depth place)) depth)
 
     -- a call returns in both

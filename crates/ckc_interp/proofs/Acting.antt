@@ -12,7 +12,7 @@ use Rattle.ckc_source.specs.declared.outcome.Halt.{Halt}
 use Rattle.ckc_source.specs.declared.stmt.Kept.{Kept}
 use Rattle.ckc_source.specs.declared.program.FunctionTree.{FunctionTree}
 use Rattle.ckc_source.specs.Blocks.{Block}
-use Rattle.ckc_source.specs.Code.{Function, function_of}
+use Rattle.ckc_source.specs.Code.{Function, Program, function_of}
 use Rattle.ckc_source.specs.Eval.{given}
 use Rattle.ckc_source.specs.States.{Work, Frame, Caller, State, active}
 use Rattle.ckc_source.specs.Steps.{Write, writes, all_written, calls, enters}
@@ -55,14 +55,14 @@ chosen b x y e = ap (λ c. if c then x else y) e
 other : {A : Type 0} (b : Bool) (x y : A) → b ≡ false → (if b then x else y) ≡ y
 other b x y e = ap (λ c. if c then x else y) e
 
-pub calls_full : (functions : List Function) (s : State) (target : Option Kept) (callee : ℕ) (at : Pos) (values : List ℕ) → 1023 ≤ length s.callers
-    → calls functions s target callee at values ≡ Halts [] (standing.Stopped Depth at)
-calls_full functions s target callee at values h = other (nat_lt (active s) 1024) _ _ (not_below (active s) 1024 (omega arith))
+pub calls_full : (p : Program) (s : State) (target : Option Kept) (callee : ℕ) (at : Pos) (values : List ℕ) → 1023 ≤ length s.callers
+    → calls p s target callee at values ≡ Halts [] (standing.Stopped Depth at)
+calls_full p s target callee at values h = other (nat_lt (active s) 1024) _ _ (not_below (active s) 1024 (omega arith))
 
-pub calls_at : (functions : List Function) (s : State) (target : Option Kept) (callee : ℕ) (at : Pos) (values : List ℕ) (f : Option Function) → length s.callers < 1023
-    → slice_get functions callee ≡ f → calls functions s target callee at values ≡ enters s target values f
-calls_at functions s target callee at values f h e =
-    chosen (nat_lt (active s) 1024) _ _ (is_below (active s) 1024 (omega arith)) ∙ ap (enters s target values) e
+pub calls_at : (p : Program) (s : State) (target : Option Kept) (callee : ℕ) (at : Pos) (values : List ℕ) (f : Option Function) → length s.callers < 1023
+    → slice_get p.functions callee ≡ f → calls p s target callee at values ≡ enters p.shapes s target values f
+calls_at p s target callee at values f h e =
+    chosen (nat_lt (active s) 1024) _ _ (is_below (active s) 1024 (omega arith)) ∙ ap (enters p.shapes s target values) e
 
 pub function_some : (fs : List FunctionTree) (n : ℕ) (f : FunctionTree) → Some f ≡ slice_get fs n → slice_get (map function_of fs) n ≡ Some (function_of f)
 function_some fs n f e = slice_get-map function_of fs n ∙ ap (option_map function_of) (sym e)

@@ -21,7 +21,7 @@ use Rattle.ckc_source.specs.Blocks.{Block, stored}
 use Rattle.ckc_source.specs.Code.{Target, Right, Value as Plain, Fresh, Code, End, Assign, Bundle, Get, Put, Call, If, Loop, Break, Continue, Return, Check, Function, Program}
 use Rattle.ckc_source.specs.Eval.{given, evaluated, all_evaluated}
 use Rattle.ckc_source.specs.States.{Work, Rest, Turn as Ahead, Caller, State, active}
-use Rattle.ckc_source.specs.Steps.{store_of, aimed, allowed, drawn, Drawn, Write, Planned, writes, all_written, allocated, planned, bundled, with_blocks, writes_allowed, comes_to, and_moves, gets, puts, halts, at_work, acts, works, returns, hands, reads_result, kept_place, calls, enters}
+use Rattle.ckc_source.specs.Steps.{store_of, aimed, allowed, drawn, Drawn, Write, Planned, writes, all_written, allocated, planned, bundled, with_blocks, writes_allowed, comes_to, and_moves, gets, puts, halts, at_work, acts, works, returns, hands, reads_result, kept_place, calls, in_call, reads_interfaces, enters}
 use Rattle.ckc_interp.specs.code.Turns.{Asked, Does, Gets, Puts, asked, asked_next, gets_at, puts_at, turn_asks, move_of, planned_one}
 use Rattle.ckc_interp.specs.declared.run.Turn.{Turn}
 use Rattle.ckc_interp.specs.declared.run.Turn.TheVariants as turn
@@ -178,14 +178,17 @@ module _ (input : List ℕ) where
       let u : State = record s { frame = caller.frame; callers = callers } in
       ap (comes_to []) (hands_fed shapes u s.frame.function.result s.frame.entry caller.target n) ∙ comes_fed [] (hands shapes u s.frame.function.result s.frame.entry caller.target n)
 
-  enters_fed : (s : State) (target : Option Kept) (values : List ℕ) (f : Option Function) → enters (fed input s) target values f ≡ fed_move input (enters s target values f)
-  enters_fed s target values (Some f) = refl
-  enters_fed s target values None = refl
+  enters_fed : (shapes : List Shape) (s : State) (target : Option Kept) (values : List ℕ) (f : Option Function)
+      → enters shapes (fed input s) target values f ≡ fed_move input (enters shapes s target values f)
+  enters_fed shapes s target values (Some f) =
+      and_fed (reads_interfaces (store_of shapes (in_call s target values f)) f.interfaces) _ (λ u. Goes [] (in_call s target values f)) (λ u. refl)
+  enters_fed shapes s target values None = refl
 
-  calls_fed : (functions : List Function) (s : State) (target : Option Kept) (callee : ℕ) (at : Pos) (values : List ℕ)
-      → calls functions (fed input s) target callee at values ≡ fed_move input (calls functions s target callee at values)
-  calls_fed functions s target callee at values =
-      moves_fed (has_room (active s)) _ _ (enters s target values (slice_get functions callee)) (Halts [] (standing.Stopped check.Depth at)) (enters_fed s target values (slice_get functions callee)) refl
+  calls_fed : (p : Program) (s : State) (target : Option Kept) (callee : ℕ) (at : Pos) (values : List ℕ)
+      → calls p (fed input s) target callee at values ≡ fed_move input (calls p s target callee at values)
+  calls_fed p s target callee at values =
+      moves_fed (has_room (active s)) _ _ (enters p.shapes s target values (slice_get p.functions callee)) (Halts [] (standing.Stopped check.Depth at))
+      (enters_fed p.shapes s target values (slice_get p.functions callee)) refl
 
   got_by : (s : State) (x : Result Place Halt) → and_moves x (λ to. gets (fed input s) to input) ≡ played input (gets_at s x)
   got_by s (Ok to) = refl
@@ -207,7 +210,7 @@ module _ (input : List ℕ) where
   acts_fed p s work (Get spot target rest) = got_by (at_work s (Rest rest ∷ work)) (aimed (store_of p.shapes s) target)
   acts_fed p s work (Put spot target e rest) = put_by (at_work s (Rest rest ∷ work)) (aimed (store_of p.shapes s) target) (evaluated (store_of p.shapes s) e)
   acts_fed p s work (Call spot target callee es rest) =
-      and_fed (all_evaluated (store_of p.shapes s) es) _ _ (λ values. calls_fed p.functions (at_work s (Rest rest ∷ work)) target callee spot.at values)
+      and_fed (all_evaluated (store_of p.shapes s) es) _ _ (λ values. calls_fed p (at_work s (Rest rest ∷ work)) target callee spot.at values)
   acts_fed p s work (If spot e one two rest) = and_fed (evaluated (store_of p.shapes s) e) _ _ (λ v. refl)
   acts_fed p s work (Loop spot e body step rest) = and_fed (evaluated (store_of p.shapes s) e) _ _ (λ v. refl)
   acts_fed p s work (Break rest) = refl

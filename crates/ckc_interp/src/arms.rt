@@ -1,6 +1,6 @@
 //! One step of a run.
 
-ghost use Rattle.std.specs.Prelude.{◌≡◌, ◌==◌, [], ◌∷◌, map, if◌then◌else◌, IfOk, OnOk};
+ghost use Rattle.std.specs.Prelude.{◌≡◌, ◌==◌, [], ◌∷◌, map, Some, if◌then◌else◌, IfOk, OnOk};
 ghost use Rattle.std.specs.Option.{option_copied, option_map};
 ghost use Rattle.ckc_base.specs.Steps.{Goes, Halts};
 ghost use Rattle.ckc_base.specs.Traces as standing;
@@ -8,7 +8,7 @@ ghost use Rattle.ckc_source.specs.Code.{program_of, code_of, expr_of, function_o
 ghost use Rattle.ckc_source.specs.States.{State, Rest, settled};
 ghost use Rattle.ckc_source.specs.States as states;
 ghost use Rattle.ckc_source.specs.Eval.{evaluated, all_evaluated};
-ghost use Rattle.ckc_source.specs.Steps.{store_of, aimed, bundled, returns, hands, reads_result, calls, kept_place, spot_in, spot_of, at_work, and_moves, comes_to};
+ghost use Rattle.ckc_source.specs.Steps.{store_of, aimed, bundled, returns, hands, reads_result, calls, enters, kept_place, spot_in, spot_of, at_work, and_moves, comes_to};
 ghost use Rattle.ckc_interp_blocks.specs.Views.{shapes_of};
 ghost use Rattle.ckc_interp_eval.specs.Stores as stores;
 ghost use Rattle.ckc_interp.specs.code.Turns.{Does, asked, asked_next, gets_at, puts_at, turn_asks, reached, noted, spot_with, values_as};
@@ -19,7 +19,7 @@ use crate::work::{Work, push_rest, push_turn, settle, take_front};
 use ckc_base::{Check, Mode, Pos};
 use ckc_interp_eval::Reader;
 use ckc_source::{
-    Assign, ExprTree, Halt, Kept, Limits, Place, Program, Spot, StmtTree, TargetTree,
+    Assign, ExprTree, FunctionTree, Halt, Kept, Limits, Place, Program, Spot, StmtTree, TargetTree,
 };
 use std::alloc::{AllocError, Global};
 use std::mem;
@@ -390,9 +390,10 @@ impl<'a> Run<'a> {
         arguments: &'a [ExprTree],
         rest: &'a [StmtTree],
     ) -> Result<Turn, AllocError>
+        requires { shapes_of self.old.blocks ≡ program.now.shapes }
         ensures moves { IfOk result (λ turn. Does (and_moves (all_evaluated (store_of
             (shapes_of self.old.blocks) (core_of self.old)) (map expr_of arguments.entry.now))
-            (calls (map function_of program.entry.now.functions) (at_work (core_of self.old) (Rest
+            (calls (program_of program.entry.now) (at_work (core_of self.old) (Rest
             (code_of rest.entry.now) ∷ (core_of self.old).frame.work)) target callee at)) ≡
             turn_asks turn (core_of self.new)) }
         ensures shapes { shapes_of self.new.blocks ≡ shapes_of self.old.blocks }
@@ -416,8 +417,8 @@ impl<'a> Run<'a> {
         callee: u32,
         values: Vec<u32>,
     ) -> Result<Turn, AllocError>
-        ensures moves { IfOk result (λ turn. Does (calls
-            (map function_of program.entry.now.functions)
+        requires { shapes_of self.old.blocks ≡ program.now.shapes }
+        ensures moves { IfOk result (λ turn. Does (calls (program_of program.entry.now)
             (core_of self.old) target callee at values.items) ≡ turn_asks turn (core_of self.new)) }
         ensures shapes { shapes_of self.new.blocks ≡ shapes_of self.old.blocks }
     {
@@ -425,12 +426,32 @@ impl<'a> Run<'a> {
             return Ok(Turn::Halted(Halt::Stopped(Check::Depth, at)));
         }
         match program.functions.get(callee as usize) {
-            Some(function) => {
-                let frame = enter(alloc, function, values)?;
-                self.suspend(frame, target)?;
-                Ok(Turn::Quiet)
-            }
+            Some(function) => self.enter_function(alloc, function, target, values),
             None => Ok(Turn::Halted(Halt::Stuck)),
+        }
+    }
+
+    /// A function is entered, and its interfaces are read.
+    fn enter_function(
+        &mut self,
+        alloc: Global,
+        function: &'a FunctionTree,
+        target: Option<Kept>,
+        values: Vec<u32>,
+    ) -> Result<Turn, AllocError>
+        ensures moves { IfOk result (λ turn. Does (enters (shapes_of self.old.blocks)
+            (core_of self.old) target values.items (Some (function_of function.entry.now))) ≡
+            turn_asks turn (core_of self.new)) }
+        ensures shapes { shapes_of self.new.blocks ≡ shapes_of self.old.blocks }
+    {
+        let frame = enter(alloc, function, values)?;
+        self.suspend(frame, target)?;
+        match self
+            .reader()
+            .read_interfaces(function.interfaces.as_slice())
+        {
+            Ok(()) => Ok(Turn::Quiet),
+            Err(why) => Ok(Turn::Halted(why)),
         }
     }
 

@@ -156,6 +156,7 @@ fn no_function(alloc: Global) -> FunctionTree
         locals: 0,
         body: Seq::new(alloc),
         result: None,
+        interfaces: Seq::new(alloc),
     }
 }
 

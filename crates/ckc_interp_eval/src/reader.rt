@@ -3,12 +3,13 @@
 ghost use Rattle.std.specs.Prelude.{◌≡◌, pos, ◌≤ℤ◌, ◌<ℤ◌, slice_index};
 ghost use Rattle.ckc_source.specs.Words.{width_of};
 ghost use Rattle.ckc_source.specs.Eval.{base_address, amount, end_address, reads_limited, loads, counted, loads_pointer, trusts};
+ghost use Rattle.ckc_source.specs.Steps.{reads_interfaces};
 
 use crate::accesses::{place_in, plain};
 use crate::arithmetic::{elements_behind, exact};
 use ckc_base::Width;
 use ckc_interp_blocks::Blocks;
-use ckc_source::{Base, Count, End, Halt, Integer, Limits, Pointee, Value, Variable};
+use ckc_source::{Base, Count, End, Halt, Integer, Interface, Limits, Pointee, Value, Variable};
 
 /// The blocks and the locals that expressions read.
 #[derive(Clone, Copy)]
@@ -81,6 +82,20 @@ impl<'r, 'a> Reader<'r, 'a> {
         let low = self.end_address(n, limits.to.size, limits.lower);
         let high = self.end_address(n, limits.to.size, limits.upper);
         self.blocks.read(&limits.to, n, low, high)
+    }
+
+    /// Reads each interface with its limits.
+    #[tactic(auto, using(crate::proofs::Interfaces::interfaces_next, crate::proofs::Interfaces::interfaces_stop))]
+    pub fn read_interfaces(&self, interfaces: &[Interface]) -> Result<(), Halt>
+        ensures { result ≡ reads_interfaces (store_of self.now) interfaces.now }
+    {
+        for i in interfaces {
+            match self.read_limited(&i.limits, self.local(i.param)) {
+                Ok(_) => {}
+                Err(why) => return Err(why),
+            }
+        }
+        Ok(())
     }
 
     /// What a load without known limits gives.

@@ -1,2 +1,3 @@
 pub mod ActLayers
 mod Around
+pub mod Seen

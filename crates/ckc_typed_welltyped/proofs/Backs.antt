@@ -130,7 +130,7 @@ module _ (globals : Globals) (variables : List Variable) (mode : Mode) where
       (goes (tested_typed (type_written w) k.0 (Some l.0) at) _ t _ ((two_rules (is_bounds_cast (type_written w) (Some l.0)) (is_tested (type_written w) k.0) at (type_written w) t).1 r) refl))
   node_step (Node-F.Call n ks) at t p r =
       goes (in_order (map typed_expr (map bare_expr (map first_of_kept ks)))) _ (map first_of_kept ks) _ (all_back ks p)
-      (goes (call_typed globals n (map first_of_kept ks) at) _ t _ ((call_is globals n (map first_of_kept ks) at t).1 r) refl)
+      (goes (call_typed globals mode n (map first_of_kept ks) at) _ t _ ((call_is globals mode n (map first_of_kept ks) at t).1 r) refl)
   node_step (Node-F.Calloc w k x) at t p r =
       goes (typed_expr (bare_expr k.0)) _ k.0 _ (k.1 p) (goes (allocation_typed (type_written w) k.0 (type_written x) at) _ t _ ((allocation_is (type_written w) k.0 (type_written x) at t).1 r) refl)
 

@@ -8,12 +8,13 @@ mod Decls
 mod Acts
 mod TypedActs
 mod ActsBack
-mod Texts
 pub mod Insides
 pub mod Folds
+pub mod ByParts
+pub mod Seen
+mod Texts
 pub mod MarksKept
 mod DepthKept
 mod SmallKept
-pub mod ByParts
 mod Exactly
 pub mod FormKept

@@ -12,13 +12,14 @@ use Rattle.ckc_syntax.specs.declared.tree.Name.{Name}
 use Rattle.ckc_syntax.specs.declared.tree.TreeOp.{TreeOp}
 use Rattle.ckc_syntax.specs.declared.tree.TreeOp.TheVariants as op
 use Rattle.ckc_typed.specs.declared.environment.Globals.{Globals}
+use Rattle.ckc_typed.specs.declared.environment.Parameter.{Parameter}
 use Rattle.ckc_typed.specs.Codes.{bad_operands, bad_conversion, bad_call, no_address}
 use Rattle.ckc_typed.specs.Trees.{NotedExpr}
 use Rattle.ckc_typed.specs.Types.{is_integer, is_void, is_object_type, same_type}
 use Rattle.ckc_typed.specs.Environment.{signature_named}
 use Rattle.ckc_typed.specs.Operands.{unary_type, is_cast}
-use Rattle.ckc_typed.specs.Conversions.{is_null, converts}
-use Rattle.ckc_typed.specs.Expressions.{address_kind, has_address, in_row, unary_typed, cast_typed, is_no_allocation, allocation_typed, arguments_typed, result_typed, call_typed}
+use Rattle.ckc_typed.specs.Conversions.{is_null}
+use Rattle.ckc_typed.specs.Expressions.{address_kind, has_address, in_row, unary_typed, cast_typed, is_no_allocation, allocation_typed, takes, arguments_typed, result_typed, call_typed}
 use Rattle.ckc_typed_welltyped.specs.Expressions.{unary_row, AreArguments, IsCall, IsAllocation}
 use Rattle.ckc_base.proofs.Outcomes.{ok_same, made_of, goes, unbroken, kept_rule, keeps_rule, was_there, is_there, first_holds}
 
@@ -114,26 +115,26 @@ equal_lengths a b e = grind (arith, nat_tests)
 lengths_equal : (a b : ℕ) → a ≡ b → (a == b) ≡ true
 lengths_equal a b e = grind (arith, nat_tests)
 
-arguments_are : (ts : List CType) (es : List NotedExpr) (u : Unit {0}) → length es ≡ length ts → arguments_typed ts es ≡ Ok u → AreArguments ts es
-arguments_are [] [] u n e = tt
-arguments_are [] (x ∷ es) u n e = absurd (omega arith)
-arguments_are (t ∷ ts) [] u n e = absurd (omega arith)
-arguments_are (t ∷ ts) (x ∷ es) u n e = let k = kept_rule (converts t x) bad_conversion x.pos (arguments_typed ts es) u e in (k.0, arguments_are ts es u (omega arith) k.1)
+arguments_are : (mode : Mode) (ps : List Parameter) (es : List NotedExpr) (u : Unit {0}) → length es ≡ length ps → arguments_typed mode ps es ≡ Ok u → AreArguments mode ps es
+arguments_are mode [] [] u n e = tt
+arguments_are mode [] (x ∷ es) u n e = absurd (omega arith)
+arguments_are mode (p ∷ ps) [] u n e = absurd (omega arith)
+arguments_are mode (p ∷ ps) (x ∷ es) u n e = let k = kept_rule (takes mode p x) bad_conversion x.pos (arguments_typed mode ps es) u e in (k.0, arguments_are mode ps es u (omega arith) k.1)
 
-arguments_back : (ts : List CType) (es : List NotedExpr) → AreArguments ts es → (length es ≡ length ts) × (arguments_typed ts es ≡ Ok tt)
-arguments_back [] [] a = (refl, refl)
-arguments_back [] (x ∷ es) a = absurd a
-arguments_back (t ∷ ts) [] a = absurd a
-arguments_back (t ∷ ts) (x ∷ es) a = let r = arguments_back ts es a.1 in (ap suc r.0, keeps_rule (converts t x) bad_conversion x.pos (arguments_typed ts es) tt a.0 r.1)
+arguments_back : (mode : Mode) (ps : List Parameter) (es : List NotedExpr) → AreArguments mode ps es → (length es ≡ length ps) × (arguments_typed mode ps es ≡ Ok tt)
+arguments_back mode [] [] a = (refl, refl)
+arguments_back mode [] (x ∷ es) a = absurd a
+arguments_back mode (p ∷ ps) [] a = absurd a
+arguments_back mode (p ∷ ps) (x ∷ es) a = let r = arguments_back mode ps es a.1 in (ap suc r.0, keeps_rule (takes mode p x) bad_conversion x.pos (arguments_typed mode ps es) tt a.0 r.1)
 
-pub call_is : (globals : Globals) (n : Name) (es : List NotedExpr) (at : Pos) → OkIf (call_typed globals n es at) (IsCall globals n es)
-call_is globals n es at t = (
-  λ h. let a = made_of (there_or bad_call at (signature_named globals n)) (λ s. result_typed s es at) t h in
-      let b = kept_rule (length es == length a.0.params) bad_call at (bind (arguments_typed a.0.params es) (λ u. Ok a.0.result)) t a.2 in
-      let c = made_of (arguments_typed a.0.params es) (λ u. Ok a.0.result) t b.1 in
-      (a.0, was_there bad_call at (signature_named globals n) a.0 a.1, arguments_are a.0.params es c.0 (equal_lengths _ _ b.0) c.1, sym (ok_same a.0.result t c.2)),
-  λ h. let b = arguments_back h.0.params es h.2 in
-      goes (there_or bad_call at (signature_named globals n)) (λ s. result_typed s es at) h.0 t (is_there bad_call at (signature_named globals n) h.0 h.1)
-      (keeps_rule (length es == length h.0.params) bad_call at (bind (arguments_typed h.0.params es) (λ u. Ok h.0.result)) t (lengths_equal _ _ b.0)
-      (goes (arguments_typed h.0.params es) (λ u. Ok h.0.result) tt t b.1 (ap Ok (sym h.3)))),
+pub call_is : (globals : Globals) (mode : Mode) (n : Name) (es : List NotedExpr) (at : Pos) → OkIf (call_typed globals mode n es at) (IsCall globals mode n es)
+call_is globals mode n es at t = (
+  λ h. let a = made_of (there_or bad_call at (signature_named globals n)) (λ s. result_typed mode s es at) t h in
+      let b = kept_rule (length es == length a.0.params) bad_call at (bind (arguments_typed mode a.0.params es) (λ u. Ok a.0.result)) t a.2 in
+      let c = made_of (arguments_typed mode a.0.params es) (λ u. Ok a.0.result) t b.1 in
+      (a.0, was_there bad_call at (signature_named globals n) a.0 a.1, arguments_are mode a.0.params es c.0 (equal_lengths _ _ b.0) c.1, sym (ok_same a.0.result t c.2)),
+  λ h. let b = arguments_back mode h.0.params es h.2 in
+      goes (there_or bad_call at (signature_named globals n)) (λ s. result_typed mode s es at) h.0 t (is_there bad_call at (signature_named globals n) h.0 h.1)
+      (keeps_rule (length es == length h.0.params) bad_call at (bind (arguments_typed mode h.0.params es) (λ u. Ok h.0.result)) t (lengths_equal _ _ b.0)
+      (goes (arguments_typed mode h.0.params es) (λ u. Ok h.0.result) tt t b.1 (ap Ok (sym h.3)))),
 )

@@ -6,7 +6,7 @@ use Rattle.std.specs.List.{AllByRecursion}
 use Rattle.std.proofs.lemmas.Bool.Decides.{nat_tests}
 use Rattle.ckc_base.specs.Places.{start}
 use Rattle.ckc_base.specs.declared.arithmetic.Mode.{Mode}
-use Rattle.ckc_base.specs.declared.arithmetic.Mode.TheVariants.{Unchecked}
+use Rattle.ckc_base.specs.declared.arithmetic.Mode.TheVariants.{Checked, Unchecked}
 use Rattle.ckc_base.specs.Outcomes.{unless}
 use Rattle.ckc_types.specs.declared.types.Structs.{Structs}
 use Rattle.ckc_syntax.specs.declared.tree.Item.TheVariants as item
@@ -20,7 +20,7 @@ use Rattle.ckc_typed.specs.Types.{type_written}
 use Rattle.ckc_typed.specs.Environment.{params_of, variables_of, variable_declared}
 use Rattle.ckc_typed.specs.Expressions.{bounds_typed}
 use Rattle.ckc_typed.specs.Declarations.{bare_typed, bares_typed, static_typed}
-use Rattle.ckc_typed.specs.Statements.{stmt_typed}
+use Rattle.ckc_typed.specs.Statements.{body_mode, stmt_typed}
 use Rattle.ckc_typed.specs.Layouts.{structs_of}
 use Rattle.ckc_base.specs.MemoryMap.{data_start, statics_end}
 use Rattle.ckc_typed.specs.Statics.{blocks, placed, end_of_blocks}
@@ -35,6 +35,7 @@ use Rattle.ckc_base.proofs.Outcomes.{each_made, each_back, ok_same, made_of, goe
 use Rattle.ckc_typed_welltyped.proofs.Decls.{bounds_give, bounds_back, bare_gives, bare_back, static_gives, static_back}
 use Rattle.ckc_typed_welltyped.proofs.TypedActs.{stmt_gives}
 use Rattle.ckc_typed_welltyped.proofs.ActsBack.{stmt_back}
+use Rattle.ckc_typed_welltyped.proofs.Seen.{body_mode_bare}
 
 abbrev head_of : Head → List Decl → Option Limits → Head
 head_of h ps l = record { mode = h.mode; result = h.result; name = h.name; params = ps; bounds = l; pos = h.pos }
@@ -45,24 +46,24 @@ module _ (globals : Globals) (pragma : Mode) where
 
   head_gives : (h : Head) (n : NotedHead) → head_typed globals pragma h ≡ Ok n → GivesHead h n
   head_gives h n e =
-      let a = made_of (bares_typed globals (params_of h) (head_mode pragma h) h.params) _ n e in
-      let g = each_made (bare_typed globals (params_of h) (head_mode pragma h)) bare_decl (WellTypedBare globals (params_of h) (head_mode pragma h)) (bare_gives globals (params_of h) (head_mode pragma h)) h.params a.0 a.1 in
-      let b = made_of (bounds_typed globals (params_of h) (head_mode pragma h) h.bounds) _ n a.2 in
-      let f = bounds_give globals (params_of h) (head_mode pragma h) h.bounds b.0 b.1 in
+      let a = made_of (bares_typed globals (params_of Checked h) (head_mode pragma h) h.params) _ n e in
+      let g = each_made (bare_typed globals (params_of Checked h) (head_mode pragma h)) bare_decl (WellTypedBare globals (params_of Checked h) (head_mode pragma h)) (bare_gives globals (params_of Checked h) (head_mode pragma h)) h.params a.0 a.1 in
+      let b = made_of (bounds_typed globals (params_of Checked h) (head_mode pragma h) h.bounds) _ n a.2 in
+      let f = bounds_give globals (params_of Checked h) (head_mode pragma h) h.bounds b.0 b.1 in
       let u = made_of (result_allowed h) _ n b.2 in
       let same : bare_head (head_with h a.0 b.0) ≡ h = ap (λ ps. head_of h ps (option_map bare_limits b.0)) g.0 ∙ ap (λ l. head_of h h.params l) f.0 in
       subst (GivesHead h) (ok_same _ n u.2) (
         same,
         record {
-          params = subst (λ vs. AllByRecursion (WellTypedBare globals vs (head_mode pragma h)) a.0) (sym (ap params_of same)) g.1;
-          bounds = subst (λ vs. IfSome b.0 (WellTypedLimits globals vs (head_mode pragma h))) (sym (ap params_of same)) f.1;
+          params = subst (λ vs. AllByRecursion (WellTypedBare globals vs (head_mode pragma h)) a.0) (sym (ap (params_of Checked) same)) g.1;
+          bounds = subst (λ vs. IfSome b.0 (WellTypedLimits globals vs (head_mode pragma h))) (sym (ap (params_of Checked) same)) f.1;
           result = (kept_rule {A = Unit {0}} (is_result_type (type_written h.result)) bad_operands h.pos (Ok tt) u.0 u.1).0;
         },
       )
 
   head_back : (n : NotedHead) → WellTypedHead globals pragma n → head_typed globals pragma (bare_head n) ≡ Ok n
   head_back n w =
-      let vs = params_of (bare_head n) in let mode = head_mode pragma n in
+      let vs = params_of Checked (bare_head n) in let mode = head_mode pragma n in
       goes (bares_typed globals vs mode (map bare_decl n.params)) _ n.params _ (each_back (bare_typed globals vs mode) bare_decl (WellTypedBare globals vs mode) (bare_back globals vs mode) n.params w.params)
       (goes (bounds_typed globals vs mode (option_map bare_limits n.bounds)) _ n.bounds _ (bounds_back globals vs mode n.bounds w.bounds)
       (goes (result_allowed (bare_head n)) _ tt _ (keeps_rule {A = Unit {0}} (is_result_type (type_written n.result)) bad_operands n.pos (Ok tt) tt w.result refl) refl))
@@ -70,8 +71,12 @@ module _ (globals : Globals) (pragma : Mode) where
   abbrev GivesItem : Item → NotedItem → Type 0
   GivesItem i n = (bare_item n ≡ i) × WellTypedItem globals pragma n
 
-  abbrev BodyIn : NotedStmt → Head → Stmt → Type 0
-  BodyIn b h s = WellTypedStmt globals (variables_of h s) (type_written h.result) b (head_mode pragma h) false
+  -- seen by a body of a mode, and by one of its own
+  abbrev BodyIn : NotedStmt → Head → Stmt → Mode → Type 0
+  BodyIn b h s mode = WellTypedStmt globals (variables_of mode h s) (type_written h.result) b (head_mode pragma h) false
+
+  abbrev BodyOf : NotedStmt → Head → Stmt → Type 0
+  BodyOf b h s = BodyIn b h s (body_mode (head_mode pragma h) s)
 
   pub item_gives : (i : Item) (n : NotedItem) → item_typed globals pragma i ≡ Ok n → (bare_item n ≡ i) × WellTypedItem globals pragma n
   item_gives (item.Directive d) n e = subst (GivesItem (item.Directive d)) (ok_same _ n e) (refl, tt)
@@ -90,11 +95,11 @@ module _ (globals : Globals) (pragma : Mode) where
       subst (GivesItem (item.Proto h)) (ok_same _ n a.2) (ap item.Proto g.0, g.1)
   item_gives (item.Function h body) n e =
       let a = made_of (head_typed globals pragma h) _ n e in let g = head_gives h a.0 a.1 in
-      let b = made_of (stmt_typed globals (variables_of h body) (type_written h.result) body (head_mode pragma h) false) _ n a.2 in
-      let f = stmt_gives globals (variables_of h body) (type_written h.result) body (head_mode pragma h) false b.0 b.1 in
+      let b = made_of (stmt_typed globals (variables_of (body_mode (head_mode pragma h) body) h body) (type_written h.result) body (head_mode pragma h) false) _ n a.2 in
+      let f = stmt_gives globals (variables_of (body_mode (head_mode pragma h) body) h body) (type_written h.result) body (head_mode pragma h) false b.0 b.1 in
       subst (GivesItem (item.Function h body)) (ok_same _ n b.2) (
         ap (λ x. item.Function x (bare_stmt b.0)) g.0 ∙ ap (λ x. item.Function h x) f.0,
-        (g.1, subst (λ x. BodyIn b.0 x (bare_stmt b.0)) (sym g.0) (subst (λ x. BodyIn b.0 h x) (sym f.0) f.1)),
+        (g.1, subst (BodyIn b.0 (bare_head a.0) (bare_stmt b.0)) (body_mode_bare (head_mode pragma a.0) b.0) (subst (λ x. BodyOf b.0 x (bare_stmt b.0)) (sym g.0) (subst (λ x. BodyOf b.0 h x) (sym f.0) f.1))),
       )
 
   pub item_back : (n : NotedItem) → WellTypedItem globals pragma n → item_typed globals pragma (bare_item n) ≡ Ok n
@@ -106,9 +111,10 @@ module _ (globals : Globals) (pragma : Mode) where
   item_back (item.Static d) w = goes (static_typed globals pragma (bare_decl d)) _ d _ (static_back globals pragma d w) refl
   item_back (item.Proto h) w = goes (head_typed globals pragma (bare_head h)) _ h _ (head_back h w) refl
   item_back (item.Function h body) w =
+      let mode = body_mode (head_mode pragma h) (bare_stmt body) in let seen = variables_of mode (bare_head h) (bare_stmt body) in
       goes (head_typed globals pragma (bare_head h)) _ h _ (head_back h w.0)
-      (goes (stmt_typed globals (variables_of (bare_head h) (bare_stmt body)) (type_written h.result) (bare_stmt body) (head_mode pragma h) false) _ body _
-      (stmt_back globals (variables_of (bare_head h) (bare_stmt body)) (type_written h.result) body (head_mode pragma h) false w.1) refl)
+      (goes (stmt_typed globals seen (type_written h.result) (bare_stmt body) (head_mode pragma h) false) _ body _
+      (stmt_back globals seen (type_written h.result) body (head_mode pragma h) false (subst (BodyIn body (bare_head h) (bare_stmt body)) (sym (body_mode_bare (head_mode pragma h) body)) w.1)) refl)
 
 items_give : (globals : Globals) (pragma : Mode) (items : List Item) (ns : List NotedItem) → items_typed globals pragma items ≡ Ok ns → (map bare_item ns ≡ items) × WellTypedItems globals pragma ns
 items_give globals pragma [] ns e = subst (λ zs. (map bare_item zs ≡ []) × WellTypedItems globals pragma zs) (ok_same [] ns e) (refl, tt)

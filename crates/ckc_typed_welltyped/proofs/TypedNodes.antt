@@ -240,12 +240,12 @@ module _ (globals : Globals) (variables : List Variable) (mode : Mode) where
       }
   node_step (Node-F.Call n ks) at r h =
       let a = made_of (in_order (map (expr_typed globals variables mode) (map (λ (k : KeptExpr). k.0) ks))) _ r h in let m = all_made ks a.0 a.1 in
-      let t = made_of (call_typed globals n a.0 at) _ r a.2 in
+      let t = made_of (call_typed globals mode n a.0 at) _ r a.2 in
       record {
         layer = Node-F.Call n m.all;
         bare = ap (λ es. Node-F.Call n es) m.bare;
         ctype = t.0;
-        row = subst (λ es. IsCall globals n es t.0) m.same ((call_is globals n a.0 at t.0).0 t.1);
+        row = subst (λ es. IsCall globals mode n es t.0) m.same ((call_is globals mode n a.0 at t.0).0 t.1);
         same = sym (ok_same _ r t.2) ∙ ap (λ es. noted mode at (node.Call n es) t.0) m.same;
       }
   node_step (Node-F.Calloc w k x) at r h =

@@ -12,6 +12,7 @@ use Rattle.ckc_syntax.specs.declared.tree.Limits.{Limits-F, every-Limits}
 use Rattle.ckc_syntax.specs.declared.tree.Node.{Node-F, out-Node, every-Node}
 use Rattle.ckc_syntax.specs.declared.tree.Expr.{Expr-F, every-Expr}
 use Rattle.ckc_typed.specs.declared.environment.Globals.{Globals}
+use Rattle.ckc_typed.specs.declared.environment.Parameter.{Parameter}
 use Rattle.ckc_typed.specs.declared.environment.Signature.{Signature}
 use Rattle.ckc_typed.specs.declared.environment.Variable.{Variable}
 use Rattle.ckc_typed.specs.declared.typed.Note.{Note}
@@ -20,8 +21,8 @@ use Rattle.ckc_typed.specs.Trees.{NotedLimits, NotedNode, NotedExpr, NotedLayer}
 use Rattle.ckc_typed.specs.Types.{type_written, is_integer, is_object_type, same_type}
 use Rattle.ckc_typed.specs.Environment.{type_of_name, signature_named}
 use Rattle.ckc_typed.specs.Operands.{unary_type, binary_type, choice_type, index_type, dot_type, arrow_type, is_cast, size_type}
-use Rattle.ckc_typed.specs.Conversions.{is_null, converts, is_tested, is_trusted, is_bounds_cast}
-use Rattle.ckc_typed.specs.Expressions.{number_type, string_type, address_kind, has_address}
+use Rattle.ckc_typed.specs.Conversions.{is_null, is_tested, is_trusted, is_bounds_cast}
+use Rattle.ckc_typed.specs.Expressions.{number_type, string_type, address_kind, has_address, takes}
 
 -- `&` takes what has an address. Every other unary operator has its row.
 abbrev pub unary_row : Globals → Mode → TreeOp → NotedExpr → Option CType

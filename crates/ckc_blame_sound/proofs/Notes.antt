@@ -1,0 +1,61 @@
+-- Judging keeps the note of a statement, and with it its mode.
+use Rattle.std.proofs.Common.{◌≡◌, refl, sym, subst, ℕ, Bool, true, false}
+use Rattle.std.specs.Prelude.{Ok}
+use Rattle.ckc_base.specs.declared.places.Pos.{Pos}
+use Rattle.ckc_base.specs.Outcomes.{Outcome, bind, unless}
+use Rattle.ckc_base.proofs.Gives.{Gives, given_from, bound}
+use Rattle.ckc_syntax.specs.declared.tree.Name.{Name}
+use Rattle.ckc_syntax.specs.declared.tree.Act.{Act-F, out-Act}
+use Rattle.ckc_typed.specs.declared.typed.Note.{Note}
+use Rattle.ckc_typed.specs.Trees.{NotedExpr, NotedHead, NotedStmt}
+use Rattle.ckc_bounds.specs.ckc_bounds_points.specs.declared.frame.HeadBounds.{HeadBounds}
+use Rattle.ckc_bounds.specs.ckc_bounds_points.specs.declared.frame.Frame.{Frame}
+use Rattle.ckc_bounds.specs.ckc_bounds_points.specs.Codes.{not_contained, bad_bundle}
+use Rattle.ckc_bounds.specs.ckc_bounds_statements.specs.Paths.{Here, ActOfPaths, sides_judged, bundle_judged, act_judged, path}
+use Rattle.ckc_bounds.specs.Declarations.{head_bounds}
+use Rattle.ckc_bounds.specs.Frames.{begin_of, function_frame}
+use Rattle.ckc_bounds.specs.Texts.{body_judged}
+use Rattle.ckc_blame_sound.proofs.Bounded.{anything}
+use Rattle.ckc_blame_sound.proofs.Stepping.{viewed, judged_is}
+
+-- whatever the first gives
+past : {A B : Type 0} (P : B → Type 0) (o : Outcome A) (f : A → Outcome B) → ((a : A) → Gives P (f a)) → Gives P (bind o f)
+past P o f h = bound (λ a. Unit {0}) P o f (anything o) (λ a u. h a)
+
+unless_gives : {A : Type 0} (P : A → Type 0) (b : Bool) (code : ℕ) (at : Pos) (o : Outcome A) → Gives P o → Gives P (unless b code at o)
+unless_gives P true code at o h = tt
+unless_gives P false code at o h = h
+
+module _ (frame : Frame) (head : HeadBounds) (at : Pos) (note : Note) where
+  abbrev Kept : NotedStmt × Here → Type 0
+  Kept p = p.0.note ≡ note
+
+  sides_kept : (e f : NotedExpr) (here : Here) → Gives Kept (sides_judged frame at note e f here)
+  sides_kept e f here = past Kept _ _ (λ p. past Kept _ _ (λ q. refl))
+
+  act_kept : (x : ActOfPaths) (here : Here) → Gives Kept (act_judged x frame head at note here)
+  unfolding bundle_judged
+  act_kept (Act-F.Block m ss) here = past Kept _ _ (λ p. refl)
+  act_kept Act-F.Empty here = refl
+  act_kept (Act-F.Local d) here = past Kept _ _ (λ p. refl)
+  act_kept (Act-F.Assign e f) here = bound Kept Kept _ _ (sides_kept e f here) (λ p is. past Kept _ _ (λ h. is))
+  act_kept (Act-F.Call e) here = past Kept _ _ (λ p. refl)
+  act_kept (Act-F.If e s t) here = past Kept _ _ (λ p. past Kept _ _ (λ q. past Kept _ _ (λ r. refl)))
+  act_kept (Act-F.While e s) here = past Kept _ _ (λ p. past Kept _ _ (λ q. refl))
+  act_kept (Act-F.For s e t u) here = past Kept _ _ (λ p. past Kept _ _ (λ q. past Kept _ _ (λ r. past Kept _ _ (λ v. refl))))
+  act_kept (Act-F.Return e) here = past Kept _ _ (λ p. unless_gives Kept _ not_contained at _ refl)
+  act_kept Act-F.Break here = refl
+  act_kept Act-F.Continue here = refl
+  act_kept (Act-F.Check e) here = past Kept _ _ (λ p. refl)
+  act_kept (Act-F.Bundle ss) here = past Kept _ _ (λ p. unless_gives Kept _ bad_bundle at _ (past Kept _ _ (λ h. refl)))
+
+stmt_noted : (frame : Frame) (head : HeadBounds) (st : NotedStmt) (here : Here) → Gives (λ (p : NotedStmt × Here). p.0.note ≡ st.note) ((path st).judged frame head here)
+stmt_noted frame head st here =
+    let P : Outcome (NotedStmt × Here) → Type 0 = λ o. Gives (λ (p : NotedStmt × Here). p.0.note ≡ st.note) o in
+    subst P (sym (judged_is st frame head here)) (act_kept frame head st.pos st.note (viewed (out-Act Name Note st.body)) here)
+
+pub body_noted : (frame : Frame) (h : NotedHead) (before after : NotedStmt) → body_judged frame h before ≡ Ok after → after.note ≡ before.note
+body_noted frame h before after judged =
+    given_from (λ (s : NotedStmt). s.note ≡ before.note) (body_judged frame h before) after
+    (bound (λ (p : NotedStmt × Here). p.0.note ≡ before.note) (λ (s : NotedStmt). s.note ≡ before.note) ((path before).judged (function_frame frame h before) (head_bounds frame h) (begin_of frame h before))
+    (λ p. Ok p.0) (stmt_noted (function_frame frame h before) (head_bounds frame h) before (begin_of frame h before)) (λ p is. is)) judged
