@@ -1,22 +1,26 @@
 -- The bounds of the locals of a judged text end where a program can read it.
-use Rattle.std.proofs.Common.{◌≡◌, ◌∙◌, sym, ap, subst, refl, inl, inr, ℕ, zero, suc, List, [], ◌++◌, append-nil}
+use Rattle.std.proofs.Common.{◌≡◌, ◌∙◌, sym, ap, subst, refl, inl, inr, ℕ, zero, suc, List, ◌++◌}
 use Rattle.std.specs.Prelude.{true, Option, Some, slice_get}
 use Rattle.std.specs.List.{Contains}
+use Rattle.ckc_base.specs.declared.arithmetic.Mode.TheVariants.{Checked}
 use Rattle.ckc_linear.specs.declared.forms.Base.{Base}
 use Rattle.ckc_linear.specs.declared.forms.Form.{Form}
 use Rattle.ckc_types.specs.declared.types.CType.{CType, CType-F, out-CType}
 use Rattle.ckc_syntax.specs.declared.tree.Item.TheVariants as item
 use Rattle.ckc_typed.specs.declared.typed.Typed.{Typed}
 use Rattle.ckc_typed.specs.Trees.{NotedDecl, NotedHead, NotedStmt}
-use Rattle.ckc_typed.specs.Types.{is_integer, is_integer_form, is_pointer, is_pointer_form}
+use Rattle.ckc_typed.specs.Interfaces.{seen_params}
+use Rattle.ckc_typed.specs.Types.{is_integer, is_integer_form, is_pointer, is_pointer_form, element_of}
 use Rattle.ckc_typed.specs.Constants.{size_of}
 use Rattle.ckc_blame_sound.specs.ckc_bounds_points.specs.declared.frame.Bounds.{Bounds}
 use Rattle.ckc_blame_sound.specs.ckc_bounds_points.specs.declared.frame.Bounds.TheVariants as bounds
+use Rattle.ckc_blame_sound.specs.ckc_bounds_points.specs.declared.frame.Frame.{Frame}
 use Rattle.ckc_blame_sound.specs.ckc_bounds_points.specs.declared.frame.Local.{Local}
 use Rattle.ckc_blame_sound.specs.ckc_bounds_points.specs.Frames.{local_at}
 use Rattle.ckc_blame_sound.specs.ckc_bounds_declared.specs.declared.limits.Holder.TheVariants as holder
-use Rattle.ckc_blame_sound.specs.ckc_bounds.specs.Declarations.{types_in, declared_in}
-use Rattle.ckc_blame_sound.specs.ckc_bounds.specs.Frames.{all_of, nameless}
+use Rattle.ckc_blame_sound.specs.ckc_bounds.specs.Declarations.{types_in}
+use Rattle.ckc_blame_sound.specs.ckc_bounds.specs.Frames.{all_of, types_frame, nameless}
+use Rattle.ckc_blame_sound.specs.ckc_bounds_statements.specs.Paths.{path}
 use Rattle.ckc_source.specs.Code.{Function}
 use Rattle.ckc_build_values.specs.Ends.{integer_in_variable}
 use Rattle.ckc_build_values.specs.Kinds.{integer_of, size_behind}
@@ -25,9 +29,11 @@ use Rattle.ckc_blame_sound.specs.Ends.{IsCounted, HasElements, IsBase, IsEnd, Ar
 use Rattle.ckc_blame_sound.specs.JudgedTexts.{IsJudged}
 use Rattle.ckc_blame_declared.proofs.Ends as declared
 use Rattle.ckc_blame_sound.specs.Numbered.{AreAllLocals}
-use Rattle.ckc_blame_sound.proofs.Functions.{numbered}
+use Rattle.ckc_blame_sound.proofs.Frames.{locals_made}
+use Rattle.ckc_blame_sound.proofs.Functions.{numbered, types_numbered_so}
 use Rattle.ckc_blame_sound.proofs.Locals.{names_declared}
-use Rattle.ckc_blame_declared.proofs.Locals.{IsThere, bounds_known, declared_there, local_there, local_is, variable_there}
+use Rattle.ckc_blame_sound.proofs.Seen.{SeenAs}
+use Rattle.ckc_blame_declared.proofs.Locals.{IsSeen, types_seen, bounds_known, declared_there, local_there, local_is, variable_there}
 
 apart_forms : (f : CType-F CType) → is_integer_form f ≡ true → is_pointer_form f ≡ true → ⊥
 apart_forms CType-F.Int i p = absurd cc
@@ -46,38 +52,54 @@ module _ (p : Typed) (h : NotedHead) (body : NotedStmt) (j : IsJudged p) (there 
   numbers : AreAllLocals (names_declared (all_of h body))
   numbers = numbered p h body j there
 
-  all_there : (ds es : List NotedDecl) → ds ++ es ≡ all_of h body → AreAllLocals (names_declared (ds ++ es))
-  all_there ds es is = subst (λ cs. AreAllLocals (names_declared cs)) (sym is) numbers
+  -- what is an integer is so in the body
+  integer_seen : (t u : CType) → SeenAs t u → is_integer t ≡ true → is_integer u ≡ true
+  integer_seen t u s i = elim s [ inl e ↦ ap is_integer e ∙ i | inr w ↦ absurd (apart_forms (out-CType t) i w.0) ]
 
-  -- the parameters, with some more that are declared
-  pub counted : (ds es : List NotedDecl) → ds ++ es ≡ all_of h body → AreAllLocals (names_declared ds) → (x : ℕ) → declared.IsInteger (types_in (frame_of_text p) ds) x → IsCounted (setting_of p h body) x
+  -- what is a pointer points to the same type in the body
+  pointer_seen : (t u : CType) → SeenAs t u → is_pointer t ≡ true → (is_pointer u ≡ true) × (element_of u ≡ element_of t)
+  pointer_seen t u s i = elim s [ inl e ↦ (ap is_pointer e ∙ i, ap element_of e) | inr w ↦ (w.1, w.2) ]
+
+  -- what is seen in the body, of all whose types are known
+  pub counted : (ds : List NotedDecl) → ((d : NotedDecl) → Contains ds d → IsSeen h body d) → AreAllLocals (names_declared ds) → (x : ℕ) → declared.IsInteger (types_in (frame_of_text p) ds) x
+      → IsCounted (setting_of p h body) x
   unfolding setting_of
-  counted ds es is some zero i = tt
-  counted ds es is some (suc k) i =
-      let one = subst (λ ds'. IsThere (frame_of_text p) ds' k i.0.ctype) is (declared_there (frame_of_text p) ds es k i.0 some (all_there ds es is) i.1) in
+  counted ds seen_so some zero i = tt
+  counted ds seen_so some (suc k) i =
+      let one = declared_there (frame_of_text p) h body ds k i.0 seen_so some numbers i.1 in
       let v = variable_there p h body k one.local j there one.there one.few in
       record {
         local = one.local;
         there = local_there (frame_of_text p) h body k one.local one.there one.few;
-        integer = subst (λ t. is_integer t ≡ true) (sym one.same) i.2;
+        integer = integer_seen i.0.ctype one.local.ctype one.same i.2;
         same = ap (λ o. integer_in_variable o) v.named ∙ ap integer_of (sym v.same);
       }
 
-  pub like : (ds es : List NotedDecl) → ds ++ es ≡ all_of h body → AreAllLocals (names_declared ds) → (t : CType) (k : ℕ) → declared.IsLike (types_in (frame_of_text p) ds) t k
+  pub like : (ds : List NotedDecl) → ((d : NotedDecl) → Contains ds d → IsSeen h body d) → AreAllLocals (names_declared ds) → (t : CType) (k : ℕ) → declared.IsLike (types_in (frame_of_text p) ds) t k
       → HasElements (setting_of p h body) (size_behind p.layout t) k
   unfolding setting_of
-  like ds es is some t k i =
-      let one = subst (λ ds'. IsThere (frame_of_text p) ds' k i.local.ctype) is (declared_there (frame_of_text p) ds es k i.local some (all_there ds es is) i.there) in
+  like ds seen_so some t k i =
+      let one = declared_there (frame_of_text p) h body ds k i.local seen_so some numbers i.there in
+      let w = pointer_seen i.local.ctype one.local.ctype one.same i.pointer in
       record {
         local = one.local;
         there = local_there (frame_of_text p) h body k one.local one.there one.few;
-        pointer = subst (λ u. is_pointer u ≡ true) (sym one.same) i.pointer;
-        sized = ap (λ u. size_behind p.layout u) one.same ∙ ap (λ u. size_of p.layout u) (sym i.same);
+        pointer = w.0;
+        sized = ap (λ u. size_of p.layout u) (w.1 ∙ sym i.same);
       }
+
+  abbrev typed : List NotedDecl
+  typed = seen_params Checked h ++ (path body).declared
+
+  abbrev types : Frame
+  types = types_frame (frame_of_text p) h body
+
+  named : AreAllLocals (names_declared typed)
+  named = types_numbered_so p h body j there
 
   -- an end of the bounds of a local
   ended : (k : ℕ) (l : Local) (f : Form) → local_at (setting_of p h body).frame k ≡ Some l → is_pointer l.ctype ≡ true
-      → declared.IsEnd (types_in (frame_of_text p) (all_of h body)) (holder.Local k) l.ctype f → IsEnd (setting_of p h body) (size_behind p.layout l.ctype) f
+      → declared.IsEnd types (holder.Local k) l.ctype f → IsEnd (setting_of p h body) (size_behind p.layout l.ctype) f
   unfolding setting_of
   ended k l f at pointer e =
       let size = size_behind p.layout l.ctype in
@@ -86,27 +108,27 @@ module _ (p : Typed) (h : NotedHead) (body : NotedStmt) (j : IsJudged p) (there 
         base = elim e.base [
           | inl i ↦ subst B (sym i) (record { local = l; there = at; pointer = pointer; sized = refl })
           | inr i ↦ elim i [
-            | inl n ↦ subst B (sym n.1) (like (all_of h body) [] (append-nil (all_of h body)) numbers l.ctype n.0 n.2)
+            | inl n ↦ subst B (sym n.1) (like typed (types_seen h body) named l.ctype n.0 n.2)
             | inr n ↦ subst B (sym n.1) tt
           ]
         ];
-        variable = counted (all_of h body) [] (append-nil (all_of h body)) numbers f.var e.variable;
+        variable = counted typed (types_seen h body) named f.var e.variable;
       }
 
   known_ends : (k : ℕ) (l : Local) (b : Bounds) → local_at (setting_of p h body).frame k ≡ Some l
-      → declared.AreKnown (types_in (frame_of_text p) (all_of h body)) (holder.Local k) l.ctype b → AreEnds (setting_of p h body) (size_behind p.layout l.ctype) b
+      → declared.AreKnown types (holder.Local k) l.ctype b → AreEnds (setting_of p h body) (size_behind p.layout l.ctype) b
   known_ends k l bounds.Unknown at w = tt
   known_ends k l (bounds.Known low high) at w = (ended k l low at w.pointer w.begins, ended k l high at w.pointer w.ends)
 
-  declared_ends : (k : ℕ) (l : Local) → local_at (setting_of p h body).frame k ≡ Some l → slice_get (declared_in (frame_of_text p) (all_of h body)) k ≡ Some l → HasEnds (setting_of p h body) l
+  declared_ends : (k : ℕ) (l : Local) → local_at (setting_of p h body).frame k ≡ Some l → slice_get (locals_made (frame_of_text p) h body) k ≡ Some l → HasEnds (setting_of p h body) l
   unfolding setting_of
   declared_ends k l at e =
-      let w = bounds_known (frame_of_text p) (all_of h body) k l numbers e in
+      let w = bounds_known types (all_of h body) k l numbers e in
       record {
         ends = known_ends k l l.bounds at w;
         integer = unbounded l l.bounds (λ f. f) (λ low high f.
-            (let v : declared.AreKnown (types_in (frame_of_text p) (all_of h body)) (holder.Local k) l.ctype (bounds.Known low high) =
-            subst (declared.AreKnown (types_in (frame_of_text p) (all_of h body)) (holder.Local k) l.ctype) f w in v.pointer));
+            (let v : declared.AreKnown types (holder.Local k) l.ctype (bounds.Known low high) =
+            subst (declared.AreKnown types (holder.Local k) l.ctype) f w in v.pointer));
       }
 
   fresh_ends : (l : Local) → l ≡ nameless → HasEnds (setting_of p h body) l

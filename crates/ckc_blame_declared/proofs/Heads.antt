@@ -1,9 +1,10 @@
 -- What a head says of its parameters and its result.
 use Rattle.std.proofs.Common.{◌≡◌, ◌∙◌, sym, subst, refl, inl, inr, arith, ℕ, suc, ◌+◌, ◌<◌, List, [], ◌++◌, length}
-use Rattle.std.specs.Prelude.{◌⊎◌, ◌==◌, Bool, true, false, ◌||◌, Option, Some, slice_get}
+use Rattle.std.specs.Prelude.{◌==◌, Bool, true, false, ◌||◌, Option, Some, slice_get}
 use Rattle.std.specs.List.{Contains}
 use Rattle.std.proofs.lemmas.Bool.{eqb-true}
 use Rattle.std.proofs.lemmas.Option.{slice_get_within}
+use Rattle.ckc_base.specs.declared.arithmetic.Mode.TheVariants.{Checked}
 use Rattle.ckc_linear.specs.declared.forms.Base.{Base}
 use Rattle.ckc_linear.specs.declared.forms.Base.TheVariants as base
 use Rattle.ckc_linear.specs.declared.forms.Form.{Form}
@@ -11,6 +12,7 @@ use Rattle.ckc_types.specs.declared.types.CType.{CType}
 use Rattle.ckc_syntax.specs.declared.tree.Item.TheVariants as item
 use Rattle.ckc_syntax.specs.declared.tree.Length.TheVariants as lengths
 use Rattle.ckc_typed.specs.declared.typed.Typed.{Typed}
+use Rattle.ckc_typed.specs.Interfaces.{seen_params}
 use Rattle.ckc_typed.specs.Trees.{NotedDecl, NotedHead, NotedStmt}
 use Rattle.ckc_typed.specs.Types.{type_written}
 use Rattle.ckc_blame_sound.specs.ckc_bounds_points.specs.declared.frame.Bounds.{Bounds}
@@ -22,8 +24,7 @@ use Rattle.ckc_blame_sound.specs.ckc_bounds_points.specs.Frames.{local_at}
 use Rattle.ckc_blame_sound.specs.ckc_bounds_declared.specs.declared.limits.Holder.{Holder}
 use Rattle.ckc_blame_sound.specs.ckc_bounds_declared.specs.declared.limits.Holder.TheVariants as holder
 use Rattle.ckc_blame_sound.specs.ckc_bounds_declared.specs.Written.{own}
-use Rattle.ckc_blame_sound.specs.ckc_bounds.specs.Declarations.{result_bounds, all_made, few_of, types_in, declared_in, head_bounds}
-use Rattle.ckc_blame_sound.specs.ckc_bounds_statements.specs.Paths.{path}
+use Rattle.ckc_blame_sound.specs.ckc_bounds.specs.Declarations.{result_bounds, all_made, few_of, types_in, params_frame, declared_in, head_bounds}
 use Rattle.ckc_source.specs.Code.{Function}
 use Rattle.ckc_build_values.specs.Kinds.{size_behind}
 use Rattle.ckc_blame_sound.specs.Settings.{Setting, IsFunction, frame_of_text, setting_of}
@@ -34,15 +35,12 @@ use Rattle.ckc_blame_sound.proofs.ByNumber.{made_length}
 use Rattle.ckc_blame_sound.proofs.Frames.{first_at}
 use Rattle.ckc_blame_sound.proofs.Functions.{params_own}
 use Rattle.ckc_blame_sound.proofs.Locals.{names_declared}
+use Rattle.ckc_blame_sound.proofs.Tests.{either}
 use Rattle.ckc_blame_declared.proofs.Ends.{IsFrom, IsInteger, IsEnd, AreKnown, declared_is}
 use Rattle.ckc_blame_declared.proofs.HaveEnds.{counted, like}
-use Rattle.ckc_blame_declared.proofs.Locals.{known, bounds_known}
+use Rattle.ckc_blame_declared.proofs.Locals.{known, params_seen, bounds_known}
 
 -- ---- what bounds name
-
-either : (a b : Bool) → (a || b) ≡ true → (a ≡ true) ⊎ (b ≡ true)
-either true b e = inl refl
-either false b e = inr e
 
 -- what has the bounds is one of the first locals, if it is a local
 abbrev IsOwnWithin : Holder → ℕ → Type 0
@@ -95,17 +93,17 @@ module _ (frame : Frame) (ds : List NotedDecl) (h : Holder) (w : IsOwnWithin h (
 pub parameter_names : (frame : Frame) (ds : List NotedDecl) (k : ℕ) (l : Local) → AreAllLocals (names_declared ds) → slice_get (declared_in frame ds) k ≡ Some l → (j : ℕ) → in_bounds j l.bounds ≡ true
     → j < length (declared_in frame ds)
 parameter_names frame ds k l numbers e j n =
-    bounds_within frame ds (holder.Local k) (slice_get_within (declared_in frame ds) k l e) l.ctype l.bounds j (bounds_known frame ds k l numbers e) n
+    bounds_within frame ds (holder.Local k) (slice_get_within (declared_in frame ds) k l e) l.ctype l.bounds j (bounds_known (types_in frame ds) ds k l numbers e) n
 
 -- ---- the result
 
-pub result_known : (frame : Frame) (h : NotedHead) → AreKnown (types_in frame h.params) holder.Result (type_written h.result) (head_bounds frame h).bounds
+pub result_known : (frame : Frame) (h : NotedHead) → AreKnown (params_frame frame h) holder.Result (type_written h.result) (head_bounds frame h).bounds
 result_known frame h =
-    known (AreKnown (types_in frame h.params) holder.Result (type_written h.result)) tt (result_bounds (types_in frame h.params) h)
-    (declared_is (types_in frame h.params) holder.Result (type_written h.result) lengths.Plain h.bounds refl)
+    known (AreKnown (params_frame frame h) holder.Result (type_written h.result)) tt (result_bounds (params_frame frame h) h)
+    (declared_is (params_frame frame h) holder.Result (type_written h.result) lengths.Plain h.bounds refl)
 
 module _ (p : Typed) (h : NotedHead) (body : NotedStmt) (j : IsJudged p) (there : Contains p.tree.items (item.Function h body)) where
-  result_end : (f : Form) → IsEnd (types_in (frame_of_text p) h.params) holder.Result (type_written h.result) f → IsResultEnd (setting_of p h body) (size_behind p.layout (type_written h.result)) f
+  result_end : (f : Form) → IsEnd (params_frame (frame_of_text p) h) holder.Result (type_written h.result) f → IsResultEnd (setting_of p h body) (size_behind p.layout (type_written h.result)) f
   unfolding setting_of
   result_end f e =
       let t = type_written h.result in
@@ -114,11 +112,11 @@ module _ (p : Typed) (h : NotedHead) (body : NotedStmt) (j : IsJudged p) (there 
         base = elim e.base [
           | inl i ↦ subst B (sym i) refl
           | inr i ↦ elim i [
-            | inl n ↦ subst B (sym n.1) (like p h body j there h.params (path body).declared refl (params_own p h body j there) t n.0 n.2)
+            | inl n ↦ subst B (sym n.1) (like p h body j there (seen_params Checked h) (params_seen h body) (params_own p h body j there Checked) t n.0 n.2)
             | inr n ↦ subst B (sym n.1) tt
           ]
         ];
-        variable = counted p h body j there h.params (path body).declared refl (params_own p h body j there) f.var e.variable;
+        variable = counted p h body j there (seen_params Checked h) (params_seen h body) (params_own p h body j there Checked) f.var e.variable;
       }
 
   result_there : (low high : Form) → (setting_of p h body).head.bounds ≡ bounds.Known low high
@@ -126,12 +124,12 @@ module _ (p : Typed) (h : NotedHead) (body : NotedStmt) (j : IsJudged p) (there 
   unfolding setting_of
   result_there low high e =
       let frame = frame_of_text p in
-      let k : AreKnown (types_in frame h.params) holder.Result (type_written h.result) (bounds.Known low high) =
-      subst (AreKnown (types_in frame h.params) holder.Result (type_written h.result)) e (result_known frame h) in
+      let k : AreKnown (params_frame frame h) holder.Result (type_written h.result) (bounds.Known low high) =
+      subst (AreKnown (params_frame frame h) holder.Result (type_written h.result)) e (result_known frame h) in
       record {
         low_end = result_end low k.begins;
         high_end = result_end high k.ends;
-        named = λ i n. bounds_within frame h.params holder.Result tt (type_written h.result) (bounds.Known low high) i k n;
+        named = λ i n. bounds_within frame (seen_params Checked h) holder.Result tt (type_written h.result) (bounds.Known low high) i k n;
       }
 
   abbrev Told : Setting → Type 0

@@ -7,3 +7,4 @@ pub mod More
 pub mod Parameters
 pub mod Results
 pub mod Integers
+pub mod Interfaces

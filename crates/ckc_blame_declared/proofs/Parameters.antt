@@ -1,34 +1,47 @@
 -- The parameters that a head tells are the first locals of its function.
-use Rattle.std.proofs.Common.{◌≡◌, ◌∙◌, sym, ap, subst, refl, arith, ℕ, zero, suc, ◌+◌, ◌<◌, List, [], ◌∷◌, ◌++◌, map, length, length-append, append-nil}
-use Rattle.std.specs.Prelude.{All, Bool, true, false, Some, slice_get, Ok, Err}
+use Rattle.std.proofs.Common.{◌≡◌, ◌∙◌, sym, ap, subst, refl, inl, inr, arith, ℕ, zero, suc, ◌+◌, ◌<◌, List, [], ◌∷◌, ◌++◌, map, length, length-append, append-nil}
+use Rattle.std.specs.Prelude.{◌⊎◌, All, Bool, true, false, if◌then◌else◌, Option, Some, None, slice_get, Ok, Err}
 use Rattle.std.specs.List.{Contains}
 use Rattle.std.specs.Option.{option_map}
-use Rattle.std.proofs.lemmas.List.Elements.{All-nil, All-cons, All-contains, Contains-append_left}
+use Rattle.std.proofs.lemmas.List.Elements.{All-nil, All-cons, All-head, All-tail, All-contains, Contains-append_left}
 use Rattle.std.proofs.lemmas.Option.{slice_get-map, slice_get_within}
+use Rattle.ckc_base.specs.declared.arithmetic.Mode.TheVariants.{Checked}
 use Rattle.ckc_base.specs.Outcomes.{Outcome}
+use Rattle.ckc_base.proofs.Outcomes.{unbroken}
 use Rattle.ckc_base.proofs.Gives.{Gives, given_from, bound, itself}
+use Rattle.ckc_types.specs.declared.types.Kind.TheVariants as kind
+use Rattle.ckc_linear.specs.declared.forms.Base.TheVariants as base
+use Rattle.ckc_syntax.specs.declared.tree.Name.{Name}
 use Rattle.ckc_syntax.specs.declared.tree.Name.TheVariants as name
+use Rattle.ckc_syntax.specs.declared.tree.Limits.{out-Limits}
 use Rattle.ckc_syntax.specs.declared.tree.Item.TheVariants as item
+use Rattle.ckc_typed.specs.declared.typed.Note.{Note}
 use Rattle.ckc_typed.specs.declared.typed.Typed.{Typed}
 use Rattle.ckc_typed.specs.Environment.{variables_of}
-use Rattle.ckc_typed.specs.Trees.{NotedDecl, NotedHead, NotedStmt, NotedItem}
-use Rattle.ckc_typed.specs.Types.{type_written}
+use Rattle.ckc_typed.specs.Interfaces.{is_interface, seen, seen_params}
+use Rattle.ckc_typed.specs.Trees.{NotedLimits, NotedDecl, NotedHead, NotedStmt, NotedItem}
+use Rattle.ckc_typed.specs.Types.{type_written, is_pointer, is_pointer_form, element_in, element_of, kind_in}
+use Rattle.ckc_typed.proofs.Seen.{name_seen, plain_seen}
 use Rattle.ckc_blame_sound.specs.ckc_bounds_points.specs.declared.frame.Bounds.{Bounds}
 use Rattle.ckc_blame_sound.specs.ckc_bounds_points.specs.declared.frame.Frame.{Frame}
 use Rattle.ckc_blame_sound.specs.ckc_bounds_points.specs.declared.frame.Local.{Local}
+use Rattle.ckc_blame_sound.specs.ckc_bounds_points.specs.Codes.{bad_limits}
 use Rattle.ckc_blame_sound.specs.ckc_bounds_declared.specs.declared.limits.Holder.TheVariants as holder
+use Rattle.ckc_blame_sound.specs.ckc_bounds_declared.specs.Written.{bounds_of_kind, bounds_by_type, place_of_limits, bounds_declared}
 use Rattle.ckc_blame_sound.specs.ckc_bounds_statements.specs.DeclBounds.{holder_of, decl_bounds, bounds_there}
 use Rattle.ckc_blame_sound.specs.ckc_bounds_statements.specs.Paths.{path}
-use Rattle.ckc_blame_sound.specs.ckc_bounds.specs.Declarations.{member_holder, each, few_of, known_or_not, local_made, all_made, types_in, declared_in, head_judged, result_bounds}
-use Rattle.ckc_blame_sound.specs.ckc_bounds.specs.Frames.{all_of}
+use Rattle.ckc_blame_sound.specs.ckc_bounds.specs.Declarations.{member_holder, each, are_unknown_form, interface_bounds, param_bounds, few_of, known_or_not, local_made, all_made, types_in, params_frame, declared_in, head_judged, result_bounds}
+use Rattle.ckc_blame_sound.specs.ckc_bounds.specs.Frames.{all_of, types_frame}
 use Rattle.ckc_blame_sound.specs.ckc_bounds.specs.Texts.{members_judged, object_judged, body_judged, head_kept, item_judged, items_judged}
 use Rattle.ckc_source.specs.Code.{Function}
 use Rattle.ckc_blame_sound.specs.Settings.{Setting, IsFunction, frame_of_text, setting_of}
-use Rattle.ckc_blame_sound.specs.Passed.{AreParameters}
+use Rattle.ckc_blame_sound.specs.Passed.{AreParameters, IsUnjudged}
 use Rattle.ckc_blame_sound.specs.JudgedTexts.{IsJudged}
 use Rattle.ckc_blame_sound.proofs.Bounded.{is_bounded, anything}
-use Rattle.ckc_blame_sound.proofs.Frames.{first_at, first_keeps, locals_counted}
-use Rattle.ckc_blame_sound.proofs.Functions.{params_own, numbered}
+use Rattle.ckc_blame_sound.proofs.Frames.{first_at, first_keeps, locals_made, locals_counted}
+use Rattle.ckc_blame_sound.proofs.Functions.{params_own, numbered, types_numbered_so}
+use Rattle.ckc_blame_sound.proofs.Bodies.{contains_made}
+use Rattle.ckc_blame_sound.proofs.Seen.{IsShared, seen_in, seen_type, pointer_out}
 use Rattle.ckc_blame_sound.specs.Numbered.{AreAllLocals}
 use Rattle.ckc_blame_sound.proofs.ByNumber.{at_index, all_at, declaration_at}
 use Rattle.ckc_blame_sound.proofs.Locals.{names_declared}
@@ -63,23 +76,58 @@ each_well {A} (o ∷ os) =
     by a e (Ok u) h = All-cons IsJudgedWell o os (a, e) h
     by a e (Err r) h = tt
 
+-- the bounds of an interface are not `bounds(unknown)`
+abbrev pub IsToldForm : Option NotedLimits → Type 0
+IsToldForm None = Unit {0}
+IsToldForm (Some l) = are_unknown_form (out-Limits Name Note l) ≡ false
+
+-- A parameter has bounds among the parameters, as its callers see it.
+pub record IsParamWell (types : Frame) (d : NotedDecl) : Type 0 where
+  pub judged : IsJudgedWell (bounds_there types (seen Checked d))
+  pub told : is_interface d ≡ true → IsToldForm d.bounds
+
 pub record IsHeadWell (frame : Frame) (h : NotedHead) : Type 0 where
-  pub params : All IsJudgedWell (map (bounds_there (types_in frame h.params)) h.params)
-  pub result : IsJudgedWell (result_bounds (types_in frame h.params) h)
+  pub params : All IsJudgedWell (map (bounds_there (params_frame frame h)) (seen_params Checked h))
+  pub interfaces : All (IsParamWell (params_frame frame h)) h.params
+  pub result : IsJudgedWell (result_bounds (params_frame frame h) h)
 
 abbrev IsItemWell : Frame → NotedItem → Type 0
 IsItemWell frame (item.Function h body) = IsHeadWell frame h
 IsItemWell frame i = Unit {0}
 
+interface_well : (types : Frame) (d : NotedDecl) (l : Option NotedLimits) (b : Bounds) → interface_bounds types (seen Checked d) l ≡ Ok b → (bounds_there types (seen Checked d) ≡ Ok b) × IsToldForm l
+interface_well types d None b e = (e, tt)
+interface_well types d (Some l) b e =
+    let w = unbroken (are_unknown_form (out-Limits Name Note l)) bad_limits (place_of_limits l) (bounds_there types (seen Checked d)) b e in (w.1, w.0)
+
+param_well : (types : Frame) (d : NotedDecl) → IsJudgedWell (param_bounds types d) → IsParamWell types d
+param_well types d w = by (is_interface d) refl w.1
+  where
+    by : (b : Bool) → is_interface d ≡ b → (if b then interface_bounds types (seen Checked d) d.bounds else bounds_there types d) ≡ Ok w.0 → IsParamWell types d
+    by true is e = let i = interface_well types d d.bounds w.0 e in record { judged = (w.0, i.0); told = λ k. i.1 }
+    by false is e = record { judged = (w.0, ap (bounds_there types) (plain_seen Checked d is) ∙ e); told = λ k. absurd (let f : true ≡ false = sym k ∙ is in cc) }
+
+params_well : (types : Frame) (ds : List NotedDecl) → All IsJudgedWell (map (param_bounds types) ds) → All (IsParamWell types) ds
+params_well types [] all = All-nil (IsParamWell types)
+params_well types (d ∷ ds) all =
+    All-cons (IsParamWell types) d ds (param_well types d (All-head IsJudgedWell (param_bounds types d) (map (param_bounds types) ds) all))
+    (params_well types ds (All-tail IsJudgedWell (param_bounds types d) (map (param_bounds types) ds) all))
+
+seen_well : (types : Frame) (ds : List NotedDecl) → All (IsParamWell types) ds → All IsJudgedWell (map (bounds_there types) (map (seen Checked) ds))
+seen_well types [] all = All-nil IsJudgedWell
+seen_well types (d ∷ ds) all =
+    All-cons IsJudgedWell (bounds_there types (seen Checked d)) (map (bounds_there types) (map (seen Checked) ds)) (All-head (IsParamWell types) d ds all).judged
+    (seen_well types ds (All-tail (IsParamWell types) d ds all))
+
 head_well : (frame : Frame) (h : NotedHead) → Gives (λ (g : NotedHead). (g ≡ h) × IsHeadWell frame h) (head_kept frame h)
 head_well frame h =
-    let T = types_in frame h.params in
+    let T = params_frame frame h in
     bound {A = Bounds} (λ b. IsHeadWell frame h) (λ (g : NotedHead). (g ≡ h) × IsHeadWell frame h) (head_judged T h) (λ b. Ok h)
-    (bound {A = Unit {0}} (λ u. All IsJudgedWell (map (bounds_there T) h.params)) (λ (b : Bounds). IsHeadWell frame h) (each (map (bounds_there T) h.params)) (λ u. result_bounds T h)
-    (each_well (map (bounds_there T) h.params)) (λ u all. by (result_bounds T h) refl all)) (λ b w. (refl, w))
+    (bound {A = Unit {0}} (λ u. All IsJudgedWell (map (param_bounds T) h.params)) (λ (b : Bounds). IsHeadWell frame h) (each (map (param_bounds T) h.params)) (λ u. result_bounds T h)
+    (each_well (map (param_bounds T) h.params)) (λ u all. by (result_bounds T h) refl (params_well T h.params all))) (λ b w. (refl, w))
   where
-    by : (o : Outcome Bounds) → result_bounds (types_in frame h.params) h ≡ o → All IsJudgedWell (map (bounds_there (types_in frame h.params)) h.params) → Gives (λ (b : Bounds). IsHeadWell frame h) o
-    by (Ok b) e all = record { params = all; result = (b, e) }
+    by : (o : Outcome Bounds) → result_bounds (params_frame frame h) h ≡ o → All (IsParamWell (params_frame frame h)) h.params → Gives (λ (b : Bounds). IsHeadWell frame h) o
+    by (Ok b) e all = record { params = seen_well (params_frame frame h) h.params all; interfaces = all; result = (b, e) }
     by (Err r) e all = tt
 
 item_well : (frame : Frame) (i : NotedItem) → Gives (IsItemWell frame) (item_judged frame i)
@@ -107,38 +155,101 @@ function_well p j h body there =
 -- ---- parameters
 
 module _ (p : Typed) (j : IsJudged p) (h : NotedHead) (body : NotedStmt) (there : Contains p.tree.items (item.Function h body)) where
-  some : AreAllLocals (names_declared h.params)
-  some = params_own p h body j there
+  abbrev params : List NotedDecl
+  params = seen_params Checked h
 
-  knows : (es : List NotedDecl) → AreAllLocals (names_declared (h.params ++ es)) → KnowsAs (types_in (frame_of_text j.typed) h.params) (types_in (frame_of_text p) (h.params ++ es))
-  knows es all = knows_more (frame_of_text j.typed) (frame_of_text p) h.params es some all (is_bounded j.typed p j.has_bounds).layout (is_bounded j.typed p j.has_bounds).statics
+  some : AreAllLocals (names_declared params)
+  some = params_own p h body j there Checked
+
+  knows : (es : List NotedDecl) → AreAllLocals (names_declared (params ++ es)) → KnowsAs (params_frame (frame_of_text j.typed) h) (types_in (frame_of_text p) (params ++ es))
+  knows es all = knows_more (frame_of_text j.typed) (frame_of_text p) params es some all (is_bounded j.typed p j.has_bounds).layout (is_bounded j.typed p j.has_bounds).statics
 
   -- its bounds as they were judged
-  judged_at : (k : ℕ) (d : NotedDecl) → Contains h.params d → d.name ≡ name.Local k → (b : Bounds) × (decl_bounds (types_in (frame_of_text j.typed) h.params) (holder.Local k) d ≡ Ok b)
+  judged_at : (k : ℕ) (d : NotedDecl) → Contains params d → d.name ≡ name.Local k → (b : Bounds) × (decl_bounds (params_frame (frame_of_text j.typed) h) (holder.Local k) d ≡ Ok b)
   judged_at k d c named =
-      let T = types_in (frame_of_text j.typed) h.params in
-      let at = at_index h.params d c in
-      let one = All-contains IsJudgedWell (map (bounds_there T) h.params) (bounds_there T d) (function_well p j h body there).params
-      (contains_at (map (bounds_there T) h.params) at.0 (bounds_there T d) (slice_get-map (bounds_there T) h.params at.0 ∙ ap (option_map (bounds_there T)) at.1)) in
+      let T = params_frame (frame_of_text j.typed) h in
+      let at = at_index params d c in
+      let one = All-contains IsJudgedWell (map (bounds_there T) params) (bounds_there T d) (function_well p j h body there).params
+      (contains_at (map (bounds_there T) params) at.0 (bounds_there T d) (slice_get-map (bounds_there T) params at.0 ∙ ap (option_map (bounds_there T)) at.1)) in
       (one.0, subst (λ n. decl_bounds T (holder_of n) d ≡ Ok one.0) named one.1)
 
-  made_same : (k : ℕ) (d : NotedDecl) (es : List NotedDecl) (b : Bounds) → AreAllLocals (names_declared (h.params ++ es)) → decl_bounds (types_in (frame_of_text j.typed) h.params) (holder.Local k) d ≡ Ok b
-      → local_made (types_in (frame_of_text p) (h.params ++ es)) true k d ≡ record { ctype = type_written d.ctype; bounds = b }
+  made_same : (k : ℕ) (d : NotedDecl) (es : List NotedDecl) (b : Bounds) → AreAllLocals (names_declared (params ++ es)) → decl_bounds (params_frame (frame_of_text j.typed) h) (holder.Local k) d ≡ Ok b
+      → local_made (types_in (frame_of_text p) (params ++ es)) true k d ≡ record { ctype = type_written d.ctype; bounds = b }
   made_same k d es b all e =
-      let f = declared_stays (types_in (frame_of_text j.typed) h.params) (types_in (frame_of_text p) (h.params ++ es)) (knows es all) (holder.Local k) (type_written d.ctype) d.length d.bounds b e in
+      let f = declared_stays (params_frame (frame_of_text j.typed) h) (types_in (frame_of_text p) (params ++ es)) (knows es all) (holder.Local k) (type_written d.ctype) d.length d.bounds b e in
       ap (λ (o : Outcome Bounds). record { ctype = type_written d.ctype; bounds = known_or_not o }) f
 
-  parameter_declared : (k : ℕ) (l : Local) → slice_get (declared_in (frame_of_text p) h.params) k ≡ Some l → slice_get (declared_in (frame_of_text p) (all_of h body)) k ≡ Some l
-  parameter_declared k l e =
+  -- a parameter as its head tells it, by its bounds as they were judged
+  pub told_so : (k : ℕ) (d : NotedDecl) (c : Contains params d) (named : d.name ≡ name.Local k)
+      → local_made (params_frame (frame_of_text p) h) true k d ≡ record { ctype = type_written d.ctype; bounds = (judged_at k d c named).0 }
+  told_so k d c named =
+      let b = judged_at k d c named in
+      let alone : AreAllLocals (names_declared (params ++ [])) = subst (λ ds. AreAllLocals (names_declared ds)) (sym (append-nil params)) some in
+      subst (λ (ds : List NotedDecl). local_made (types_in (frame_of_text p) ds) true k d ≡ record { ctype = type_written d.ctype; bounds = b.0 }) (append-nil params) (made_same k d [] b.0 alone b.1)
+
+  -- and as a checked body has it
+  pub made_so : (k : ℕ) (d : NotedDecl) (c : Contains params d) (named : d.name ≡ name.Local k)
+      → local_made (types_frame (frame_of_text p) h body) true k d ≡ record { ctype = type_written d.ctype; bounds = (judged_at k d c named).0 }
+  made_so k d c named = made_same k d (path body).declared (judged_at k d c named).0 (types_numbered_so p h body j there) (judged_at k d c named).1
+
+  -- an interface that a body does not judge
+  pub unjudged : (types : Frame) (k : ℕ) (x y : NotedDecl) (l : Local) → l ≡ local_made (params_frame (frame_of_text p) h) true k y → IsShared x y → IsUnjudged l (local_made types true k x)
+  unjudged types k x y l is s =
+      let shared = seen_type x y (inr s) in
+      record {
+        bounds = ap (λ (o : Option NotedLimits). known_or_not (bounds_declared types (holder.Local k) (type_written x.ctype) x.length o)) s.bounds
+            ∙ ap (λ t. bounds_by_type (base.Local k) t) s.written ∙ ap (λ f. bounds_of_kind (base.Local k) (kind_in f)) (pointer_out kind.Raw s.to);
+        passed = ap (λ (z : Local). is_pointer z.ctype) is ∙ ap is_pointer s.passed ∙ ap is_pointer_form (pointer_out kind.Arr s.to);
+        seen = ap is_pointer s.written ∙ ap is_pointer_form (pointer_out kind.Raw s.to);
+        element = ap element_of s.written ∙ ap element_in (pointer_out kind.Raw s.to) ∙ sym (ap element_in (pointer_out kind.Arr s.to)) ∙ sym (ap element_of s.passed) ∙ sym (ap (λ (z : Local). element_of z.ctype) is);
+      }
+
+  -- a parameter of a head, as it is written and as the body has it
+  pub record IsParam (k : ℕ) (l : Local) : Type 0 where
+    pub written : NotedDecl
+    pub among : Contains h.params written
+    pub named : written.name ≡ name.Local k
+    pub told : l ≡ local_made (params_frame (frame_of_text p) h) true k (seen Checked written)
+    pub made : slice_get (locals_made (frame_of_text p) h body) k ≡ Some (local_made (types_frame (frame_of_text p) h body) true k (seen body.note.mode written))
+
+  pub param_is : (k : ℕ) (l : Local) → slice_get (declared_in (frame_of_text p) params) k ≡ Some l → IsParam k l
+  param_is k l e =
       let frame = frame_of_text p in
+      let mode = body.note.mode in
       let es = (path body).declared in
-      let all = numbered p h body j there in
-      let d = declaration_at (types_in frame h.params) true h.params k l some e in
-      let b = judged_at k d.0 d.1 d.2 in
-      let alone : AreAllLocals (names_declared (h.params ++ [])) = subst (λ ds. AreAllLocals (names_declared ds)) (sym (append-nil h.params)) some in
-      let first : local_made (types_in frame h.params) true k d.0 ≡ record { ctype = type_written d.0.ctype; bounds = b.0 } =
-      subst (λ (ds : List NotedDecl). local_made (types_in frame ds) true k d.0 ≡ record { ctype = type_written d.0.ctype; bounds = b.0 }) (append-nil h.params) (made_same k d.0 [] b.0 alone b.1) in
-      all_at (types_in frame (h.params ++ es)) true (h.params ++ es) k d.0 all (Contains-append_left h.params es d.0 d.1) d.2 ∙ ap (λ (x : Local). Some x) (made_same k d.0 es b.0 all b.1 ∙ sym first ∙ sym d.3)
+      let d = declaration_at (params_frame frame h) true params k l some e in
+      let at = at_index params d.0 d.1 in
+      let from = written_at h.params at.0 d.0 at.1 in
+      let named : from.0.name ≡ name.Local k = sym (name_seen Checked from.0) ∙ ap (λ (x : NotedDecl). x.name) from.2 ∙ d.2 in
+      record {
+        written = from.0;
+        among = from.1;
+        named = named;
+        told = d.3 ∙ ap (local_made (params_frame frame h) true k) (sym from.2);
+        made = all_at (types_frame frame h body) true (all_of h body) k (seen mode from.0) (numbered p h body j there)
+            (Contains-append_left (seen_params mode h) es (seen mode from.0) (contains_made (seen mode) h.params from.0 from.1)) (name_seen mode from.0 ∙ named);
+      }
+    where
+      written_at : (ds : List NotedDecl) (i : ℕ) (d : NotedDecl) → slice_get (map (seen Checked) ds) i ≡ Some d → (e : NotedDecl) × Contains ds e × (seen Checked e ≡ d)
+      written_at ds i d e = by (slice_get ds i) refl (sym (slice_get-map (seen Checked) ds i) ∙ e)
+        where
+          by : (o : Option NotedDecl) → slice_get ds i ≡ o → option_map (seen Checked) o ≡ Some d → (e : NotedDecl) × Contains ds e × (seen Checked e ≡ d)
+          by (Some x) is f = (x, contains_at ds i x is, cc)
+          by None is f = absurd cc
+
+  parameter_declared : (k : ℕ) (l : Local) → slice_get (declared_in (frame_of_text p) params) k ≡ Some l
+      → (m : Local) × (slice_get (locals_made (frame_of_text p) h body) k ≡ Some m) × ((m ≡ l) ⊎ IsUnjudged l m)
+  parameter_declared k l e =
+      let types = types_frame (frame_of_text p) h body in
+      let a = param_is k l e in
+      let d = a.written in
+      let y = seen Checked d in
+      let c : Contains params y = contains_made (seen Checked) h.params d a.among in
+      let named : y.name ≡ name.Local k = name_seen Checked d ∙ a.named in
+      (local_made types true k (seen body.note.mode d), a.made, elim (seen_in body.note.mode d) [
+        | inl same ↦ inl (ap (local_made types true k) same ∙ made_so k y c named ∙ sym (told_so k y c named) ∙ sym a.told)
+        | inr s ↦ inr (unjudged types k (seen body.note.mode d) y l a.told s)
+      ])
 
   abbrev Has : Setting → Type 0
   Has s = length s.variables < 1024 → AreParameters s s.head.params
@@ -148,10 +259,10 @@ module _ (p : Typed) (j : IsJudged p) (h : NotedHead) (body : NotedStmt) (there 
   have few = record {
     there = λ k l e.
         (let f = parameter_declared k l e in
-        let less : k < length (declared_in (frame_of_text p) (all_of h body)) = slice_get_within (declared_in (frame_of_text p) (all_of h body)) k l f in
-        let below : k < length (variables_of h body) = subst (λ n. k < n) (locals_counted (frame_of_text p) h body) less in
-        local_there (frame_of_text p) h body k l f (omega (arith, below, few)));
-    named = λ k l e i n. parameter_names (frame_of_text p) h.params k l some e i n;
+        let less : k < length (locals_made (frame_of_text p) h body) = slice_get_within (locals_made (frame_of_text p) h body) k f.0 f.1 in
+        let below : k < length (variables_of body.note.mode h body) = subst (λ n. k < n) (locals_counted (frame_of_text p) h body) less in
+        (f.0, local_there (frame_of_text p) h body k f.0 f.1 (omega (arith, below, few)), f.2));
+    named = λ k l e i n. parameter_names (frame_of_text p) params k l some e i n;
   }
 
 pub parameters_are_locals : (p : Typed) (s : Setting) (f : Function) → IsJudged p → IsFunction p s f → length s.variables < 1024 → AreParameters s s.head.params

@@ -4,6 +4,7 @@ use Rattle.std.specs.Prelude.{◌⊎◌, ◌+◌, ◌-◌, ◌^◌, ◌==◌, Bo
 use Rattle.ckc_base.proofs.Gives.{Gives}
 use Rattle.std.proofs.lemmas.Bool.{eqb-true}
 use Rattle.std.proofs.lemmas.Int.{ints}
+use Rattle.ckc_base.specs.declared.arithmetic.Mode.TheVariants.{Checked}
 use Rattle.ckc_types.specs.declared.types.CType.{CType}
 use Rattle.ckc_types.specs.declared.types.Kind.{Kind}
 use Rattle.ckc_types.specs.declared.types.Kind.TheVariants as kind
@@ -27,6 +28,7 @@ use Rattle.ckc_typed.specs.Constants.{constant, constant_of_node, limits_constan
 use Rattle.ckc_typed.specs.declared.environment.Amount.{Amount}
 use Rattle.ckc_typed.specs.declared.typed.StaticObject.{StaticObject}
 use Rattle.ckc_typed.specs.declared.typed.Typed.{Typed}
+use Rattle.ckc_typed.specs.Interfaces.{seen_params}
 use Rattle.ckc_typed.specs.Operands.{same_element}
 use Rattle.ckc_typed.specs.Trees.{NotedDecl, NotedHead, NotedStmt, NotedLimits, NotedNode, NotedExpr, NotedLayer}
 use Rattle.ckc_typed.specs.Types.{is_integer, kind_of, type_written}
@@ -41,7 +43,7 @@ use Rattle.ckc_blame_sound.specs.ckc_bounds_points.specs.Frames.{local_at, varia
 use Rattle.ckc_blame_sound.specs.ckc_bounds_points.specs.Shown.{is_within}
 use Rattle.ckc_blame_sound.specs.ckc_bounds_declared.specs.declared.limits.Holder.TheVariants as holder
 use Rattle.ckc_blame_sound.specs.ckc_bounds_declared.specs.Written.{variable_for, amount_with, amount_form, is_checked, local_base, is_element, array_base, named_base, named_pieces, negative_amount, node_pieces, sum_pieces, bound_with, bound, counted, known_between, bounds_written, takes_bounds, bounds_of_kind, place_of_limits, bounds_declared}
-use Rattle.ckc_blame_sound.specs.ckc_bounds.specs.Declarations.{types_in, result_bounds}
+use Rattle.ckc_blame_sound.specs.ckc_bounds.specs.Declarations.{types_in, params_frame, result_bounds}
 use Rattle.ckc_source.specs.declared.expr.Base as ends
 use Rattle.ckc_source.specs.declared.expr.Base.TheVariants as lies
 use Rattle.ckc_source.specs.declared.expr.End.{End}
@@ -369,7 +371,7 @@ module _ (s : Setting) (ds : List NotedDecl) where
 
   -- ---- bounds
 
-  abbrev IsTold : CType → Option Limits → Bounds → Type 0
+  abbrev pub IsTold : CType → Option Limits → Bounds → Type 0
   IsTold t o bounds.Unknown = Unit {0}
   IsTold t o (bounds.Known low high) = o ≡ Some (limits_between s.text.layout t (result_end s low) (result_end s high))
 
@@ -480,15 +482,15 @@ module _ (s : Setting) (ds : List NotedDecl) where
 
 module _ (p : Typed) (h : NotedHead) (body : NotedStmt) where
   abbrev IsResultOf : Setting → Type 0
-  IsResultOf s = (low high : Form) → s.head.bounds ≡ bounds.Known low high → result_limits p (variables_of h body) (type_written h.result) h.bounds ≡ Some (result_between s low high)
+  IsResultOf s = (low high : Form) → s.head.bounds ≡ bounds.Known low high → result_limits p (variables_of body.note.mode h body) (type_written h.result) h.bounds ≡ Some (result_between s low high)
 
   pub result_of : IsResultOf (setting_of p h body)
   unfolding setting_of
   result_of low high e =
       let s = setting_of p h body in
-      let told = known (IsTold s h.params (type_written h.result) (result_limits p (variables_of h body) (type_written h.result) h.bounds)) tt
-      (result_bounds (types_in (frame_of_text p) h.params) h) (declared_told s h.params (type_written h.result) lengths.Plain h.bounds) in
-      subst (IsTold s h.params (type_written h.result) (result_limits p (variables_of h body) (type_written h.result) h.bounds)) e told
+      let told = known (IsTold s (seen_params Checked h) (type_written h.result) (result_limits p (variables_of body.note.mode h body) (type_written h.result) h.bounds)) tt
+      (result_bounds (params_frame (frame_of_text p) h) h) (declared_told s (seen_params Checked h) (type_written h.result) lengths.Plain h.bounds) in
+      subst (IsTold s (seen_params Checked h) (type_written h.result) (result_limits p (variables_of body.note.mode h body) (type_written h.result) h.bounds)) e told
 
 pub results_are_told : (p : Typed) (s : Setting) (f : Function) (low high : Form) → IsFunction p s f → s.head.bounds ≡ bounds.Known low high → f.result ≡ Some (result_between s low high)
 results_are_told p s f low high is e =

@@ -1,6 +1,6 @@
 //! What follows from the definitions alone, each the contract of a function that does nothing.
 
-ghost use Rattle.std.specs.Prelude.{◌≡◌, ℕ, ◌<◌, length, Some};
+ghost use Rattle.std.specs.Prelude.{◌≡◌, ℕ, ◌<◌, true, [], length, slice_get, Some, Ok};
 ghost use Rattle.ckc_linear.specs.declared.forms.Form.{Form};
 ghost use Rattle.ckc_types.specs.declared.types.CType.{CType};
 ghost use Rattle.ckc_types.specs.declared.types.MemberBounds.{MemberBounds};
@@ -8,12 +8,16 @@ ghost use Rattle.ckc_types.specs.declared.types.Structs.{Structs};
 ghost use Rattle.ckc_typed.specs.declared.typed.Typed.{Typed};
 ghost use Rattle.ckc_typed.specs.Trees.{NotedExpr};
 ghost use Rattle.ckc_blame_sound.specs.ckc_bounds_points.specs.declared.frame.Bounds.TheVariants as bounds;
+ghost use Rattle.ckc_blame_sound.specs.ckc_bounds_points.specs.Frames.{local_at};
 ghost use Rattle.ckc_blame_sound.specs.ckc_bounds_stores.specs.Targets.{bounds_by_member, memory_bounds};
 ghost use Rattle.ckc_source.specs.Code.{Function};
+ghost use Rattle.ckc_source.specs.Eval.{Store};
+ghost use Rattle.ckc_source.specs.Steps.{reads_interfaces};
 ghost use Rattle.ckc_source.specs.declared.expr.Count.{Count};
 ghost use Rattle.ckc_build_values.specs.Kinds.{size_behind};
 ghost use Rattle.ckc_build_values.specs.Members.{count_by};
 ghost use Rattle.ckc_blame_sound.specs.Settings.{Setting, IsFunction};
+ghost use Rattle.ckc_blame_sound.specs.Points.{IsBounded};
 ghost use Rattle.ckc_blame_sound.specs.Elements.{NameIntegerMembers};
 ghost use Rattle.ckc_blame_sound.specs.Ends.{HaveEnds};
 ghost use Rattle.ckc_blame_sound.specs.Memory.{AreOwn};

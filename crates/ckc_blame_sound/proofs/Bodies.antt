@@ -137,7 +137,7 @@ bodies_are_typed p j h body there =
 
 -- ---- what is declared
 
-contains_made : {A B : Type 0} (f : A → B) (xs : List A) (x : A) → Contains xs x → Contains (map f xs) (f x)
+pub contains_made : {A B : Type 0} (f : A → B) (xs : List A) (x : A) → Contains xs x → Contains (map f xs) (f x)
 contains_made f xs x h = All-contains (λ y. Contains (map f xs) (f y)) xs x (all_made (Contains (map f xs)) f xs (All-contains_itself (map f xs))) h
 
 locals_same : (before body : NotedStmt) → bare_stmt body ≡ bare_stmt before → locals_of before ≡ locals_of body

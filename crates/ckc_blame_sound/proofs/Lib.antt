@@ -50,6 +50,7 @@ pub mod Numbers
 pub mod Locals
 pub mod Functions
 pub mod ByNumber
+pub mod Seen
 pub mod Frames
 pub mod Sizes
 pub mod Every
