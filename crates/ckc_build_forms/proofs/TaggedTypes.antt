@@ -34,7 +34,7 @@ use Rattle.ckc_typed_fit.specs.Tests.{Tests, Walked, type_parts, type_passes, de
 use Rattle.ckc_blame_steps.specs.ckc_bounds_known.proofs.Reaching.{and_cases}
 use Rattle.ckc_blame_steps.specs.ckc_blame_sound.proofs.Lists.{found}
 use Rattle.ckc_blame_steps.specs.ckc_blame_sound.proofs.Members.{members_are}
-use Rattle.ckc_blame_steps.proofs.Interfaces.{seen_written}
+use Rattle.ckc_blame_steps.specs.ckc_blame_sound.proofs.Seen.{seen_written}
 use Rattle.ckc_blame_steps.proofs.SmallNames.{members_have, members_of_item, shapes_have}
 use Rattle.ckc_blame_steps.specs.ckc_blame_walk.proofs.Sized.{tag_tests}
 use Rattle.ckc_blame_steps.specs.ckc_blame_walk.proofs.Sizes.{HasMembers, sized, tag_sized}
