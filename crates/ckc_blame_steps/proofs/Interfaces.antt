@@ -1,5 +1,5 @@
 -- Interfaces, as callers and bodies see them: their types are pointers, whatever places and notes a tree has.
-use Rattle.std.proofs.Common.{rules, ◌≡◌, ◌∙◌, ◌⊎◌, ⊎_elim, inl, inr, refl, sym, ap, subst, ℕ, zero, suc, Bool, true, false, List, [], ◌∷◌, map}
+use Rattle.std.proofs.Common.{rules, ◌≡◌, ◌∙◌, ⊎_elim, refl, sym, ap, subst, ℕ, zero, suc, Bool, true, false, List, [], ◌∷◌, map}
 use Rattle.std.specs.Prelude.{if◌then◌else◌, ◌&&◌, ◌||◌, not, slice_get, Option, None, Some, is_some}
 use Rattle.std.specs.Option.{option_map}
 use Rattle.std.proofs.lemmas.Bool.{and_parts}
@@ -20,39 +20,19 @@ use Rattle.ckc_typed.specs.Environment.{parameter_declared}
 use Rattle.ckc_typed.specs.Interfaces.{may_be_shared, shared_in, interface_to, is_interface, seen_as, seen}
 use Rattle.ckc_typed.specs.Operands.{is_raw_kind}
 use Rattle.ckc_typed.specs.Trees.{TypeTree, NotedDecl, NotedExpr}
-use Rattle.ckc_typed.specs.Types.{written_parts, type_written, element_in, is_char, is_char_form, is_integer_form, is_pointer_form, is_object_type, is_scalar, is_scalar_type, kind_of}
+use Rattle.ckc_typed.specs.Types.{type_written, element_in, is_char, is_char_form, is_integer_form, is_pointer_form, is_object_type, is_scalar, is_scalar_type, kind_of}
 use Rattle.ckc_typed_welltyped.specs.Expressions as typing
 use Rattle.ckc_blame_sound.specs.ckc_bounds_views.specs.Judged.{is_owed}
 use Rattle.ckc_blame_sound.specs.ckc_bounds_views.specs.Parts.{View}
 use Rattle.ckc_blame_sound.specs.ckc_bounds_views.specs.Views.{view}
 use Rattle.ckc_blame_sound.specs.Settings.{Setting}
 use Rattle.ckc_blame_sound.proofs.ByNumber.{types_declared}
+use Rattle.ckc_blame_sound.proofs.Seen.{seen_written}
 use Rattle.ckc_blame_given.proofs.Pointers.{viewed_type}
 use Rattle.ckc_blame_steps.proofs.ObjectTypes.{element_is_object, pointer_is_object}
 use Rattle.ckc_blame_steps.proofs.Pointees.{pointer_out}
 
 -- ---- types
-
-abbrev written_in : TypeTree-F Name TypeTree → TypeTree-F Name CType
-written_in = map-TypeTree Name TypeTree CType type_written
-
-arr_written : (t : TypeTree) → type_written (types.Arr t) ≡ ctype.Pointer kind.Arr (type_written t)
-arr_written t = ap type_written (sym (types.rolls-Arr t)) ∙ fold-roll-TypeTree Name CType written_parts (TypeTree-F.Arr t)
-
-raw_written : (x : TypeTree-F Name TypeTree) (t : TypeTree) → shared_in x ≡ Some t → written_parts (written_in x) ≡ ctype.Pointer kind.Raw (type_written t)
-raw_written (TypeTree-F.Raw u at) t e = by (may_be_shared (out-TypeTree Name u)) e
-  where
-    by : (b : Bool) → (if b then Some u else None) ≡ Some t → ctype.Pointer kind.Raw (type_written u) ≡ ctype.Pointer kind.Raw (type_written t)
-    by true e = let same : u ≡ t = cc in ap (λ (w : TypeTree). ctype.Pointer kind.Raw (type_written w)) same
-    by false e = absurd cc
-raw_written TypeTree-F.Int t e = absurd cc
-raw_written TypeTree-F.Unsigned t e = absurd cc
-raw_written TypeTree-F.Char t e = absurd cc
-raw_written TypeTree-F.Void t e = absurd cc
-raw_written (TypeTree-F.Struct n at) t e = absurd cc
-raw_written (TypeTree-F.One u) t e = absurd cc
-raw_written (TypeTree-F.Arr u) t e = absurd cc
-raw_written (TypeTree-F.Nt u) t e = absurd cc
 
 shared_scalar : (u : CType) → is_scalar_type (ctype.Pointer kind.Raw u) ≡ true → is_scalar_type (ctype.Pointer kind.Arr u) ≡ true
 shared_scalar u s =
@@ -65,24 +45,6 @@ shared_scalar u s =
     ap (λ b. b && is_object_type arr) scalar ∙ pointer_is_object kind.Arr u pointee (λ h. absurd cc)
 
 module _ {A : Type 0} where
-  interface_written : (d : Decl Name A) (t : TypeTree) → interface_to d ≡ Some t → type_written d.ctype ≡ ctype.Pointer kind.Raw (type_written t)
-  interface_written d t e = by (is_some d.bounds) e
-    where
-      by : (b : Bool) → (if b then shared_in (out-TypeTree Name d.ctype) else None) ≡ Some t → type_written d.ctype ≡ ctype.Pointer kind.Raw (type_written t)
-      by true e = fold_out-TypeTree Name CType written_parts d.ctype ∙ raw_written (out-TypeTree Name d.ctype) t e
-      by false e = absurd cc
-
-  -- A parameter is seen with the type that is written, or as an `_Array_ptr` in place of a `T *`.
-  seen_written : (mode : Mode) (d : Decl Name A) → (type_written (seen mode d).ctype ≡ type_written d.ctype)
-      ⊎ ((u : CType) × (type_written d.ctype ≡ ctype.Pointer kind.Raw u) × (type_written (seen mode d).ctype ≡ ctype.Pointer kind.Arr u))
-  seen_written mode d = by mode (interface_to d) refl
-    where
-      by : (mode : Mode) (o : Option TypeTree) → interface_to d ≡ o → (type_written (seen_as mode d o).ctype ≡ type_written d.ctype)
-          ⊎ ((u : CType) × (type_written d.ctype ≡ ctype.Pointer kind.Raw u) × (type_written (seen_as mode d o).ctype ≡ ctype.Pointer kind.Arr u))
-      by mode None e = inl refl
-      by Unchecked (Some t) e = inl refl
-      by Checked (Some t) e = inr (type_written t, interface_written d t e, arr_written t)
-
   pub char_seen : (mode : Mode) (d : Decl Name A) → is_char (type_written (seen mode d).ctype) ≡ is_char (type_written d.ctype)
   char_seen mode d = ⊎_elim
       (λ e. ap is_char e)

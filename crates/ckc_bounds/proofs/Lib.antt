@@ -1,5 +1,6 @@
 pub mod Frames
 pub mod Lists
+pub mod Seen
 pub mod CodedTexts
 pub mod WholeBodies
 pub mod LocalsJoined

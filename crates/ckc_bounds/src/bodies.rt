@@ -2,16 +2,18 @@
 
 ghost use Rattle.std.specs.Prelude.{◌≡◌, [], ◌++◌, flat_map, length, replicate, IfOk, OnOk};
 ghost use Rattle.ckc_base.specs.Outcomes.{AnswersOutcome};
+ghost use Rattle.ckc_typed.specs.Interfaces.{seen_params};
 ghost use Rattle.ckc_bounds.specs.Declarations.{all_made};
 ghost use Rattle.ckc_bounds.specs.code.Declarations.{text_of};
-ghost use Rattle.ckc_bounds.specs.Frames.{all_of, name_seen, begin_in, counted, fresh_needed, nameless, with_nameless, locals_frame, first_fresh, frame_by};
+ghost use Rattle.ckc_bounds.specs.Frames.{name_seen, begin_in, counted, fresh_needed, nameless, with_nameless, locals_frame, first_fresh, frame_by};
 ghost use Rattle.ckc_bounds.specs.Texts.{body_judged};
+ghost use Rattle.ckc_bounds_statements.specs.Paths.{path};
 ghost use Rattle.ckc_bounds_statements.specs.Walks.{here};
 
 use crate::declared::{clear, set_locals};
 use crate::heads::head_bounds;
 use crate::locals::{Turn, add_params, add_stmt};
-use ckc_base::{Fault, Seq};
+use ckc_base::{Fault, Mode, Seq};
 use ckc_bounds_points::{Bounds, Frame, HeadBounds, Local, Work, entry, fit_row};
 use ckc_bounds_statements::{Walk, add_name, judge_stmt, may_need};
 use ckc_syntax::{Decl, Head, Name, Stmt};
@@ -20,26 +22,23 @@ use ckc_types::CType;
 use core::mem::replace;
 use std::alloc::{AllocError, Global};
 
-/// The parameters and the locals of a function, by their types alone or with their bounds.
+/// The parameters of a function, as code of a mode sees them, and its locals, by their types alone or with their bounds.
 fn variables(
     alloc: Global,
     frame: &Frame,
     bounded: bool,
+    mode: Mode,
     h: &Head<Name, Note>,
     body: &Stmt<Name, Note>,
 ) -> Result<Seq<Local>, AllocError>
-    ensures { IfOk result (λ r. r ≡ all_made frame.now bounded (all_of h.now body.now)) }
+    ensures { IfOk result (λ r.
+        r ≡ all_made frame.now bounded (seen_params mode h.now ++ (path body.now).declared)) }
 {
     let mut all = Seq::new(alloc);
-    add_params(alloc, frame, Turn::Counts, h.params.as_slice(), &mut all)?;
+    let ds = h.params.as_slice();
+    add_params(alloc, frame, Turn::Counts, mode, ds, &mut all)?;
     add_stmt(alloc, frame, Turn::Counts, body, &mut all)?;
-    add_params(
-        alloc,
-        frame,
-        Turn::Places(bounded),
-        h.params.as_slice(),
-        &mut all,
-    )?;
+    add_params(alloc, frame, Turn::Places(bounded), mode, ds, &mut all)?;
     add_stmt(alloc, frame, Turn::Places(bounded), body, &mut all)?;
     Ok(all)
 }
@@ -67,9 +66,9 @@ fn set_variables(
     ensures frame { OnOk result (frame.new ≡ locals_frame (text_of frame.old) h.now body.now) }
 {
     clear(alloc, frame);
-    let bare = variables(alloc, frame, false, h, body)?;
+    let bare = variables(alloc, frame, false, Mode::Checked, h, body)?;
     set_locals(frame, bare)?;
-    let all = variables(alloc, frame, true, h, body)?;
+    let all = variables(alloc, frame, true, body.note.mode, h, body)?;
     let first = count(all.as_slice())?;
     set_locals(frame, all)?;
     Ok(first)

@@ -1,57 +1,77 @@
 //! The heads of the functions and the objects of a text.
 
-ghost use Rattle.std.specs.Prelude.{◌≡◌, [], IfOk, OnOk};
-ghost use Rattle.ckc_bounds.specs.Declarations.{all_made, types_in, declared_in, head_bounds, is_function_at, with_head, with_item, heads_from, object_bounds, with_object, objects_of};
+ghost use Rattle.std.specs.Prelude.{◌≡◌, [], map, IfOk, OnOk};
+ghost use Rattle.ckc_base.specs.declared.arithmetic.Mode.TheVariants.{Checked};
+ghost use Rattle.ckc_typed.specs.Interfaces.{is_interface, seen_params};
+ghost use Rattle.ckc_bounds.specs.Declarations.{all_made, params_frame, head_bounds, is_function_at, with_head, with_item, heads_from, object_bounds, with_object, objects_of};
 ghost use Rattle.ckc_bounds.specs.code.Declarations.{text_of};
 
 use crate::declared::{clear, known_bounds, known_result, set_locals};
 use crate::locals::{Turn, add_params};
-use ckc_base::Seq;
+use ckc_base::{Mode, Seq};
 use ckc_bounds_declared::Holder;
 use ckc_bounds_points::{Bounds, Frame, HeadBounds, Local};
 use ckc_syntax::{Decl, Head, Item, Name};
 use ckc_typed::Note;
+use ckc_typed::interfaces::is_interface;
 use ckc_typed::types::type_written;
 use std::alloc::{AllocError, Global};
 
-/// The parameters of a function as its locals, by their types alone or with their bounds.
+/// The parameters of a function as its callers see them, as its locals, by their types alone or with their bounds.
 fn params_made(
     alloc: Global,
     frame: &Frame,
     bounded: bool,
-    ds: &[Decl<Name, Note>],
+    h: &Head<Name, Note>,
 ) -> Result<Seq<Local>, AllocError>
-    ensures { IfOk result (λ r. r ≡ all_made frame.now bounded ds.now) }
+    ensures { IfOk result (λ r. r ≡ all_made frame.now bounded (seen_params Checked h.now)) }
 {
     let mut all = Seq::new(alloc);
-    add_params(alloc, frame, Turn::Counts, ds, &mut all)?;
-    add_params(alloc, frame, Turn::Places(bounded), ds, &mut all)?;
+    let ds = h.params.as_slice();
+    add_params(alloc, frame, Turn::Counts, Mode::Checked, ds, &mut all)?;
+    add_params(
+        alloc,
+        frame,
+        Turn::Places(bounded),
+        Mode::Checked,
+        ds,
+        &mut all,
+    )?;
     Ok(all)
 }
 
 /// Makes the parameters of a function the locals of a frame, by their types alone.
-pub fn set_types(
-    alloc: Global,
-    frame: &mut Frame,
-    ds: &[Decl<Name, Note>],
-) -> Result<(), AllocError>
-    ensures { OnOk result (frame.new ≡ types_in (text_of frame.old) ds.now) }
+pub fn set_types(alloc: Global, frame: &mut Frame, h: &Head<Name, Note>) -> Result<(), AllocError>
+    ensures { OnOk result (frame.new ≡ params_frame (text_of frame.old) h.now) }
 {
     clear(alloc, frame);
-    let bare = params_made(alloc, frame, false, ds)?;
+    let bare = params_made(alloc, frame, false, h)?;
     set_locals(frame, bare)
+}
+
+/// Which parameters are interfaces.
+fn interfaces_in(alloc: Global, ds: &[Decl<Name, Note>]) -> Result<Seq<bool>, AllocError>
+    ensures { IfOk result (λ r. r ≡ map is_interface ds.now) }
+{
+    let mut all = Seq::new(alloc);
+    for d in ds {
+        all.push(is_interface(d))?;
+    }
+    Ok(all)
 }
 
 /// What a head says of bounds, in a frame with its parameters as the locals.
 fn head_in(alloc: Global, frame: &Frame, h: &Head<Name, Note>) -> Result<HeadBounds, AllocError>
-    ensures { (text : Frame) → frame.now ≡ types_in text h.now.params
+    ensures { (text : Frame) → frame.now ≡ params_frame text h.now
         → IfOk result (λ r. r ≡ head_bounds text h.now) }
 {
-    let params = params_made(alloc, frame, true, h.params.as_slice())?;
+    let params = params_made(alloc, frame, true, h)?;
+    let interfaces = interfaces_in(alloc, h.params.as_slice())?;
     let t = type_written(alloc, &h.result)?;
     let bounds = known_result(alloc, frame, h)?;
     Ok(HeadBounds {
         params,
+        interfaces,
         result: t,
         bounds,
     })
@@ -66,7 +86,7 @@ pub fn head_bounds(
     ensures bounds { IfOk result (λ r. r ≡ head_bounds (text_of frame.old) h.now) }
     ensures kept { OnOk result (text_of frame.new ≡ text_of frame.old) }
 {
-    set_types(alloc, frame, h.params.as_slice())?;
+    set_types(alloc, frame, h)?;
     head_in(alloc, frame, h)
 }
 

@@ -82,7 +82,7 @@ fn judge_head(
     ensures judged { AnswersOutcome result (head_kept (text_of frame.old) h.now) }
     ensures kept { OnOk result (text_of frame.new ≡ text_of frame.old) }
 {
-    set_types(alloc, frame, h.params.as_slice())?;
+    set_types(alloc, frame, h)?;
     head_fits(alloc, frame, h)?;
     let copy = boxed_head(alloc, h)?;
     Ok(copy)

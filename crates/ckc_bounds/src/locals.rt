@@ -2,17 +2,19 @@
 
 ghost use Rattle.std.specs.Prelude.{◌≡◌, ◌∷◌, [], ◌++◌, map, slice_set, IfOk, OnOk};
 ghost use Rattle.std.specs.Option.{option_map};
+ghost use Rattle.ckc_typed.specs.Interfaces.{seen};
 ghost use Rattle.ckc_bounds.specs.Declarations.{local_made, nameless, with_local};
 ghost use Rattle.ckc_bounds.specs.code.Declarations.{with_turn, with_turns};
 ghost use Rattle.ckc_bounds_statements.specs.code.Parts.{all_declared, there_declared};
 ghost use Rattle.ckc_bounds_statements.specs.Paths.{path, path_of_act};
 
-use crate::declared::known_bounds;
-use ckc_base::{Boxed, Seq};
+use crate::declared::{known_bounds, known_param};
+use ckc_base::{Boxed, Mode, Seq};
 use ckc_bounds_declared::Holder;
 use ckc_bounds_points::{Bounds, Frame, Local};
 use ckc_syntax::{Act, Decl, Name, Stmt};
 use ckc_typed::Note;
+use ckc_typed::interfaces::type_seen;
 use ckc_typed::types::type_written;
 use ckc_types::CType;
 use core::mem::replace;
@@ -31,6 +33,29 @@ fn local_made(
     let ctype = type_written(alloc, &d.ctype)?;
     if bounded {
         let bounds = known_bounds(alloc, frame, Holder::Local(k), d)?;
+        Ok(Local { ctype, bounds })
+    } else {
+        Ok(Local {
+            ctype,
+            bounds: Bounds::Unknown,
+        })
+    }
+}
+
+/// A parameter as code of a mode sees it, by its type alone or with its bounds.
+fn param_made(
+    alloc: Global,
+    frame: &Frame,
+    bounded: bool,
+    mode: Mode,
+    k: u32,
+    d: &Decl<Name, Note>,
+) -> Result<Local, AllocError>
+    ensures { IfOk result (λ r. r ≡ local_made frame.now bounded k (seen mode d.now)) }
+{
+    let ctype = type_seen(alloc, mode, d)?;
+    if bounded {
+        let bounds = known_param(alloc, frame, Holder::Local(k), mode, d)?;
         Ok(Local { ctype, bounds })
     } else {
         Ok(Local {
@@ -79,6 +104,27 @@ fn place_local(
     }
 }
 
+fn place_param(
+    alloc: Global,
+    frame: &Frame,
+    bounded: bool,
+    mode: Mode,
+    d: &Decl<Name, Note>,
+    all: &mut Seq<Local>,
+) -> Result<(), AllocError>
+    ensures { OnOk result
+        (all.new ≡ with_local frame.now bounded all.old d.now.name (seen mode d.now)) }
+{
+    match d.name {
+        Name::Local(k) => {
+            let local = param_made(alloc, frame, bounded, mode, k, d)?;
+            put(alloc, k, local, all);
+            Ok(())
+        }
+        _ => Ok(()),
+    }
+}
+
 /// Makes room for a local. A function of an accepted text has fewer than 1,024.
 fn count_local(all: &mut Seq<Local>) -> Result<(), AllocError>
     ensures { OnOk result (all.new ≡ all.old ++ nameless ∷ []) }
@@ -107,18 +153,36 @@ fn add_local(
     }
 }
 
-/// Takes a turn for each parameter of a function.
+#[tactic(auto, using(crate::proofs::Seen::same_name))]
+fn add_param(
+    alloc: Global,
+    frame: &Frame,
+    turn: Turn,
+    mode: Mode,
+    d: &Decl<Name, Note>,
+    all: &mut Seq<Local>,
+) -> Result<(), AllocError>
+    ensures { OnOk result (all.new ≡ with_turn frame.now turn all.old (seen mode d.now)) }
+{
+    match turn {
+        Turn::Counts => count_local(all),
+        Turn::Places(bounded) => place_param(alloc, frame, bounded, mode, d, all),
+    }
+}
+
+/// Takes a turn for each parameter of a function, as code of a mode sees it.
 pub fn add_params(
     alloc: Global,
     frame: &Frame,
     turn: Turn,
+    mode: Mode,
     ds: &[Decl<Name, Note>],
     all: &mut Seq<Local>,
 ) -> Result<(), AllocError>
-    ensures { OnOk result (all.new ≡ with_turns frame.now turn all.old ds.now) }
+    ensures { OnOk result (all.new ≡ with_turns frame.now turn all.old (map (seen mode) ds.now)) }
 {
     for d in ds {
-        add_local(alloc, frame, turn, d, all)?;
+        add_param(alloc, frame, turn, mode, d, all)?;
     }
     Ok(())
 }

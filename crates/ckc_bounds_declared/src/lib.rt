@@ -3,4 +3,4 @@
 
 mod limits;
 
-pub use limits::{Holder, bounds_by_type, bounds_declared};
+pub use limits::{Holder, bounds_by_type, bounds_declared, bounds_given};

@@ -1,6 +1,7 @@
 //! Declared bounds: which forms they may have, and what they stand for.
 
 ghost use Rattle.std.specs.Prelude.{◌≡◌, IfOk, slice_get};
+ghost use Rattle.std.specs.Option.{option_copied};
 ghost use Rattle.ckc_base.specs.Outcomes.{AnswersOutcome};
 ghost use Rattle.ckc_syntax.specs.declared.tree.Limits.{out-Limits};
 ghost use Rattle.ckc_syntax.specs.declared.tree.Node.{out-Node};
@@ -389,8 +390,32 @@ fn bounds_taken(
     Ok(None)
 }
 
-/// What a declaration's bounds are, or E603 at their first token if they have no such form. If none are written, the
+/// What a declaration's bounds are, or E603 at their first token if they have no such form. If none are given, the
 /// bounds of its type.
+pub fn bounds_given(
+    alloc: Global,
+    frame: &Frame,
+    holder: Holder,
+    t: &CType,
+    length: Length,
+    limits: Option<&Limits<Name, Note>>,
+) -> Result<Bounds, Fault>
+    ensures { AnswersOutcome result
+        (bounds_declared frame.now holder t.now length (option_copied limits.entry)) }
+{
+    match limits {
+        Some(l) => {
+            let taken = bounds_taken(alloc, frame, holder, t, length, l)?;
+            match taken {
+                Some(bounds) => Ok(bounds),
+                None => Err(refused(BAD_LIMITS, place_of_limits(l))),
+            }
+        }
+        None => Ok(bounds_by_type(own(holder), t)),
+    }
+}
+
+/// The same, by the bounds that are written.
 pub fn bounds_declared(
     alloc: Global,
     frame: &Frame,
@@ -402,13 +427,7 @@ pub fn bounds_declared(
     ensures { AnswersOutcome result (bounds_declared frame.now holder t.now length limits.now) }
 {
     match limits {
-        Some(l) => {
-            let taken = bounds_taken(alloc, frame, holder, t, length, l.get())?;
-            match taken {
-                Some(bounds) => Ok(bounds),
-                None => Err(refused(BAD_LIMITS, place_of_limits(l.get()))),
-            }
-        }
-        None => Ok(bounds_by_type(own(holder), t)),
+        Some(l) => bounds_given(alloc, frame, holder, t, length, Some(l.get())),
+        None => bounds_given(alloc, frame, holder, t, length, None),
     }
 }

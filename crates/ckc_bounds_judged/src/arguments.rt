@@ -1,17 +1,17 @@
 //! Whether the arguments of a call are contained in the bounds of its parameters.
 
-ghost use Rattle.std.specs.Prelude.{◌≡◌, [], map, slice_get, IfOk, OnOk, Some};
+ghost use Rattle.std.specs.Prelude.{◌≡◌, ◌||◌, [], map, slice_get, IfOk, OnOk, Some};
 ghost use Rattle.ckc_bounds_extents.specs.ckc_bounds_points.specs.Shown.{known};
 ghost use Rattle.ckc_bounds_extents.specs.ckc_bounds_points.specs.Flow.{state};
 ghost use Rattle.ckc_bounds_extents.specs.ckc_bounds_views.specs.Arguments.{bases_by, variables_by};
-ghost use Rattle.ckc_bounds_extents.specs.ckc_bounds_views.specs.Judged.{extended_by, facts_for, is_argument, arguments_fault, head_fault, call_fault};
+ghost use Rattle.ckc_bounds_extents.specs.ckc_bounds_views.specs.Judged.{extended_by, facts_for, is_owed, is_argument, head_fault, call_fault};
 ghost use Rattle.ckc_bounds_extents.specs.ckc_bounds_views.specs.Views.{view};
 
 use ckc_base::{Refusal, Seq};
 use ckc_bounds_extents::bounds_points::codes::NOT_CONTAINED;
 use ckc_bounds_extents::bounds_points::{Bounds, Frame, HeadBounds, Local, Point, Work, copied};
 use ckc_bounds_extents::bounds_ranges::{Ends, extend, is_contained, replaced_bounds};
-use ckc_bounds_extents::bounds_views::{bases_by, values, variables_by};
+use ckc_bounds_extents::bounds_views::{bases_by, is_raw, values, variables_by};
 use ckc_bounds_extents::{add_fresh_ranges, fresh_behind, is_null, range};
 use ckc_linear::Facts;
 use ckc_syntax::{Expr, Name};
@@ -130,37 +130,43 @@ fn is_argument_at(
     }
 }
 
-fn arguments_fault(
+/// Whether the argument with a number goes to an interface as the unchecked pointer that it is, which is not judged.
+fn is_owed(frame: &Frame, head: &HeadBounds, n: u32, e: &Expr<Name, Note>) -> bool
+    ensures { result ≡ is_owed (slice_get head.now.interfaces n) (view frame.now e.now) }
+{
+    match head.interfaces.get(n as usize) {
+        Some(is_interface) => *is_interface && is_raw(&e.note.ctype),
+        None => false,
+    }
+}
+
+/// Whether the argument with a number is contained in the bounds of its parameter, or is not judged.
+fn may_pass(
     work: &mut Work,
     frame: &Frame,
     at: &Point,
-    params: &[Local],
+    head: &HeadBounds,
     es: &[Expr<Name, Note>],
+    n: u32,
+    e: &Expr<Name, Note>,
+    first_value: u32,
     first_fresh: u32,
-) -> Result<Option<Refusal>, AllocError>
+) -> Result<bool, AllocError>
     ensures { let views = map (view frame.now) es.now in
-        IfOk result (λ r. r ≡ arguments_fault (λ facts. bases_by params.now 0 0 facts views)
-        (λ facts. variables_by params.now 0 facts views) params.now 0 views 0 first_fresh
-        (state at.now)) }
+        IfOk result (λ b. b ≡ (is_owed (slice_get head.now.interfaces n) (view frame.now e.now)
+        || is_argument (slice_get head.now.params n) (view frame.now e.now) first_value first_fresh
+        (state at.now)
+        (λ facts. bases_by head.now.params 0 0 facts views)
+        (λ facts. variables_by head.now.params 0 facts views))) }
 {
-    let mut n = 0u32;
-    let mut value = 0u32;
-    let mut fresh = first_fresh;
-    for e in es {
-        let contained = is_argument_at(work, frame, at, params, es, n, e, value, fresh)?;
-        if !contained {
-            return Ok(Some(Refusal {
-                code: NOT_CONTAINED,
-                pos: e.pos,
-            }));
-        }
-        n = n.saturating_add(1);
-        value = value.saturating_add(values(frame, e));
-        fresh = fresh_behind(work, frame, at, e, fresh)?;
+    if is_owed(frame, head, n, e) {
+        return Ok(true);
     }
-    Ok(None)
+    let params = head.params.as_slice();
+    is_argument_at(work, frame, at, params, es, n, e, first_value, first_fresh)
 }
 
+/// The first argument of a call that is judged and is not contained, by what the head of the function says.
 fn head_fault(
     work: &mut Work,
     frame: &Frame,
@@ -172,7 +178,22 @@ fn head_fault(
     ensures { IfOk result (λ r.
         r ≡ head_fault (Some head.now) (map (view frame.now) es.now) first_fresh (state at.now)) }
 {
-    arguments_fault(work, frame, at, head.params.as_slice(), es, first_fresh)
+    let mut n = 0u32;
+    let mut value = 0u32;
+    let mut fresh = first_fresh;
+    for e in es {
+        let passes = may_pass(work, frame, at, head, es, n, e, value, fresh)?;
+        if !passes {
+            return Ok(Some(Refusal {
+                code: NOT_CONTAINED,
+                pos: e.pos,
+            }));
+        }
+        n = n.saturating_add(1);
+        value = value.saturating_add(values(frame, e));
+        fresh = fresh_behind(work, frame, at, e, fresh)?;
+    }
+    Ok(None)
 }
 
 /// The first argument of a call that is not contained in the bounds of its parameter (E602).

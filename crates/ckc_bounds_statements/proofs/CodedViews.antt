@@ -1,6 +1,6 @@
 -- Which codes the refusals of the bounds phase have: of expressions.
 use Rattle.std.proofs.Common.{◌≡◌, inl, inr, ◌∙◌, sym, ap, subst, refl, ℕ, List, [], ◌∷◌, map, Bool, true, false, if◌then◌else◌}
-use Rattle.std.specs.Prelude.{Ok, Option, Some, None, not, slice_get}
+use Rattle.std.specs.Prelude.{Ok, Option, Some, None, not, ◌||◌, slice_get}
 use Rattle.ckc_base.proofs.Codes
 use Rattle.ckc_base.specs.declared.places.Pos.{Pos}
 use Rattle.ckc_base.specs.declared.places.Refusal.{Refusal}
@@ -17,7 +17,6 @@ use Rattle.ckc_syntax.specs.declared.tree.Expr.{Expr-F, map-Expr, ind-Expr, roll
 use Rattle.ckc_typed.specs.declared.typed.Note.{Note}
 use Rattle.ckc_typed.specs.Trees.{NotedLimits, NotedNode, NotedExpr}
 use Rattle.ckc_bounds_points.specs.declared.frame.HeadBounds.{HeadBounds}
-use Rattle.ckc_bounds_points.specs.declared.frame.Local.{Local}
 use Rattle.ckc_bounds_points.specs.declared.frame.Frame.{Frame}
 use Rattle.ckc_bounds_points.specs.Shown.{Known}
 use Rattle.ckc_bounds_points.specs.Flow.{State}
@@ -25,7 +24,7 @@ use Rattle.ckc_bounds_ranges.specs.declared.replacements.BaseBy.{BaseBy}
 use Rattle.ckc_bounds_ranges.specs.declared.replacements.VariableBy.{VariableBy}
 use Rattle.ckc_bounds_points.specs.Codes.{unknown_bounds, not_contained, bad_limits, bounds_address}
 use Rattle.ckc_bounds_views.specs.Parts.{LimitsView, View, NodeView, NodeOfViews, capped, fresh_behind}
-use Rattle.ckc_bounds_views.specs.Judged.{counts_elements, counts_bytes, limits_judged, all_judged, node_judged, fault_if, is_argument, arguments_fault, head_fault, call_fault, unary_fault, fault_of_node, operand_fault_of_node, by_fault}
+use Rattle.ckc_bounds_views.specs.Judged.{counts_elements, counts_bytes, limits_judged, all_judged, node_judged, fault_if, is_owed, is_argument, arguments_fault, head_fault, call_fault, unary_fault, fault_of_node, operand_fault_of_node, by_fault}
 use Rattle.ckc_bounds_views.specs.Views.{limits_view, node_view, expr_view, view_of_limits, view_of_node, view}
 use Rattle.ckc_bounds_statements.specs.Paths.{Here, value_judged}
 use Rattle.ckc_bounds_statements.specs.Codes.{IsBoundsCode}
@@ -49,10 +48,10 @@ faulted : {A : Type 0} (r : Option Refusal) (o : Outcome A) → CodedFault r →
 faulted None o h k = k
 faulted (Some r) o h k = h
 
-arguments_coded : (bases : Known → List BaseBy) (variables : Known → List VariableBy) (params : List Local) (n : ℕ) (es : List View) (first fresh : ℕ) (at : State) → CodedFault (arguments_fault bases variables params n es first fresh at)
-arguments_coded bases variables params n [] first fresh at = tt
-arguments_coded bases variables params n (e ∷ es) first fresh at =
-    by (is_argument (slice_get params n) e first fresh at bases variables) _ (arguments_coded bases variables params (capped n 1) es (capped first e.values) (fresh_behind e fresh at) at)
+arguments_coded : (bases : Known → List BaseBy) (variables : Known → List VariableBy) (h : HeadBounds) (n : ℕ) (es : List View) (first fresh : ℕ) (at : State) → CodedFault (arguments_fault bases variables h n es first fresh at)
+arguments_coded bases variables h n [] first fresh at = tt
+arguments_coded bases variables h n (e ∷ es) first fresh at =
+    by (is_owed (slice_get h.interfaces n) e || is_argument (slice_get h.params n) e first fresh at bases variables) _ (arguments_coded bases variables h (capped n 1) es (capped first e.values) (fresh_behind e fresh at) at)
   where
     by : (b : Bool) (r : Option Refusal) → CodedFault r → CodedFault (if b then r else Some (record { code = not_contained; pos = e.pos }))
     by true r h = h
@@ -60,7 +59,7 @@ arguments_coded bases variables params n (e ∷ es) first fresh at =
 
 head_coded : (h : Option HeadBounds) (es : List View) (fresh : ℕ) (at : State) → CodedFault (head_fault h es fresh at)
 head_coded None es fresh at = tt
-head_coded (Some h) es fresh at = arguments_coded _ _ h.params 0 es 0 fresh at
+head_coded (Some h) es fresh at = arguments_coded _ _ h 0 es 0 fresh at
 
 pub record ViewCoded (v : View) : Type 0 where
   pub judged : (fresh : ℕ) (at : State) → HasCode (v.judged fresh at)

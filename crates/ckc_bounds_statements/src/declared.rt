@@ -16,7 +16,7 @@ use ckc_typed::types::type_written;
 use std::alloc::Global;
 
 /// What a declared name is to its bounds: a local, or else an object of file scope.
-fn holder_of(name: Name) -> Holder
+pub fn holder_of(name: Name) -> Holder
     ensures { result ≡ holder_of name }
 {
     match name {

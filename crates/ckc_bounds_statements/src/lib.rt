@@ -10,7 +10,7 @@ mod statements;
 mod walk;
 
 pub use contents::add_name;
-pub use declared::{bounds_there, decl_bounds};
+pub use declared::{bounds_there, decl_bounds, holder_of};
 pub use needs::may_need;
 pub use statements::judge_stmt;
 pub use walk::{Walk, judge_init};
