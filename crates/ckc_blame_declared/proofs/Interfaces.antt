@@ -127,14 +127,14 @@ module _ (types : Frame) (k : ℕ) where
       same_alike k (known_between (bound types (holder.Local k) t e) (bound types (holder.Local k) t f)) (known_between (bound types holder.Result t e) (bound types holder.Result t f))
       (ap (λ o. known_between o (bound types (holder.Local k) t f)) (bound_same t (node_pieces types.structs (out-Node Name Note e.node)))
       ∙ ap (known_between (bound types holder.Result t e)) (bound_same t (node_pieces types.structs (out-Node Name Note f.node))))
-  written_alike t (Limits-F.Unknown at) low high e = absurd cc
+  written_alike t (Limits-F.Unknown at) = λ low high e. absurd cc
 
   taken_alike : (t : CType) (length : Length) (l : NotedLimits) → IsAlike k (bounds_taken types (holder.Local k) t length l) (bounds_taken types holder.Result t length l)
   taken_alike t length l = by (takes_bounds t length)
     where
       by : (b : Bool) → IsAlike k (if b then bounds_written types (holder.Local k) t (out-Limits Name Note l) else None) (if b then bounds_written types holder.Result t (out-Limits Name Note l) else None)
       by true = written_alike t (out-Limits Name Note l)
-      by false low high e = absurd cc
+      by false = λ low high e. absurd cc
 
 -- what there is was there
 there_back : (code : ℕ) (at : Pos) (o : Option Bounds) (b : Bounds) → there_or code at o ≡ Ok b → o ≡ Some b
@@ -458,6 +458,7 @@ module _ (p : Typed) (j : IsJudged p) (h : NotedHead) (body : NotedStmt) (there 
       → IsBounded (setting_of p h body) store [] k (local_at (setting_of p h body).frame k)
   each_bounded store k h' i = by body.note.mode refl h'
     where
+      d : (x : NotedDecl) × (slice_get h.params k ≡ Some x) × (is_interface x ≡ true)
       d = interface_at k i
 
       by : (m : Mode) → body.note.mode ≡ m → reads_interfaces store (interfaces_elaborated p m h) ≡ Ok tt → IsBounded (setting_of p h body) store [] k (local_at (setting_of p h body).frame k)

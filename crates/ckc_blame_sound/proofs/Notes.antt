@@ -11,7 +11,7 @@ use Rattle.ckc_typed.specs.Trees.{NotedExpr, NotedHead, NotedStmt}
 use Rattle.ckc_bounds.specs.ckc_bounds_points.specs.declared.frame.HeadBounds.{HeadBounds}
 use Rattle.ckc_bounds.specs.ckc_bounds_points.specs.declared.frame.Frame.{Frame}
 use Rattle.ckc_bounds.specs.ckc_bounds_points.specs.Codes.{not_contained, bad_bundle}
-use Rattle.ckc_bounds.specs.ckc_bounds_statements.specs.Paths.{Here, ActOfPaths, sides_judged, bundle_judged, act_judged, path}
+use Rattle.ckc_bounds.specs.ckc_bounds_statements.specs.Paths.{Here, ActOfPaths, value_judged, sides_judged, bundle_judged, act_judged, path}
 use Rattle.ckc_bounds.specs.Declarations.{head_bounds}
 use Rattle.ckc_bounds.specs.Frames.{begin_of, function_frame}
 use Rattle.ckc_bounds.specs.Texts.{body_judged}
@@ -31,14 +31,14 @@ module _ (frame : Frame) (head : HeadBounds) (at : Pos) (note : Note) where
   Kept p = p.0.note ≡ note
 
   sides_kept : (e f : NotedExpr) (here : Here) → Gives Kept (sides_judged frame at note e f here)
-  sides_kept e f here = past Kept _ _ (λ p. past Kept _ _ (λ q. refl))
+  sides_kept e f here = past Kept (value_judged frame e here) _ (λ p. past Kept (value_judged frame f p.1) _ (λ q. refl))
 
   act_kept : (x : ActOfPaths) (here : Here) → Gives Kept (act_judged x frame head at note here)
   unfolding bundle_judged
   act_kept (Act-F.Block m ss) here = past Kept _ _ (λ p. refl)
   act_kept Act-F.Empty here = refl
   act_kept (Act-F.Local d) here = past Kept _ _ (λ p. refl)
-  act_kept (Act-F.Assign e f) here = bound Kept Kept _ _ (sides_kept e f here) (λ p is. past Kept _ _ (λ h. is))
+  act_kept (Act-F.Assign e f) here = bound Kept Kept (sides_judged frame at note e f here) _ (sides_kept e f here) (λ p is. past Kept _ _ (λ h. is))
   act_kept (Act-F.Call e) here = past Kept _ _ (λ p. refl)
   act_kept (Act-F.If e s t) here = past Kept _ _ (λ p. past Kept _ _ (λ q. past Kept _ _ (λ r. refl)))
   act_kept (Act-F.While e s) here = past Kept _ _ (λ p. past Kept _ _ (λ q. refl))
