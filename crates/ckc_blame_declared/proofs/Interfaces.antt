@@ -96,10 +96,13 @@ counted_alike : (k : ℕ) (f : Option Form) → IsAlike k (counted (base.Local k
 counted_alike k None low high e = absurd cc
 counted_alike k (Some f) low high e =
     let first : base_form (base.Local k) ≡ low = cc in
-    let last : record f { base = Some (base.Local k) } ≡ high = cc in
-    (base_form (base.Value 0), record f { base = Some (base.Value 0) }, refl,
-    subst (IsMoved k (base_form (base.Value 0))) first (record { var = refl; add = refl; base = inr (refl, refl) }),
-    subst (IsMoved k (record f { base = Some (base.Value 0) })) last (record { var = refl; add = refl; base = inr (refl, refl) }))
+    let last : record f { base = Some (base.Local k) } ≡ high = cc in (
+      base_form (base.Value 0),
+      record f { base = Some (base.Value 0) },
+      refl,
+      subst (IsMoved k (base_form (base.Value 0))) first (record { var = refl; add = refl; base = inr (refl, refl) }),
+      subst (IsMoved k (record f { base = Some (base.Value 0) })) last (record { var = refl; add = refl; base = inr (refl, refl) }),
+    )
 
 module _ (types : Frame) (k : ℕ) where
   with_same : (n : Option Name) (c : ℤ) → amount_with types (holder.Local k) n c ≡ amount_with types holder.Result n c

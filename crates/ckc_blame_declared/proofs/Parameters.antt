@@ -244,11 +244,14 @@ module _ (p : Typed) (j : IsJudged p) (h : NotedHead) (body : NotedStmt) (there 
       let d = a.written in
       let y = seen Checked d in
       let c : Contains params y = contains_made (seen Checked) h.params d a.among in
-      let named : y.name ≡ name.Local k = name_seen Checked d ∙ a.named in
-      (local_made types true k (seen body.note.mode d), a.made, elim (seen_in body.note.mode d) [
-        | inl same ↦ inl (ap (local_made types true k) same ∙ made_so k y c named ∙ sym (told_so k y c named) ∙ sym a.told)
-        | inr s ↦ inr (unjudged types k (seen body.note.mode d) y l a.told s)
-      ])
+      let named : y.name ≡ name.Local k = name_seen Checked d ∙ a.named in (
+        local_made types true k (seen body.note.mode d),
+        a.made,
+        elim (seen_in body.note.mode d) [
+          | inl same ↦ inl (ap (local_made types true k) same ∙ made_so k y c named ∙ sym (told_so k y c named) ∙ sym a.told)
+          | inr s ↦ inr (unjudged types k (seen body.note.mode d) y l a.told s)
+        ],
+      )
 
   abbrev Has : Setting → Type 0
   Has s = length s.variables < 1024 → AreParameters s s.head.params
