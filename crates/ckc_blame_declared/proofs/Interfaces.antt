@@ -10,7 +10,7 @@ use Rattle.ckc_base.specs.declared.arithmetic.Mode.{Mode}
 use Rattle.ckc_base.specs.declared.arithmetic.Mode.TheVariants.{Checked, Unchecked}
 use Rattle.ckc_base.specs.declared.places.Pos.{Pos}
 use Rattle.ckc_base.specs.Outcomes.{Outcome, there_or}
-use Rattle.ckc_base.proofs.Gives.{Gives, given_from}
+use Rattle.ckc_base.proofs.Gives.{given_from}
 use Rattle.ckc_types.specs.declared.types.CType.{CType}
 use Rattle.ckc_linear.specs.declared.forms.Base.{Base}
 use Rattle.ckc_linear.specs.declared.forms.Base.TheVariants as base
@@ -96,10 +96,13 @@ counted_alike : (k : ℕ) (f : Option Form) → IsAlike k (counted (base.Local k
 counted_alike k None low high e = absurd cc
 counted_alike k (Some f) low high e =
     let first : base_form (base.Local k) ≡ low = cc in
-    let last : record f { base = Some (base.Local k) } ≡ high = cc in
-    (base_form (base.Value 0), record f { base = Some (base.Value 0) }, refl,
-    subst (IsMoved k (base_form (base.Value 0))) first (record { var = refl; add = refl; base = inr (refl, refl) }),
-    subst (IsMoved k (record f { base = Some (base.Value 0) })) last (record { var = refl; add = refl; base = inr (refl, refl) }))
+    let last : record f { base = Some (base.Local k) } ≡ high = cc in (
+      base_form (base.Value 0),
+      record f { base = Some (base.Value 0) },
+      refl,
+      subst (IsMoved k (base_form (base.Value 0))) first (record { var = refl; add = refl; base = inr (refl, refl) }),
+      subst (IsMoved k (record f { base = Some (base.Value 0) })) last (record { var = refl; add = refl; base = inr (refl, refl) }),
+    )
 
 module _ (types : Frame) (k : ℕ) where
   with_same : (n : Option Name) (c : ℤ) → amount_with types (holder.Local k) n c ≡ amount_with types holder.Result n c
@@ -172,11 +175,11 @@ module _ (types : Frame) (k : ℕ) where
 -- a local among parameters is the same among all variables
 find_before : {A : Type 0} (p : A → Bool) (xs ys : List A) (x : A) → find p xs ≡ Some x → find p (xs ++ ys) ≡ Some x
 find_before p [] ys x e = absurd cc
-find_before {A} p (y ∷ xs) ys x e = by (p y) e
+find_before {A} p (y ∷ xs) ys x e = by (p y) e (find_before p xs ys x)
   where
-    by : (b : Bool) → (if b then Some y else find p xs) ≡ Some x → (if b then Some y else find p (xs ++ ys)) ≡ Some x
-    by true e = e
-    by false e = find_before p xs ys x e
+    by : (b : Bool) → (if b then Some y else find p xs) ≡ Some x → (find p xs ≡ Some x → find p (xs ++ ys) ≡ Some x) → (if b then Some y else find p (xs ++ ys)) ≡ Some x
+    by true e later = e
+    by false e later = later e
 
 module _ (p : Typed) (j : IsJudged p) (h : NotedHead) (body : NotedStmt) (there : Contains p.tree.items (item.Function h body)) where
   abbrev types : Frame
@@ -300,30 +303,37 @@ module _ (p : Typed) (j : IsJudged p) (h : NotedHead) (body : NotedStmt) (there 
 
 -- ---- all interfaces
 
-given_ok : (r : Result Value Halt) → IsOk r → given r (λ v. Ok tt) ≡ Ok tt
+-- what is read, and then nothing more
+abbrev read_alone : Result Value Halt → Result (Unit {0}) Halt
+read_alone r = given r (λ v. Ok tt)
+
+given_ok : (r : Result Value Halt) → IsOk r → read_alone r ≡ Ok tt
 given_ok (Ok v) h = refl
 given_ok (Err e) h = absurd cc
 
-ok_given : (r : Result Value Halt) → given r (λ v. Ok tt) ≡ Ok tt → IsOk r
+ok_given : (r : Result Value Halt) → read_alone r ≡ Ok tt → IsOk r
 ok_given (Ok v) h = refl
 ok_given (Err e) h = absurd cc
 
 module _ (store : Store) where
   reads_both : (xs ys : List Interface) → reads_interfaces store xs ≡ Ok tt → reads_interfaces store ys ≡ Ok tt → reads_interfaces store (xs ++ ys) ≡ Ok tt
   reads_both [] ys e f = f
-  reads_both (x ∷ xs) ys e f = by (reads_limited store x.limits (slice_index store.locals x.param)) e
+  reads_both (x ∷ xs) ys e f = by (reads_limited store x.limits (slice_index store.locals x.param)) e (λ g. reads_both xs ys g f)
     where
-      by : (r : Result Value Halt) → given r (λ v. reads_interfaces store xs) ≡ Ok tt → given r (λ v. reads_interfaces store (xs ++ ys)) ≡ Ok tt
-      by (Ok v) e = reads_both xs ys e f
-      by (Err r) e = absurd cc
+      by : (r : Result Value Halt) → given r (λ v. reads_interfaces store xs) ≡ Ok tt → (reads_interfaces store xs ≡ Ok tt → reads_interfaces store (xs ++ ys) ≡ Ok tt)
+          → given r (λ v. reads_interfaces store (xs ++ ys)) ≡ Ok tt
+      by (Ok v) e rest = rest e
+      by (Err r) e rest = absurd cc
 
   reads_each : (xs ys : List Interface) → reads_interfaces store (xs ++ ys) ≡ Ok tt → (reads_interfaces store xs ≡ Ok tt) × (reads_interfaces store ys ≡ Ok tt)
   reads_each [] ys e = (refl, e)
-  reads_each (x ∷ xs) ys e = by (reads_limited store x.limits (slice_index store.locals x.param)) e
+  reads_each (x ∷ xs) ys e = by (reads_limited store x.limits (slice_index store.locals x.param)) e (reads_each xs ys)
     where
-      by : (r : Result Value Halt) → given r (λ v. reads_interfaces store (xs ++ ys)) ≡ Ok tt → (given r (λ v. reads_interfaces store xs) ≡ Ok tt) × (reads_interfaces store ys ≡ Ok tt)
-      by (Ok v) e = reads_each xs ys e
-      by (Err r) e = absurd cc
+      by : (r : Result Value Halt) → given r (λ v. reads_interfaces store (xs ++ ys)) ≡ Ok tt
+          → (reads_interfaces store (xs ++ ys) ≡ Ok tt → (reads_interfaces store xs ≡ Ok tt) × (reads_interfaces store ys ≡ Ok tt))
+          → (given r (λ v. reads_interfaces store xs) ≡ Ok tt) × (reads_interfaces store ys ≡ Ok tt)
+      by (Ok v) e rest = rest e
+      by (Err r) e rest = absurd cc
 
   module _ (p : Typed) (variables : List Variable) where
     -- the limits of a parameter, if it is an interface

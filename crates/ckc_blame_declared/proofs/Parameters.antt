@@ -1,5 +1,5 @@
 -- The parameters that a head tells are the first locals of its function.
-use Rattle.std.proofs.Common.{◌≡◌, ◌∙◌, sym, ap, subst, refl, inl, inr, arith, ℕ, zero, suc, ◌+◌, ◌<◌, List, [], ◌∷◌, ◌++◌, map, length, length-append, append-nil}
+use Rattle.std.proofs.Common.{◌≡◌, ◌∙◌, sym, ap, subst, refl, inl, inr, arith, ℕ, ◌+◌, ◌<◌, List, [], ◌∷◌, ◌++◌, map, length, append-nil}
 use Rattle.std.specs.Prelude.{◌⊎◌, All, Bool, true, false, if◌then◌else◌, Option, Some, None, slice_get, Ok, Err}
 use Rattle.std.specs.List.{Contains}
 use Rattle.std.specs.Option.{option_map}
@@ -244,11 +244,14 @@ module _ (p : Typed) (j : IsJudged p) (h : NotedHead) (body : NotedStmt) (there 
       let d = a.written in
       let y = seen Checked d in
       let c : Contains params y = contains_made (seen Checked) h.params d a.among in
-      let named : y.name ≡ name.Local k = name_seen Checked d ∙ a.named in
-      (local_made types true k (seen body.note.mode d), a.made, elim (seen_in body.note.mode d) [
-        | inl same ↦ inl (ap (local_made types true k) same ∙ made_so k y c named ∙ sym (told_so k y c named) ∙ sym a.told)
-        | inr s ↦ inr (unjudged types k (seen body.note.mode d) y l a.told s)
-      ])
+      let named : y.name ≡ name.Local k = name_seen Checked d ∙ a.named in (
+        local_made types true k (seen body.note.mode d),
+        a.made,
+        elim (seen_in body.note.mode d) [
+          | inl same ↦ inl (ap (local_made types true k) same ∙ made_so k y c named ∙ sym (told_so k y c named) ∙ sym a.told)
+          | inr s ↦ inr (unjudged types k (seen body.note.mode d) y l a.told s)
+        ],
+      )
 
   abbrev Has : Setting → Type 0
   Has s = length s.variables < 1024 → AreParameters s s.head.params
