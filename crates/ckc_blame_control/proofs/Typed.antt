@@ -19,8 +19,8 @@ use Rattle.ckc_typed_welltyped.specs.Parts.{StmtByParts}
 use Rattle.ckc_typed_welltyped.proofs.ByParts.{stmt_by_parts}
 use Rattle.ckc_blame_sound.specs.ckc_bounds_points.specs.declared.frame.Frame.{Frame}
 use Rattle.ckc_blame_sound.specs.ckc_bounds_points.specs.declared.frame.Local.{Local}
-use Rattle.ckc_blame_sound.specs.ckc_bounds.specs.Declarations.{first_of, few_of, declared_in, head_bounds}
-use Rattle.ckc_blame_sound.specs.ckc_bounds.specs.Frames.{all_of, first_fresh, fresh_needed, function_frame, locals_frame, nameless}
+use Rattle.ckc_blame_sound.specs.ckc_bounds.specs.Declarations.{first_of, few_of, head_bounds}
+use Rattle.ckc_blame_sound.specs.ckc_bounds.specs.Frames.{first_fresh, fresh_needed, function_frame, locals_frame, nameless}
 use Rattle.ckc_blame_sound.specs.ckc_bounds_statements.specs.Paths.{Here, Path, ActPath, act_declared, act_path, stmt_path, path_of_act, path}
 use Rattle.ckc_source.specs.Code.{Function}
 use Rattle.ckc_blame_sound.specs.Settings.{Setting, IsFunction, frame_of_text, setting_of}
@@ -33,7 +33,7 @@ use Rattle.ckc_blame_sound.proofs.Stepping.{ActLayer, viewed, act_back}
 use Rattle.ckc_blame_sound.specs.JudgedTexts.{IsJudged, globals_in}
 use Rattle.ckc_blame_sound.specs.Numbered.{IsKnownIn}
 use Rattle.ckc_blame_sound.proofs.TypedBodies.{statements_are_typed, conditions_are_typed}
-use Rattle.ckc_blame_sound.proofs.Frames.{first_at, frames_agree, variables_have_types, locals_counted}
+use Rattle.ckc_blame_sound.proofs.Frames.{first_at, frames_agree, variables_have_types, locals_made, locals_counted}
 use Rattle.ckc_blame_control.specs.Known.{IsKnownPoint}
 
 -- ---- what stands in the body of a function is typed
@@ -134,14 +134,14 @@ unfolding out-CType denote.Hole.Carrier.out
 nameless_other = refl
 
 -- the locals after those that are declared are no integers
-nameless_fresh : (frame : Frame) (h : NotedHead) (body : NotedStmt) (n : ℕ) → length (variables_of h body) ≤ n → AreFresh (function_frame frame h body) n
+nameless_fresh : (frame : Frame) (h : NotedHead) (body : NotedStmt) (n : ℕ) → length (variables_of body.note.mode h body) ≤ n → AreFresh (function_frame frame h body) n
 unfolding few_of
 nameless_fresh frame h body n far k l above e =
-    let D = declared_in frame (all_of h body) in
+    let D = locals_made frame h body in
     let m = fresh_needed (locals_frame frame h body) (head_bounds frame h) h body (first_fresh h body) in
     let one = first_at 1023 (first_of 1023 D ++ replicate m nameless) k l e in
     let short : length (first_of 1023 D) ≤ length D = first_short 1023 D in
-    let counted : length D ≡ length (variables_of h body) = locals_counted frame h body in
+    let counted : length D ≡ length (variables_of body.note.mode h body) = locals_counted frame h body in
     let past : length (first_of 1023 D) ≤ k = omega (arith, short, counted, far, above) in
     ap (λ (x : Local). is_integer x.ctype) (all_nameless m (k - length (first_of 1023 D)) l (append_behind (first_of 1023 D) (replicate m nameless) k l past one.1)) ∙ nameless_other
 

@@ -1,6 +1,6 @@
 -- What a head says of its parameters and its result.
-use Rattle.std.proofs.Common.{◌≡◌, ◌∙◌, sym, subst, refl, inl, inr, arith, ℕ, suc, ◌+◌, ◌<◌, List, [], ◌++◌, length}
-use Rattle.std.specs.Prelude.{◌==◌, Bool, true, false, ◌||◌, Option, Some, slice_get}
+use Rattle.std.proofs.Common.{◌≡◌, ◌∙◌, sym, subst, refl, inl, inr, arith, ℕ, suc, ◌+◌, ◌<◌, List, length}
+use Rattle.std.specs.Prelude.{◌==◌, true, false, Option, Some, slice_get}
 use Rattle.std.specs.List.{Contains}
 use Rattle.std.proofs.lemmas.Bool.{eqb-true}
 use Rattle.std.proofs.lemmas.Option.{slice_get_within}

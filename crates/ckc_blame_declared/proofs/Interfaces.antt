@@ -10,7 +10,7 @@ use Rattle.ckc_base.specs.declared.arithmetic.Mode.{Mode}
 use Rattle.ckc_base.specs.declared.arithmetic.Mode.TheVariants.{Checked, Unchecked}
 use Rattle.ckc_base.specs.declared.places.Pos.{Pos}
 use Rattle.ckc_base.specs.Outcomes.{Outcome, there_or}
-use Rattle.ckc_base.proofs.Gives.{Gives, given_from}
+use Rattle.ckc_base.proofs.Gives.{given_from}
 use Rattle.ckc_types.specs.declared.types.CType.{CType}
 use Rattle.ckc_linear.specs.declared.forms.Base.{Base}
 use Rattle.ckc_linear.specs.declared.forms.Base.TheVariants as base
@@ -42,7 +42,6 @@ use Rattle.ckc_blame_sound.specs.ckc_bounds_points.specs.Frames.{local_at}
 use Rattle.ckc_blame_sound.specs.ckc_bounds_points.specs.Shown.{is_within}
 use Rattle.ckc_blame_sound.specs.ckc_bounds_ranges.specs.Rows.{range_by, range_of_bounds}
 use Rattle.ckc_blame_sound.specs.ckc_bounds_declared.specs.declared.limits.Holder.TheVariants as holder
-use Rattle.ckc_blame_sound.specs.ckc_bounds_declared.specs.declared.limits.Pieces.{Pieces}
 use Rattle.ckc_blame_sound.specs.ckc_bounds_declared.specs.Written.{amount_with, amount_form, counted, named_base, bound_with, bound, node_pieces, known_between, bounds_written, takes_bounds, place_of_limits, bounds_taken, bounds_declared}
 use Rattle.ckc_blame_sound.specs.ckc_bounds_statements.specs.DeclBounds.{decl_bounds}
 use Rattle.ckc_blame_sound.specs.ckc_bounds_statements.specs.Paths.{path}
@@ -97,10 +96,13 @@ counted_alike : (k : ℕ) (f : Option Form) → IsAlike k (counted (base.Local k
 counted_alike k None low high e = absurd cc
 counted_alike k (Some f) low high e =
     let first : base_form (base.Local k) ≡ low = cc in
-    let last : record f { base = Some (base.Local k) } ≡ high = cc in
-    (base_form (base.Value 0), record f { base = Some (base.Value 0) }, refl,
-    subst (IsMoved k (base_form (base.Value 0))) first (record { var = refl; add = refl; base = inr (refl, refl) }),
-    subst (IsMoved k (record f { base = Some (base.Value 0) })) last (record { var = refl; add = refl; base = inr (refl, refl) }))
+    let last : record f { base = Some (base.Local k) } ≡ high = cc in (
+      base_form (base.Value 0),
+      record f { base = Some (base.Value 0) },
+      refl,
+      subst (IsMoved k (base_form (base.Value 0))) first (record { var = refl; add = refl; base = inr (refl, refl) }),
+      subst (IsMoved k (record f { base = Some (base.Value 0) })) last (record { var = refl; add = refl; base = inr (refl, refl) }),
+    )
 
 module _ (types : Frame) (k : ℕ) where
   with_same : (n : Option Name) (c : ℤ) → amount_with types (holder.Local k) n c ≡ amount_with types holder.Result n c
@@ -111,7 +113,7 @@ module _ (types : Frame) (k : ℕ) where
   amount_same None = refl
   amount_same (Some a) = ap (λ o. if is_within (2 ^ 24) a.number then o else None) (with_same a.variable a.number)
 
-  bound_same : (t : CType) (o : Option Pieces) → bound_with types (holder.Local k) t o ≡ bound_with types holder.Result t o
+  bound_same : (t : CType) (o : _) → bound_with types (holder.Local k) t o ≡ bound_with types holder.Result t o
   bound_same t None = refl
   bound_same t (Some x) = ap (sum_of_forms (named_base types t x.name)) (amount_same x.by)
 
@@ -127,14 +129,14 @@ module _ (types : Frame) (k : ℕ) where
       same_alike k (known_between (bound types (holder.Local k) t e) (bound types (holder.Local k) t f)) (known_between (bound types holder.Result t e) (bound types holder.Result t f))
       (ap (λ o. known_between o (bound types (holder.Local k) t f)) (bound_same t (node_pieces types.structs (out-Node Name Note e.node)))
       ∙ ap (known_between (bound types holder.Result t e)) (bound_same t (node_pieces types.structs (out-Node Name Note f.node))))
-  written_alike t (Limits-F.Unknown at) low high e = absurd cc
+  written_alike t (Limits-F.Unknown at) = λ low high e. absurd cc
 
   taken_alike : (t : CType) (length : Length) (l : NotedLimits) → IsAlike k (bounds_taken types (holder.Local k) t length l) (bounds_taken types holder.Result t length l)
   taken_alike t length l = by (takes_bounds t length)
     where
       by : (b : Bool) → IsAlike k (if b then bounds_written types (holder.Local k) t (out-Limits Name Note l) else None) (if b then bounds_written types holder.Result t (out-Limits Name Note l) else None)
       by true = written_alike t (out-Limits Name Note l)
-      by false low high e = absurd cc
+      by false = λ low high e. absurd cc
 
 -- what there is was there
 there_back : (code : ℕ) (at : Pos) (o : Option Bounds) (b : Bounds) → there_or code at o ≡ Ok b → o ≡ Some b
@@ -173,11 +175,11 @@ module _ (types : Frame) (k : ℕ) where
 -- a local among parameters is the same among all variables
 find_before : {A : Type 0} (p : A → Bool) (xs ys : List A) (x : A) → find p xs ≡ Some x → find p (xs ++ ys) ≡ Some x
 find_before p [] ys x e = absurd cc
-find_before {A} p (y ∷ xs) ys x e = by (p y) e
+find_before {A} p (y ∷ xs) ys x e = by (p y) e (find_before p xs ys x)
   where
-    by : (b : Bool) → (if b then Some y else find p xs) ≡ Some x → (if b then Some y else find p (xs ++ ys)) ≡ Some x
-    by true e = e
-    by false e = find_before p xs ys x e
+    by : (b : Bool) → (if b then Some y else find p xs) ≡ Some x → (find p xs ≡ Some x → find p (xs ++ ys) ≡ Some x) → (if b then Some y else find p (xs ++ ys)) ≡ Some x
+    by true e later = e
+    by false e later = later e
 
 module _ (p : Typed) (j : IsJudged p) (h : NotedHead) (body : NotedStmt) (there : Contains p.tree.items (item.Function h body)) where
   abbrev types : Frame
@@ -301,30 +303,37 @@ module _ (p : Typed) (j : IsJudged p) (h : NotedHead) (body : NotedStmt) (there 
 
 -- ---- all interfaces
 
-given_ok : (r : Result Value Halt) → IsOk r → given r (λ v. Ok tt) ≡ Ok tt
+-- what is read, and then nothing more
+abbrev read_alone : Result Value Halt → Result (Unit {0}) Halt
+read_alone r = given r (λ v. Ok tt)
+
+given_ok : (r : Result Value Halt) → IsOk r → read_alone r ≡ Ok tt
 given_ok (Ok v) h = refl
 given_ok (Err e) h = absurd cc
 
-ok_given : (r : Result Value Halt) → given r (λ v. Ok tt) ≡ Ok tt → IsOk r
+ok_given : (r : Result Value Halt) → read_alone r ≡ Ok tt → IsOk r
 ok_given (Ok v) h = refl
 ok_given (Err e) h = absurd cc
 
 module _ (store : Store) where
   reads_both : (xs ys : List Interface) → reads_interfaces store xs ≡ Ok tt → reads_interfaces store ys ≡ Ok tt → reads_interfaces store (xs ++ ys) ≡ Ok tt
   reads_both [] ys e f = f
-  reads_both (x ∷ xs) ys e f = by (reads_limited store x.limits (slice_index store.locals x.param)) e
+  reads_both (x ∷ xs) ys e f = by (reads_limited store x.limits (slice_index store.locals x.param)) e (λ g. reads_both xs ys g f)
     where
-      by : (r : Result Value Halt) → given r (λ v. reads_interfaces store xs) ≡ Ok tt → given r (λ v. reads_interfaces store (xs ++ ys)) ≡ Ok tt
-      by (Ok v) e = reads_both xs ys e f
-      by (Err r) e = absurd cc
+      by : (r : Result Value Halt) → given r (λ v. reads_interfaces store xs) ≡ Ok tt → (reads_interfaces store xs ≡ Ok tt → reads_interfaces store (xs ++ ys) ≡ Ok tt)
+          → given r (λ v. reads_interfaces store (xs ++ ys)) ≡ Ok tt
+      by (Ok v) e rest = rest e
+      by (Err r) e rest = absurd cc
 
   reads_each : (xs ys : List Interface) → reads_interfaces store (xs ++ ys) ≡ Ok tt → (reads_interfaces store xs ≡ Ok tt) × (reads_interfaces store ys ≡ Ok tt)
   reads_each [] ys e = (refl, e)
-  reads_each (x ∷ xs) ys e = by (reads_limited store x.limits (slice_index store.locals x.param)) e
+  reads_each (x ∷ xs) ys e = by (reads_limited store x.limits (slice_index store.locals x.param)) e (reads_each xs ys)
     where
-      by : (r : Result Value Halt) → given r (λ v. reads_interfaces store (xs ++ ys)) ≡ Ok tt → (given r (λ v. reads_interfaces store xs) ≡ Ok tt) × (reads_interfaces store ys ≡ Ok tt)
-      by (Ok v) e = reads_each xs ys e
-      by (Err r) e = absurd cc
+      by : (r : Result Value Halt) → given r (λ v. reads_interfaces store (xs ++ ys)) ≡ Ok tt
+          → (reads_interfaces store (xs ++ ys) ≡ Ok tt → (reads_interfaces store xs ≡ Ok tt) × (reads_interfaces store ys ≡ Ok tt))
+          → (given r (λ v. reads_interfaces store xs) ≡ Ok tt) × (reads_interfaces store ys ≡ Ok tt)
+      by (Ok v) e rest = rest e
+      by (Err r) e rest = absurd cc
 
   module _ (p : Typed) (variables : List Variable) where
     -- the limits of a parameter, if it is an interface
@@ -458,6 +467,7 @@ module _ (p : Typed) (j : IsJudged p) (h : NotedHead) (body : NotedStmt) (there 
       → IsBounded (setting_of p h body) store [] k (local_at (setting_of p h body).frame k)
   each_bounded store k h' i = by body.note.mode refl h'
     where
+      d : (x : NotedDecl) × (slice_get h.params k ≡ Some x) × (is_interface x ≡ true)
       d = interface_at k i
 
       by : (m : Mode) → body.note.mode ≡ m → reads_interfaces store (interfaces_elaborated p m h) ≡ Ok tt → IsBounded (setting_of p h body) store [] k (local_at (setting_of p h body).frame k)

@@ -104,8 +104,12 @@ IsSeen h body d = (e : NotedDecl) × Contains (all_of h body) e × (e.name ≡ d
 pub params_seen : (h : NotedHead) (body : NotedStmt) (d : NotedDecl) → Contains (seen_params Checked h) d → IsSeen h body d
 params_seen h body d c =
     let mode = body.note.mode in
-    All-contains (IsSeen h body) (seen_params Checked h) d (each h.params (λ e m. (seen mode e, Contains-append_left (seen_params mode h) (path body).declared (seen mode e) (contains_made (seen mode) h.params e m),
-    name_seen mode e ∙ sym (name_seen Checked e), seen_type (seen mode e) (seen Checked e) (seen_in mode e)))) c
+    All-contains (IsSeen h body) (seen_params Checked h) d (each h.params (λ e m. (
+      seen mode e,
+      Contains-append_left (seen_params mode h) (path body).declared (seen mode e) (contains_made (seen mode) h.params e m),
+      name_seen mode e ∙ sym (name_seen Checked e),
+      seen_type (seen mode e) (seen Checked e) (seen_in mode e),
+    ))) c
   where
     each : (ds : List NotedDecl) → ((e : NotedDecl) → Contains ds e → IsSeen h body (seen Checked e)) → All (IsSeen h body) (map (seen Checked) ds)
     each ds f = all_from ds (All-contains_itself ds)

@@ -1,5 +1,5 @@
 -- The parameters that a head tells are the first locals of its function.
-use Rattle.std.proofs.Common.{◌≡◌, ◌∙◌, sym, ap, subst, refl, inl, inr, arith, ℕ, zero, suc, ◌+◌, ◌<◌, List, [], ◌∷◌, ◌++◌, map, length, length-append, append-nil}
+use Rattle.std.proofs.Common.{◌≡◌, ◌∙◌, sym, ap, subst, refl, inl, inr, arith, ℕ, ◌+◌, ◌<◌, List, [], ◌∷◌, ◌++◌, map, length, append-nil}
 use Rattle.std.specs.Prelude.{◌⊎◌, All, Bool, true, false, if◌then◌else◌, Option, Some, None, slice_get, Ok, Err}
 use Rattle.std.specs.List.{Contains}
 use Rattle.std.specs.Option.{option_map}
@@ -41,7 +41,7 @@ use Rattle.ckc_blame_sound.proofs.Bounded.{is_bounded, anything}
 use Rattle.ckc_blame_sound.proofs.Frames.{first_at, first_keeps, locals_made, locals_counted}
 use Rattle.ckc_blame_sound.proofs.Functions.{params_own, numbered, types_numbered_so}
 use Rattle.ckc_blame_sound.proofs.Bodies.{contains_made}
-use Rattle.ckc_blame_sound.proofs.Seen.{IsShared, seen_in, seen_type, pointer_out}
+use Rattle.ckc_blame_sound.proofs.Seen.{IsShared, seen_in, pointer_out}
 use Rattle.ckc_blame_sound.specs.Numbered.{AreAllLocals}
 use Rattle.ckc_blame_sound.proofs.ByNumber.{at_index, all_at, declaration_at}
 use Rattle.ckc_blame_sound.proofs.Locals.{names_declared}
@@ -165,7 +165,7 @@ module _ (p : Typed) (j : IsJudged p) (h : NotedHead) (body : NotedStmt) (there 
   knows es all = knows_more (frame_of_text j.typed) (frame_of_text p) params es some all (is_bounded j.typed p j.has_bounds).layout (is_bounded j.typed p j.has_bounds).statics
 
   -- its bounds as they were judged
-  judged_at : (k : ℕ) (d : NotedDecl) → Contains params d → d.name ≡ name.Local k → (b : Bounds) × (decl_bounds (params_frame (frame_of_text j.typed) h) (holder.Local k) d ≡ Ok b)
+  pub judged_at : (k : ℕ) (d : NotedDecl) → Contains params d → d.name ≡ name.Local k → (b : Bounds) × (decl_bounds (params_frame (frame_of_text j.typed) h) (holder.Local k) d ≡ Ok b)
   judged_at k d c named =
       let T = params_frame (frame_of_text j.typed) h in
       let at = at_index params d c in
@@ -195,7 +195,6 @@ module _ (p : Typed) (j : IsJudged p) (h : NotedHead) (body : NotedStmt) (there 
   -- an interface that a body does not judge
   pub unjudged : (types : Frame) (k : ℕ) (x y : NotedDecl) (l : Local) → l ≡ local_made (params_frame (frame_of_text p) h) true k y → IsShared x y → IsUnjudged l (local_made types true k x)
   unjudged types k x y l is s =
-      let shared = seen_type x y (inr s) in
       record {
         bounds = ap (λ (o : Option NotedLimits). known_or_not (bounds_declared types (holder.Local k) (type_written x.ctype) x.length o)) s.bounds
             ∙ ap (λ t. bounds_by_type (base.Local k) t) s.written ∙ ap (λ f. bounds_of_kind (base.Local k) (kind_in f)) (pointer_out kind.Raw s.to);
@@ -245,11 +244,14 @@ module _ (p : Typed) (j : IsJudged p) (h : NotedHead) (body : NotedStmt) (there 
       let d = a.written in
       let y = seen Checked d in
       let c : Contains params y = contains_made (seen Checked) h.params d a.among in
-      let named : y.name ≡ name.Local k = name_seen Checked d ∙ a.named in
-      (local_made types true k (seen body.note.mode d), a.made, elim (seen_in body.note.mode d) [
-        | inl same ↦ inl (ap (local_made types true k) same ∙ made_so k y c named ∙ sym (told_so k y c named) ∙ sym a.told)
-        | inr s ↦ inr (unjudged types k (seen body.note.mode d) y l a.told s)
-      ])
+      let named : y.name ≡ name.Local k = name_seen Checked d ∙ a.named in (
+        local_made types true k (seen body.note.mode d),
+        a.made,
+        elim (seen_in body.note.mode d) [
+          | inl same ↦ inl (ap (local_made types true k) same ∙ made_so k y c named ∙ sym (told_so k y c named) ∙ sym a.told)
+          | inr s ↦ inr (unjudged types k (seen body.note.mode d) y l a.told s)
+        ],
+      )
 
   abbrev Has : Setting → Type 0
   Has s = length s.variables < 1024 → AreParameters s s.head.params

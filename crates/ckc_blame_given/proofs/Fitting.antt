@@ -24,8 +24,7 @@ use Rattle.ckc_typed.specs.Types.{is_char, is_char_form, is_integer, is_integer_
 use Rattle.ckc_typed_welltyped.specs.Expressions.{AnyLimits, AnyNode, HasType, IsNoted, WellTypedExpr}
 use Rattle.ckc_typed_welltyped.specs.Statements.{IsAssignment, act_rows, WellTypedStmt}
 use Rattle.ckc_typed_welltyped.proofs.ByParts.{stmt_by_parts}
-use Rattle.ckc_blame_sound.specs.ckc_bounds.specs.Declarations.{declared_in}
-use Rattle.ckc_blame_sound.specs.ckc_bounds.specs.Frames.{all_of}
+use Rattle.ckc_blame_sound.specs.ckc_bounds.specs.Frames.{all_of, types_frame}
 use Rattle.ckc_blame_sound.specs.ckc_bounds_known.proofs.Reaching.{and_cases}
 use Rattle.ckc_blame_sound.specs.ckc_bounds_points.specs.declared.frame.Frame.{Frame}
 use Rattle.ckc_blame_sound.specs.ckc_bounds_points.specs.declared.frame.Local.{Local}
@@ -42,7 +41,7 @@ use Rattle.ckc_blame_sound.specs.Settings.{Setting, IsFunction, frame_of_text, s
 use Rattle.ckc_blame_sound.proofs.Facts.{one_of}
 use Rattle.ckc_blame_sound.proofs.Types.{no_pointer}
 use Rattle.ckc_blame_sound.specs.JudgedTexts.{IsJudged, globals_in}
-use Rattle.ckc_blame_sound.proofs.Frames.{types_numbered, declared_types, named_type, statics_named, variables_have, variables_have_types, locals_counted}
+use Rattle.ckc_blame_sound.proofs.Frames.{types_numbered, made_types, named_type, statics_named, variables_have, variables_have_types, locals_made, locals_counted}
 use Rattle.ckc_blame_sound.proofs.Functions.{numbered as numbered_names}
 use Rattle.ckc_blame_sound.proofs.KeptTrees.{same_fold}
 use Rattle.ckc_blame_sound.proofs.SameViews.{same_view}
@@ -130,17 +129,17 @@ char_bare t f c h = ⊎_elim
 
 -- ---- variables
 
-types_counted : (p : Typed) (h : NotedHead) (body : NotedStmt) → length (types_numbered (all_of h body)) ≡ length (variables_of h body)
+types_counted : (p : Typed) (h : NotedHead) (body : NotedStmt) → length (types_numbered (all_of h body)) ≡ length (variables_of body.note.mode h body)
 types_counted p h body =
     let frame = frame_of_text p in
-    ap length (sym (declared_types frame (all_of h body))) ∙ length-map (declared_in frame (all_of h body)) (λ (x : Local). x.ctype) ∙ locals_counted frame h body
+    ap length (sym (made_types (types_frame frame h body) true (all_of h body))) ∙ length-map (locals_made frame h body) (λ (x : Local). x.ctype) ∙ locals_counted frame h body
 
 module _ (p : Typed) (s : Setting) (fn : Function) (j : IsJudged p) (i : IsFunction p s fn) where
   text_is : globals_of_text s.text ≡ globals_in p
   unfolding setting_of
   text_is = ap (λ (x : Setting). globals_of_text x.text) i.judged
 
-  variables_are : s.variables ≡ variables_of i.head i.body
+  variables_are : s.variables ≡ variables_of i.body.note.mode i.head i.body
   unfolding setting_of
   variables_are = ap (λ (x : Setting). x.variables) i.judged
 
@@ -210,8 +209,8 @@ module _ (p : Typed) (s : Setting) (fn : Function) (j : IsJudged p) (i : IsFunct
   pub declared_fits : (d : NotedDecl) (k : ℕ) → Contains s.variables (variable_declared d) → d.name ≡ name.Local k
       → (k < length s.variables) × ((l : Local) → local_at s.frame k ≡ Some l → l.ctype ≡ type_written d.ctype)
   declared_fits d k c is =
-      let among : Contains (variables_of i.head i.body) (variable_declared d) = subst (λ vs. Contains vs (variable_declared d)) variables_are c in
+      let among : Contains (variables_of i.body.note.mode i.head i.body) (variable_declared d) = subst (λ vs. Contains vs (variable_declared d)) variables_are c in
       let typed : (m : ℕ) → d.name ≡ name.Local m → slice_get (types_numbered (all_of i.head i.body)) m ≡ Some (type_written d.ctype) =
-      All-contains (λ (v : Variable). (m : ℕ) → v.name ≡ name.Local m → slice_get (types_numbered (all_of i.head i.body)) m ≡ Some v.ctype) (variables_of i.head i.body) (variable_declared d)
+      All-contains (λ (v : Variable). (m : ℕ) → v.name ≡ name.Local m → slice_get (types_numbered (all_of i.head i.body)) m ≡ Some v.ctype) (variables_of i.body.note.mode i.head i.body) (variable_declared d)
       (variables_have i.head i.body (numbered_names p i.head i.body j i.there)) among in
       (short k (type_written d.ctype) (typed k is), λ l there. variables_have_types p s fn j i (variable_declared d) k l c is there)

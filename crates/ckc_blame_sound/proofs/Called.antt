@@ -191,7 +191,7 @@ module _ (s c : Setting) (store : Store) (v : Valuation) (at : State) (es : List
       elim (argument_contained c store v h entry at (λ facts. bases_by h.params 0 0 facts es) (λ facts. variables_by h.params 0 facts es) es 0 0 fresh k k (omega arith) new (omega arith) (omega arith) p.0 p.1 judged) [
         | inl o ↦ owed k o.argument o.there o.owed
         | inr one ↦ elim l.2 [
-          | inl is ↦ let there : local_at c.frame k ≡ Some p.0 = l.1 ∙ ap (λ (x : Local). Some x) is in local_read k p.0 there (parameter_read k p.0 p.1 there one)
+          | inl is ↦ (let there : local_at c.frame k ≡ Some p.0 = l.1 ∙ ap (λ (x : Local). Some x) is in local_read k p.0 there (parameter_read k p.0 p.1 there one))
           | inr u ↦ local_read k l.0 l.1 (λ low high b. absurd (unknown low high (sym u.bounds ∙ b)))
         ]
       ]

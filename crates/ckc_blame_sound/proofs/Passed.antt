@@ -201,13 +201,13 @@ module _ (s : Setting) (store : Store) (v : Valuation) (h : HeadBounds) (entry :
       elim (either (is_owed (slice_get h.interfaces k) a) (is_argument (slice_get h.params k) a first fresh at bases variables) f.0) [
         | inl o ↦ inl (record { argument = a; there = refl; owed = ap (λ j. is_owed (slice_get h.interfaces j) a) (sym same) ∙ o })
         | inr c ↦ inr (record {
-            argument = a;
-            first = first;
-            fresh = fresh;
-            contained = sym (ap (λ o. is_argument o a first fresh at bases variables) at_k) ∙ c;
-            new = subst (λ j. IsNewArgument (memory_of s store p.ctype) v a first fresh at (slice_index entry j)) same
-                (subst (λ o. IsNewArgumentIf s store v o a first fresh at (slice_index entry k)) at_k are.0);
-          })
+          argument = a;
+          first = first;
+          fresh = fresh;
+          contained = sym (ap (λ o. is_argument o a first fresh at bases variables) at_k) ∙ c;
+          new = subst (λ j. IsNewArgument (memory_of s store p.ctype) v a first fresh at (slice_index entry j)) same
+              (subst (λ o. IsNewArgumentIf s store v o a first fresh at (slice_index entry k)) at_k are.0);
+        })
       ]
   argument_contained (a ∷ es) k first fresh (suc i) j few are is within p there e =
       let next : capped k 1 ≡ k + 1 = next_is k (omega arith) in

@@ -325,7 +325,7 @@ acts_good p s work (Put spot target e rest) all g a w =
 acts_good p s work (Call spot target callee es rest) all g a w =
     let t : State = at_work s (Rest rest ∷ work) in
     moves_good (all_evaluated (store_of p.shapes s) es) (calls p t target callee spot.at)
-    (λ values. calls_good p.functions t target callee spot.at values all (at_good s (Rest rest ∷ work) g (a.1, w)))
+    (λ values. calls_good p t target callee spot.at values all (at_good s (Rest rest ∷ work) g (a.1, w)))
 acts_good p s work (If spot e one two rest) all g a w =
     moves_good (evaluated (store_of p.shapes s) e) (λ v. Goes [] (at_work s (Rest (if v.number == 0 then two else one) ∷ Rest rest ∷ work)))
     (λ v.

@@ -83,10 +83,10 @@ module _ {A : Type 0} where
   seen_type x y w = elim w [
     | inl e ↦ inl (ap (λ (d : Decl Name A). type_written d.ctype) e)
     | inr s ↦ inr (
-        ap is_pointer s.passed ∙ ap is_pointer_form (pointer_out kind.Arr s.to),
-        ap is_pointer s.written ∙ ap is_pointer_form (pointer_out kind.Raw s.to),
-        ap element_of s.written ∙ ap element_in (pointer_out kind.Raw s.to) ∙ sym (ap element_of s.passed ∙ ap element_in (pointer_out kind.Arr s.to)),
-      )
+      ap is_pointer s.passed ∙ ap is_pointer_form (pointer_out kind.Arr s.to),
+      ap is_pointer s.written ∙ ap is_pointer_form (pointer_out kind.Raw s.to),
+      ap element_of s.written ∙ ap element_in (pointer_out kind.Raw s.to) ∙ sym (ap element_of s.passed ∙ ap element_in (pointer_out kind.Arr s.to)),
+    )
   ]
 
   -- an interface in unchecked code

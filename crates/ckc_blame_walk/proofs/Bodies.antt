@@ -6,12 +6,17 @@ use Rattle.std.specs.Option.{option_map}
 use Rattle.std.proofs.lemmas.Bool.{eqb-true}
 use Rattle.std.proofs.lemmas.List.Elements.{All-nil, All-cons, All-head, All-tail, All-contains, Contains-append_cases, Contains-append_left, Contains-append_right}
 use Rattle.std.proofs.lemmas.List.{length-map}
+use Rattle.ckc_base.specs.declared.arithmetic.Mode.{Mode}
+use Rattle.ckc_base.specs.declared.arithmetic.Mode.TheVariants.{Checked, Unchecked}
+use Rattle.ckc_syntax.specs.Trees.{NamedTypeTree}
 use Rattle.ckc_syntax.specs.declared.tree.Name.{Name}
 use Rattle.ckc_syntax.specs.declared.tree.Name.TheVariants as name
 use Rattle.ckc_syntax.specs.declared.tree.Item.TheVariants as item
 use Rattle.ckc_typed.specs.declared.typed.Typed.{Typed}
 use Rattle.ckc_typed.specs.Environment.{same_name}
+use Rattle.ckc_typed.specs.Interfaces.{interface_to, seen_as, seen, seen_params}
 use Rattle.ckc_typed.specs.Trees.{NotedDecl, NotedHead, NotedItem, NotedStmt}
+use Rattle.ckc_typed.proofs.Seen.{name_seen as same_named}
 use Rattle.ckc_typed_welltyped.specs.Noteless.{bare_limits, bare_init, bare_decl, bare_head, bare_item}
 use Rattle.ckc_typed_fit.specs.Tests as tests
 use Rattle.ckc_typed_fit.specs.Tests.{Tests, type_passes, bounds_pass, init_passes, decl_passes, decls_pass, head_passes, item_passes, items_pass}
@@ -23,8 +28,8 @@ use Rattle.ckc_blame_sound.specs.ckc_bounds_points.specs.declared.frame.Local.{L
 use Rattle.ckc_blame_sound.specs.ckc_bounds_points.specs.Frames.{local_at}
 use Rattle.ckc_blame_sound.specs.ckc_bounds_points.specs.Flow.{in_bounds, in_bounds_of}
 use Rattle.ckc_blame_sound.specs.ckc_bounds_statements.specs.Paths.{local_in, path}
-use Rattle.ckc_blame_sound.specs.ckc_bounds.specs.Declarations.{local_made, types_in, declared_in}
-use Rattle.ckc_blame_sound.specs.ckc_bounds.specs.Frames.{all_of, name_seen, first_fresh, nameless, function_frame}
+use Rattle.ckc_blame_sound.specs.ckc_bounds.specs.Declarations.{local_made, all_made as locals_made}
+use Rattle.ckc_blame_sound.specs.ckc_bounds.specs.Frames.{all_of, name_seen, first_fresh, nameless, types_frame, function_frame}
 use Rattle.ckc_blame_sound.specs.Settings.{Setting}
 use Rattle.ckc_blame_sound.specs.JudgedTexts.{IsJudged}
 use Rattle.ckc_blame_sound.specs.Numbered.{AreLocals, AreAllLocals}
@@ -34,6 +39,7 @@ use Rattle.ckc_blame_sound.proofs.ByNumber.{all_at, unlike_all}
 use Rattle.ckc_blame_declared.proofs.Locals.{local_is}
 use Rattle.ckc_blame_walk.specs.Scopes.{tests_of, items_of, scope_of, HasLocal, IsScope, HasOwnBounds, AreNew, AreNext, IsScoped, with_declared}
 use Rattle.ckc_blame_walk.proofs.Bounds.{declared_over}
+use Rattle.ckc_blame_walk.proofs.Flow.{mapped_in}
 use Rattle.ckc_blame_walk.proofs.Elements.{no_element, one_element, local_number, number_same}
 use Rattle.ckc_blame_walk.proofs.Standing.{next_back}
 
@@ -71,15 +77,18 @@ module _ (s : Setting) (frame : Frame) (h : NotedHead) (body : NotedStmt) (same 
   abbrev ds : List NotedDecl
   ds = all_of h body
 
+  abbrev types : Frame
+  types = types_frame frame h body
+
   own_bounds : (d : NotedDecl) → Contains ds d → HasOwnBounds s d
   own_bounds d c k j visible named there passes inside =
       by (local_at (function_frame frame h body) k) refl (subst (λ f. in_bounds_of j (local_at f k) ≡ true) same inside)
     where
-      declared : (l : Local) → slice_get (declared_in frame ds) k ≡ Some l → in_bounds j l.bounds ≡ true → HasLocal visible j
+      declared : (l : Local) → slice_get (locals_made types true ds) k ≡ Some l → in_bounds j l.bounds ≡ true → HasLocal visible j
       declared l e g =
-          let made : slice_get (declared_in frame ds) k ≡ Some (local_made (types_in frame ds) true k d) = all_at (types_in frame ds) true ds k d numbers c named in
-          let is : l ≡ local_made (types_in frame ds) true k d = same_local l (local_made (types_in frame ds) true k d) (sym e ∙ made) in
-          declared_over (items_of s) visible (types_in frame ds) k there _ d.length d.bounds passes j (subst (λ (x : Local). in_bounds j x.bounds ≡ true) is g)
+          let made : slice_get (locals_made types true ds) k ≡ Some (local_made types true k d) = all_at types true ds k d numbers c named in
+          let is : l ≡ local_made types true k d = same_local l (local_made types true k d) (sym e ∙ made) in
+          declared_over (items_of s) visible types k there _ d.length d.bounds passes j (subst (λ (x : Local). in_bounds j x.bounds ≡ true) is g)
         where
           same_local : (a b : Local) → ◌≡◌ {A = Option Local} (Some a) (Some b) → a ≡ b
           same_local a b e = cc
@@ -168,6 +177,22 @@ names_bare : (ds : List NotedDecl) → tests.names_declared (map bare_decl ds) �
 names_bare [] = refl
 names_bare (d ∷ ds) = ap (λ ns. d.name ∷ ns) (names_bare ds)
 
+-- what a body sees of parameters has the same numbers
+seen_numbers : (mode : Mode) (ds : List NotedDecl) → flat_map name_seen (map (seen mode) ds) ≡ flat_map name_seen ds
+seen_numbers mode [] = refl
+seen_numbers mode (d ∷ ds) =
+    ap (λ n. local_in n ++ flat_map name_seen (map (seen mode) ds)) (same_named mode d) ∙ ap (λ ks. name_seen d ++ ks) (seen_numbers mode ds)
+
+-- and its bounds name what those of the parameter do
+seen_pass : (test : Tests) (visible : List Name) (mode : Mode) (d : NotedDecl) → bounds_pass test visible (option_map bare_limits d.bounds) ≡ true
+    → bounds_pass test visible (option_map bare_limits (seen mode d).bounds) ≡ true
+seen_pass test visible mode d h = by mode (interface_to d)
+  where
+    by : (mode : Mode) (t : Option NamedTypeTree) → bounds_pass test visible (option_map bare_limits (seen_as mode d t).bounds) ≡ true
+    by mode None = h
+    by Checked (Some t) = h
+    by Unchecked (Some t) = refl
+
 -- ---- a function
 
 module _ (p : Typed) (j : IsJudged p) (s : Setting) (frame : Frame) (h : NotedHead) (body : NotedStmt) (there : Contains j.typed.tree.items (item.Function h body)) (text : s.text ≡ p)
@@ -215,15 +240,25 @@ module _ (p : Typed) (j : IsJudged p) (s : Setting) (frame : Frame) (h : NotedHe
   below_params : (k : ℕ) → Contains (flat_map name_seen h.params) k → k < length h.params
   below_params k c = subst (λ n. k < n) (zero_first (length h.params)) (below_all h.params 0 params k c)
 
-  params_few : length h.params ≤ length s.variables
-  params_few = let l : length (all_of h body) ≡ length h.params + length (path body).declared = length-append h.params (path body).declared in let m : length s.variables ≡ length (all_of h body) = many in omega (arith, l, m)
+  abbrev params_here : List NotedDecl
+  params_here = seen_params body.note.mode h
 
-  params_scope : IsScope s visible (with_declared [] h.params) (flat_map name_seen h.params)
+  params_few : length h.params ≤ length s.variables
+  params_few =
+      let k : length params_here ≡ length h.params = length-map h.params (seen body.note.mode) in
+      let l : length (all_of h body) ≡ length params_here + length (path body).declared = length-append params_here (path body).declared in
+      let m : length s.variables ≡ length (all_of h body) = many in
+      omega (arith, k, l, m)
+
+  past_is : with_declared [] params_here ≡ flat_map name_seen h.params
+  past_is = declared_seen [] params_here ∙ seen_numbers body.note.mode h.params
+
+  params_scope : IsScope s visible (with_declared [] params_here) (flat_map name_seen h.params)
   params_scope = record {
     sees = sees_names h.params;
     few = λ k c. (let l = below_params k c in let m = params_few in omega (arith, l, m));
-    declared = λ k c. subst (λ ks. Contains ks k) (sym (declared_seen [] h.params)) c;
-    bounds = λ i k c l. by i k c (λ b. l (subst (λ ks. Contains ks k) (sym (declared_seen [] h.params)) b)) (in_bounds_of k (local_at s.frame i)) refl;
+    declared = λ k c. subst (λ ks. Contains ks k) (sym past_is) c;
+    bounds = λ i k c l. by i k c (λ b. l (subst (λ ks. Contains ks k) (sym past_is) b)) (in_bounds_of k (local_at s.frame i)) refl;
   }
     where
       by : (i k : ℕ) → Contains (flat_map name_seen h.params) i → (Contains (flat_map name_seen h.params) k → ⊥) → (b : Bool) → in_bounds_of k (local_at s.frame i) ≡ b → in_bounds_of k (local_at s.frame i) ≡ false
@@ -231,8 +266,10 @@ module _ (p : Typed) (j : IsJudged p) (s : Setting) (frame : Frame) (h : NotedHe
       by i k c l true e =
           let d : Declares h.params i = declares h.params 0 params i c in
           let found : HasLocal visible k =
-          own_bounds s frame h body same numbers d.decl (Contains-append_left h.params (path body).declared d.decl d.there) i k visible d.named
-          (any_named visible d.decl.name i (contains_name h.params d.decl d.there) d.named) (param_bounds d.decl d.there) e in
+          own_bounds s frame h body same numbers (seen body.note.mode d.decl)
+          (Contains-append_left params_here (path body).declared (seen body.note.mode d.decl) (mapped_in (seen body.note.mode) h.params d.decl d.there)) i k visible
+          (same_named body.note.mode d.decl ∙ d.named) (any_named visible d.decl.name i (contains_name h.params d.decl d.there) d.named)
+          (seen_pass t visible body.note.mode d.decl (param_bounds d.decl d.there)) e in
           absurd (l (sees_names h.params k found))
 
   all_next : AreNext s [] (all_of h body)
@@ -245,8 +282,8 @@ module _ (p : Typed) (j : IsJudged p) (s : Setting) (frame : Frame) (h : NotedHe
   pub body_scoped : IsScoped s body (flat_map name_seen h.params)
   body_scoped = record {
     visible = visible;
-    past = with_declared [] h.params;
+    past = with_declared [] params_here;
     scope = params_scope;
     passes = body_passes;
-    declares = next_back s h.params (path body).declared [] all_next;
+    declares = next_back s params_here (path body).declared [] all_next;
   }

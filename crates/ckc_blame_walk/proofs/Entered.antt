@@ -2,12 +2,14 @@
 use Rattle.std.proofs.Common.{◌≡◌, ◌⊎◌, ⊎_elim, inl, inr, ℕ, zero, suc, ◌-◌, ◌^◌, ◌≤◌, ◌<◌, Bool, true, false, List, [], ◌∷◌, ◌++◌, length, length-append, map, replicate, refl, sym, ◌∙◌, ap, subst, arith}
 use Rattle.std.specs.Prelude.{if◌then◌else◌, slice_index}
 use Rattle.std.proofs.lemmas.List.{length-replicate}
+use Rattle.ckc_base.specs.declared.arithmetic.Mode.TheVariants.{Checked}
 use Rattle.ckc_types.specs.declared.types.CType.{CType}
 use Rattle.ckc_typed.specs.declared.typed.Typed.{Typed}
 use Rattle.ckc_typed.specs.Trees.{NotedDecl, NotedHead, NotedStmt}
 use Rattle.ckc_typed.specs.Types.{is_char}
 use Rattle.ckc_typed.specs.Environment.{variable_declared, params_of, locals_of, variables_of}
-use Rattle.ckc_blame_sound.specs.ckc_bounds.specs.Declarations.{types_in}
+use Rattle.ckc_typed.specs.Interfaces.{seen, seen_params}
+use Rattle.ckc_blame_sound.specs.ckc_bounds.specs.Declarations.{params_frame}
 use Rattle.ckc_blame_sound.specs.ckc_bounds.proofs.Lists.{all_made_length}
 use Rattle.ckc_blame_sound.specs.ckc_bounds.specs.Frames.{begin_in}
 use Rattle.ckc_source.specs.Blocks.{Block}
@@ -60,16 +62,18 @@ mapped_many f (x ∷ xs) = ap suc (mapped_many f xs)
 
 pub params_many : (p : Typed) (head : NotedHead) (body : NotedStmt) → length (setting_of p head body).head.params ≡ length head.params
 unfolding setting_of
-params_many p head body = all_made_length (types_in (frame_of_text p) head.params) true head.params
+params_many p head body =
+    all_made_length (params_frame (frame_of_text p) head) true (seen_params Checked head) ∙ mapped_many (seen Checked) head.params
 
 variables_many : (p : Typed) (k : ℕ) (head : NotedHead) (body : NotedStmt) → (function_elaborated p k head body).locals ≡ length (setting_of p head body).variables
 unfolding setting_of
 variables_many p k head body = refl
 
-room_for : (head : NotedHead) (body : NotedStmt) → length head.params ≤ length (variables_of head body)
+room_for : (head : NotedHead) (body : NotedStmt) → length head.params ≤ length (variables_of body.note.mode head body)
 room_for head body =
-    let both = length-append (params_of head) (locals_of body) in
-    let first = mapped_many {A = NotedDecl} variable_declared head.params in
+    let both = length-append (params_of body.note.mode head) (locals_of body) in
+    let first = mapped_many {A = NotedDecl} variable_declared (seen_params body.note.mode head) in
+    let all = mapped_many (seen body.note.mode) head.params in
     omega arith
 
 -- ---- the first point

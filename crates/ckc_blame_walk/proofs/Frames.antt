@@ -3,20 +3,25 @@ use Rattle.std.proofs.Common.{◌≡◌, refl, sym, ap, subst, ◌∙◌, ℕ, s
 use Rattle.std.specs.Prelude.{◌<◌, ◌≤◌, ◌-◌, ◌^◌, if◌then◌else◌, slice_set, Ok, Err}
 use Rattle.std.proofs.lemmas.List.{length-map}
 use Rattle.std.proofs.lemmas.List.Sorted.{length_permutation}
+use Rattle.ckc_base.specs.declared.arithmetic.Mode.{Mode}
+use Rattle.ckc_base.specs.declared.arithmetic.Mode.TheVariants.{Checked}
 use Rattle.ckc_base.specs.Outcomes.{Outcome}
 use Rattle.ckc_base.proofs.Outcomes.{made_of}
 use Rattle.ckc_syntax.specs.declared.tree.Name.{Name}
 use Rattle.ckc_syntax.specs.declared.tree.Name.TheVariants as name
+use Rattle.ckc_typed.specs.declared.typed.Note.{Note}
 use Rattle.ckc_typed.specs.declared.typed.Typed.{Typed}
 use Rattle.ckc_typed.specs.Environment.{variable_declared, variables_of}
+use Rattle.ckc_typed.specs.Interfaces.{seen, seen_params}
+use Rattle.ckc_typed.proofs.Seen.{names_seen}
 use Rattle.ckc_typed.specs.Statics.{strings_of_head, strings_of_stmt}
 use Rattle.ckc_typed.specs.Trees.{NotedDecl, NotedHead, NotedStmt}
 use Rattle.ckc_blame_sound.specs.ckc_bounds_points.specs.declared.frame.Local.{Local}
 use Rattle.ckc_blame_sound.specs.ckc_bounds_points.specs.declared.frame.HeadBounds.{HeadBounds}
 use Rattle.ckc_blame_sound.specs.ckc_bounds_points.specs.declared.frame.Frame.{Frame}
 use Rattle.ckc_blame_sound.specs.ckc_bounds_statements.specs.Paths.{Here, path}
-use Rattle.ckc_blame_sound.specs.ckc_bounds.specs.Declarations.{nameless, local_made, with_local, with_all, all_made, with_locals, types_in, declared_in, head_bounds}
-use Rattle.ckc_blame_sound.specs.ckc_bounds.specs.Frames.{name_seen, all_of, begin_in, begin_of, needed_from, fresh_needed, with_nameless, locals_frame, first_fresh, function_frame}
+use Rattle.ckc_blame_sound.specs.ckc_bounds.specs.Declarations.{nameless, local_made, with_local, with_all, all_made, with_locals, head_bounds}
+use Rattle.ckc_blame_sound.specs.ckc_bounds.specs.Frames.{name_seen, all_of, begin_in, begin_of, needed_from, fresh_needed, with_nameless, types_frame, locals_frame, first_fresh, function_frame}
 use Rattle.ckc_blame_sound.specs.ckc_bounds.specs.Texts.{body_judged}
 use Rattle.ckc_source.specs.Code.{Code, Function}
 use Rattle.ckc_build_elaborate.proofs.Counted as counted
@@ -29,8 +34,9 @@ use Rattle.ckc_blame_sound.specs.Judged.{Judged}
 use Rattle.ckc_blame_sound.proofs.Strings.{strings_after}
 use Rattle.ckc_blame_sound.specs.JudgedTexts.{IsJudged, IsBodyJudged, globals_in}
 use Rattle.ckc_blame_sound.proofs.Bodies.{bodies_are_typed, declared_known}
-use Rattle.ckc_blame_sound.proofs.Frames.{variables_moved, declared_counted}
+use Rattle.ckc_blame_sound.proofs.Frames.{variables_moved, params_counted}
 use Rattle.ckc_blame_sound.proofs.Locals.{names_declared, variables_declared}
+use Rattle.ckc_blame_sound.proofs.Notes.{body_noted}
 use Rattle.ckc_blame_sound.proofs.Parameters.{locals_come_after}
 use Rattle.ckc_blame_nested.specs.Nested.{AreNested}
 use Rattle.ckc_blame_walk.specs.Walks.{leaving}
@@ -77,25 +83,32 @@ all_bare frame b ds =
 all_same : (frame : Frame) (b : Bool) (ds es : List NotedDecl) → map bare ds ≡ map bare es → all_made frame b ds ≡ all_made frame b es
 all_same frame b ds es e = sym (all_bare frame b ds) ∙ ap (all_made frame b) e ∙ all_bare frame b es
 
-declared_same : (frame : Frame) (ds es : List NotedDecl) → map bare ds ≡ map bare es → declared_in frame ds ≡ declared_in frame es
-declared_same frame ds es e =
-    ap (λ ls. all_made (with_locals frame ls) true ds) (all_same frame false ds es e) ∙ all_same (types_in frame es) true ds es e
-
 needed_same : (n : ℕ) (o q : Outcome (NotedStmt × Here)) → Agree SameHere o q → needed_from n o ≡ needed_from n q
 needed_same n (Ok p) (Ok q) h = ap (λ (x : Here). x.next - n) h.0
 needed_same n (Err p) (Err q) h = refl
 needed_same n (Ok p) (Err q) h = absurd h
 needed_same n (Err p) (Ok q) h = absurd h
 
-module _ (frame : Frame) (h : NotedHead) (after before : NotedStmt) (twin : Twin (path after) (path before)) where
+module _ (frame : Frame) (h : NotedHead) (after before : NotedStmt) (noted : after.note ≡ before.note) (twin : Twin (path after) (path before)) where
   declared_bare : map bare (all_of h after) ≡ map bare (all_of h before)
-  declared_bare = bare_both h.params h.params (path after).declared (path before).declared refl twin.declared
+  declared_bare =
+      bare_both (seen_params after.note.mode h) (seen_params before.note.mode h) (path after).declared (path before).declared
+      (ap (λ (n : Note). map bare (seen_params n.mode h)) noted) twin.declared
+
+  types_bare : map bare (seen_params Checked h ++ (path after).declared) ≡ map bare (seen_params Checked h ++ (path before).declared)
+  types_bare = bare_both (seen_params Checked h) (seen_params Checked h) (path after).declared (path before).declared refl twin.declared
+
+  types_same : types_frame frame h after ≡ types_frame frame h before
+  types_same =
+      ap (with_locals frame) (all_same frame false (seen_params Checked h ++ (path after).declared) (seen_params Checked h ++ (path before).declared) types_bare)
 
   pub fresh_same : first_fresh h after ≡ first_fresh h before
   fresh_same = sym (as_many (all_of h after)) ∙ ap length declared_bare ∙ as_many (all_of h before)
 
   locals_same : locals_frame frame h after ≡ locals_frame frame h before
-  locals_same = ap (with_locals frame) (declared_same frame (all_of h after) (all_of h before) declared_bare)
+  locals_same =
+      ap (λ types. with_locals frame (all_made types true (all_of h after))) types_same
+      ∙ ap (with_locals frame) (all_same (types_frame frame h before) true (all_of h after) (all_of h before) declared_bare)
 
   needs : (inside : Frame) (head : HeadBounds) (n : ℕ) → fresh_needed inside head h after n ≡ fresh_needed inside head h before n
   needs inside head n =
@@ -128,10 +141,14 @@ names_same ds es e = sym (names_bare ds) ∙ ap names_declared e ∙ names_bare 
     names_bare (d ∷ ds) = ap (λ ns. d.name ∷ ns) (names_bare ds)
 
 -- there are as many variables as declarations
-variables_counted : (h : NotedHead) (body : NotedStmt) → first_fresh h body ≡ length (variables_of h body)
+variables_counted : (h : NotedHead) (body : NotedStmt) → first_fresh h body ≡ length (variables_of body.note.mode h body)
 variables_counted h body =
     let ds = all_of h body in
-    sym (length-map ds (λ (d : NotedDecl). variable_declared d)) ∙ sym (length_permutation (variables_declared ds) (variables_of h body) (variables_moved h body))
+    sym (length-map ds (λ (d : NotedDecl). variable_declared d)) ∙ sym (length_permutation (variables_declared ds) (variables_of body.note.mode h body) (variables_moved h body))
+
+-- A head tells as many parameters as a body sees.
+seen_counted : (frame : Frame) (mode : Mode) (h : NotedHead) → length (seen_params mode h) ≡ length (head_bounds frame h).params
+seen_counted frame mode h = length-map h.params (seen mode) ∙ params_counted frame h
 
 setting_inside : (p : Typed) (j : IsJudged p) (h : NotedHead) (body : NotedStmt) (b : IsBodyJudged (globals_in p) j.typed h body) → AreLocals 0 (names_declared h.params) → AreAllLocals (names_declared (all_of h b.before)) → IsInBody (setting_of p h body) b.before
 unfolding setting_of
@@ -142,7 +159,9 @@ setting_inside p j h body b params numbers = record {
   known = declared_known (globals_in p) j.typed h body b;
   words = λ w. w j.typed h b.before j.has_bounds b.there;
   safe = λ w. w j.typed h b.before j.has_bounds b.there;
-  late = λ d k there named. subst (λ n. n ≤ k) (declared_counted (frame_of_text p) h.params) (locals_come_after h.params (path b.before).declared d k params numbers there named);
+  late = λ d k there named.
+      subst (λ n. n ≤ k) (seen_counted (frame_of_text p) b.before.note.mode h)
+      (locals_come_after (seen_params b.before.note.mode h) (path b.before).declared d k (subst (AreLocals 0) (sym (names_seen b.before.note.mode h)) params) numbers there named);
   sized = λ w. w j.typed h b.before j.has_types.typed j.has_bounds b.there;
   given = λ g. g j.typed h b.before j.has_bounds b.there;
 }
@@ -151,7 +170,7 @@ setting_fresh : (p : Typed) (h : NotedHead) (body : NotedStmt) → IsNextFresh (
 unfolding setting_of
 setting_fresh p h body few =
     let same = variables_counted h body in
-    let n = length (variables_of h body) in
+    let n = length (variables_of body.note.mode h body) in
     subst (λ m. (n ≤ m) × (m < 2 ^ 32)) (sym same) (omega arith, few)
 
 -- There is room for the fresh variables of a whole body, if the bodies of the text are so.
@@ -163,7 +182,7 @@ body_room p s f is before firsts judged few =
     let same : walk.0.0 ≡ is.body = cc in
     let nodes : nodes_in is.body ≡ nodes_in before =
     ap nodes_in (sym same) ∙ statement_nodes (function_frame (frame_of_text p) is.head before) (head_bounds (frame_of_text p) is.head) before (begin_of (frame_of_text p) is.head before) walk.0 walk.1 in
-    let variables : length s.variables ≡ length (variables_of is.head is.body) = ap (λ (x : Setting). length x.variables) is.judged in
+    let variables : length s.variables ≡ length (variables_of is.body.note.mode is.head is.body) = ap (λ (x : Setting). length x.variables) is.judged in
     let text : AreFew p = subst AreFew (ap (λ (x : Setting). x.text) is.judged) few in
     omega (arith, nodes, variables, text is.head is.body is.there, firsts, variables_counted is.head is.body)
 
@@ -175,16 +194,17 @@ text_goes p s f j fine is =
     let same : SameText j.typed p = text_same j.typed p j.has_bounds in
     let b : IsBodyJudged (globals_in p) j.typed is.head is.body = bodies_are_typed p j is.head is.body is.there in
     let judged : body_judged (frame_of_text p) is.head b.before ≡ Ok is.body = ap (λ g. body_judged g is.head b.before) same.frame ∙ b.judged in
+    let noted : is.body.note ≡ b.before.note = body_noted (frame_of_text p) is.head b.before is.body judged in
     let twin : Twin (path is.body) (path b.before) = body_twin (frame_of_text p) is.head b.before is.body judged in
-    let firsts : first_fresh is.head is.body ≡ first_fresh is.head b.before = fresh_same (frame_of_text p) is.head is.body b.before twin in
+    let firsts : first_fresh is.head is.body ≡ first_fresh is.head b.before = fresh_same (frame_of_text p) is.head is.body b.before noted twin in
     let fresh : IsNextFresh s (first_fresh is.head b.before) =
     subst (IsNextFresh s) firsts (subst (λ x. IsNextFresh x (first_fresh is.head is.body)) (sym is.judged) (setting_fresh p is.head is.body)) in
     let room : HasRoom s (first_fresh is.head b.before) (nodes_in b.before) = body_room p s f is b.before firsts judged in
     let frame_is : s.frame ≡ function_frame (frame_of_text p) is.head b.before =
-    ap (λ (x : Setting). x.frame) is.judged ∙ frame_same (frame_of_text p) is.head is.body b.before twin in
+    ap (λ (x : Setting). x.frame) is.judged ∙ frame_same (frame_of_text p) is.head is.body b.before noted twin in
     let params : AreLocals 0 (names_declared is.head.params) = params_numbered p is.head is.body j is.there in
     let numbers : AreAllLocals (names_declared (all_of is.head b.before)) =
-    subst AreAllLocals (names_same (all_of is.head is.body) (all_of is.head b.before) (declared_bare (frame_of_text p) is.head is.body b.before twin)) (numbered p is.head is.body j is.there) in
+    subst AreAllLocals (names_same (all_of is.head is.body) (all_of is.head b.before) (declared_bare (frame_of_text p) is.head is.body b.before noted twin)) (numbered p is.head is.body j is.there) in
     let inside : IsInBody s b.before = subst (λ x. IsInBody x b.before) (sym is.judged) (setting_inside p j is.head is.body b params numbers) in
     let many : length s.variables ≡ first_fresh is.head b.before = ap (λ (x : Setting). length x.variables) is.judged ∙ sym (variables_counted is.head is.body) ∙ firsts in
     let text : s.text ≡ p = ap (λ (x : Setting). x.text) is.judged in
@@ -201,4 +221,4 @@ text_goes p s f j fine is =
 
 -- a judged function has the frame of the function before it was judged
 pub function_frames_same : (frame : Frame) (h : NotedHead) (before body : NotedStmt) → body_judged frame h before ≡ Ok body → function_frame frame h body ≡ function_frame frame h before
-function_frames_same frame h before body judged = frame_same frame h body before (body_twin frame h before body judged)
+function_frames_same frame h before body judged = frame_same frame h body before (body_noted frame h before body judged) (body_twin frame h before body judged)

@@ -12,7 +12,7 @@ use Rattle.ckc_blame_sound.specs.ckc_bounds_points.specs.declared.frame.Bounds.{
 use Rattle.ckc_blame_sound.specs.ckc_bounds_points.specs.declared.frame.HeadBounds.{HeadBounds}
 use Rattle.ckc_blame_sound.specs.ckc_bounds_statements.specs.DeclBounds.{bounds_there}
 use Rattle.ckc_blame_sound.specs.ckc_bounds_statements.specs.Paths.{init_judged}
-use Rattle.ckc_blame_sound.specs.ckc_bounds.specs.Declarations.{head_judged, member_holder, types_in, heads_from, with_item, object_bounds_in, objects_of, with_object}
+use Rattle.ckc_blame_sound.specs.ckc_bounds.specs.Declarations.{head_judged, member_holder, params_frame, heads_from, with_item, object_bounds_in, objects_of, with_object}
 use Rattle.ckc_blame_sound.specs.ckc_bounds.specs.Frames.{structs_frame, text_frame}
 use Rattle.ckc_blame_sound.specs.ckc_bounds.specs.Texts.{outside, members_judged, body_judged, item_judged, items_judged}
 use Rattle.ckc_blame_sound.specs.ckc_bounds.specs.Phase.{bounding}
@@ -51,10 +51,10 @@ item_same frame (item.Static d) =
       function = λ h body e. absurd (cc);
     })))
 item_same frame (item.Proto h) =
-    nested (SameItem frame (item.Proto h)) (head_judged (types_in frame h.params) h) _ _ (λ b is.
+    nested (SameItem frame (item.Proto h)) (head_judged (params_frame frame h) h) _ _ (λ b is.
     given (SameItem frame (item.Proto h)) (item.Proto h) (record { object = λ inside rest. refl; head = λ inside heads. refl; function = λ h body e. absurd (cc) }))
 item_same frame (item.Function h body) =
-    nested (SameItem frame (item.Function h body)) (head_judged (types_in frame h.params) h) _ _ (λ b is.
+    nested (SameItem frame (item.Function h body)) (head_judged (params_frame frame h) h) _ _ (λ b is.
     through (SameItem frame (item.Function h body)) (body_judged frame h body) _ (λ after judged.
     given (SameItem frame (item.Function h body)) (item.Function h after) (record {
       object = λ inside rest. refl;

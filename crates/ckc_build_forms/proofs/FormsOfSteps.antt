@@ -1,6 +1,7 @@
 -- What assignments, calls and declarations of a judged text become has the form.
 use Rattle.std.proofs.Common.{◌≡◌, ◌∙◌, refl, sym, ap, subst, arith, ℕ, suc, ◌+◌, ◌<◌, ◌≤◌, Bool, true, false, List, [], ◌∷◌, map, length}
 use Rattle.std.specs.Prelude.{Option, Some, None, slice_get, if◌then◌else◌}
+use Rattle.ckc_base.specs.declared.arithmetic.Mode.{Mode}
 use Rattle.ckc_base.specs.declared.places.Pos.{Pos}
 use Rattle.ckc_types.specs.declared.types.CType.{CType}
 use Rattle.ckc_syntax.specs.Inside.{highest, inside_each}
@@ -11,13 +12,14 @@ use Rattle.ckc_syntax.specs.declared.tree.Node.{Node-F, map-Node, out-Node, fold
 use Rattle.ckc_syntax.specs.declared.tree.Expr.{fold-roll-Expr, every_here-Expr}
 use Rattle.ckc_syntax_limits.specs.Depth.{limits_depth, node_depth, expr_depth, depth_of_limits, depth_of_node, depth_of_expr}
 use Rattle.ckc_typed.specs.declared.environment.Globals.{Globals}
+use Rattle.ckc_typed.specs.declared.environment.Parameter.{Parameter}
 use Rattle.ckc_typed.specs.declared.environment.Signature.{Signature}
 use Rattle.ckc_typed.specs.declared.typed.Note.{Note}
 use Rattle.ckc_typed.specs.declared.typed.Typed.{Typed}
 use Rattle.ckc_typed.specs.Environment.{signature_named}
 use Rattle.ckc_typed.specs.Trees.{Item, NotedDecl, NotedInit, NotedExpr, NotedLayer}
 use Rattle.ckc_typed.specs.Types.{type_written, is_char}
-use Rattle.ckc_typed_welltyped.specs.Expressions.{AnyLimits, AnyNode, HasType, AreArguments}
+use Rattle.ckc_typed_welltyped.specs.Expressions.{AnyLimits, AnyNode, HasType, AreArguments, IsCall}
 use Rattle.ckc_source.specs.declared.stmt.Spot.{Spot}
 use Rattle.ckc_source.specs.Code.{Expr, Number, Narrow, Code, Function}
 use Rattle.ckc_checks_operands.specs.Compilable.{HasParams}
@@ -158,11 +160,11 @@ module _ (p : Typed) (globals : Globals) (s : Setting) (js : List Item) (ready :
   arguments_many [] (e ∷ es) k = ap suc (arguments_many [] es (k + literals_of e))
   arguments_many (d ∷ ds) (e ∷ es) k = ap suc (arguments_many ds es (k + literals_of e))
 
-  as_many : (ts : List CType) (es : List NotedExpr) → AreArguments ts es → length ts ≡ length es
-  as_many [] [] h = refl
-  as_many [] (e ∷ es) h = absurd h
-  as_many (t ∷ ts) [] h = absurd h
-  as_many (t ∷ ts) (e ∷ es) h = ap suc (as_many ts es h.1)
+  as_many : (mode : Mode) (ps : List Parameter) (es : List NotedExpr) → AreArguments mode ps es → length ps ≡ length es
+  as_many mode [] [] h = refl
+  as_many mode [] (e ∷ es) h = absurd h
+  as_many mode (q ∷ ps) [] h = absurd h
+  as_many mode (q ∷ ps) (e ∷ es) h = ap suc (as_many mode ps es h.1)
 
   first_form : (es : List NotedExpr) → AllGood es → (k : ℕ) → PartForm n (first_of p s.variables k es)
   first_form [] g k = number_form 0
@@ -182,21 +184,21 @@ module _ (p : Typed) (globals : Globals) (s : Setting) (js : List Item) (ready :
   InitGood (init.Many es) = Unit {0}
 
   module _ (looped : Bool) (spot : Spot) (to : Destination) (arrives : Arrives to) (k : ℕ) (rest : Code) (behind : CodeForm fs n looped rest) where
-    called_form : (m : Name) (es : List NotedExpr) (at : Pos) (t : CType) (row : (sig : Signature) × (signature_named globals m ≡ Some sig) × AreArguments sig.params es × (t ≡ sig.result)) → AllGood es
+    called_form : (mode : Mode) (m : Name) (es : List NotedExpr) (at : Pos) (t : CType) (row : IsCall globals mode m es t) → AllGood es
         → CodeForm fs n looped (called p s.variables spot to k m es at rest)
-    called_form (name.Function f) es at t row g =
+    called_form mode (name.Function f) es at t row g =
         let many = arguments_many (params_of (name.Function f) p.tree.items) es k in (
           arrives.kept,
-          subst (λ c. HasParams c (slice_get fs (number_of (name.Function f) p.tree.items))) (as_many row.0.params es row.2 ∙ sym many) (callees f row.0 row.1),
+          subst (λ c. HasParams c (slice_get fs (number_of (name.Function f) p.tree.items))) (as_many mode row.0.params es row.2 ∙ sym many) (callees f row.0 row.1),
           arguments_form (params_of (name.Function f) p.tree.items) es g k,
           behind,
         )
-    called_form name.Getchar es at t row g = (arrives.target, behind)
-    called_form name.Putchar es at t row g = (arrives.target, first_form es g k, behind)
-    called_form (name.Local x) es at t row g = (arrives.target, number_form 0, behind)
-    called_form (name.Static x) es at t row g = (arrives.target, number_form 0, behind)
-    called_form (name.Tag x) es at t row g = (arrives.target, number_form 0, behind)
-    called_form (name.Member x) es at t row g = (arrives.target, number_form 0, behind)
+    called_form mode name.Getchar es at t row g = (arrives.target, behind)
+    called_form mode name.Putchar es at t row g = (arrives.target, first_form es g k, behind)
+    called_form mode (name.Local x) es at t row g = (arrives.target, number_form 0, behind)
+    called_form mode (name.Static x) es at t row g = (arrives.target, number_form 0, behind)
+    called_form mode (name.Tag x) es at t row g = (arrives.target, number_form 0, behind)
+    called_form mode (name.Member x) es at t row g = (arrives.target, number_form 0, behind)
 
     pub assigned_form_is : (e : NotedExpr) → Fine e → CodeForm fs n looped (assigned p s.variables spot to k e rest)
     assigned_form_is e g =
@@ -207,7 +209,8 @@ module _ (p : Typed) (globals : Globals) (s : Setting) (js : List Item) (ready :
       where
         by : (x : NotedLayer) → HasType globals s.variables (every_here-Expr Name Note AnyLimits AnyNode Fit e g.fit).0.0.mode x e.note.ctype → Down (EachExpr Fit) (EachLimits Fit) x → InsideDepth x ≤ 63
             → CodeForm fs n looped (assigned_form p s.variables spot to k e x rest)
-        by (Node-F.Call m es) row w d = called_form m es e.pos e.note.ctype row (all_good es w (omega (arith, d)))
+        by (Node-F.Call m es) row w d =
+            called_form (every_here-Expr Name Note AnyLimits AnyNode Fit e g.fit).0.0.mode m es e.pos e.note.ctype row (all_good es w (omega (arith, d)))
         by x row w d = (arrives.target, right_is to.terminated e g k, behind)
 
     pub started_form : (i : NotedInit) → InitGood i → CodeForm fs n looped (started p s.variables spot to k i rest)

@@ -1,6 +1,6 @@
 -- The program of a judged text that keeps the limits of a text keeps those of a program: its functions are few, each has
 -- few locals and few nodes, and `main` is there without parameters.
-use Rattle.std.proofs.Common.{◌∙◌, sym, ap, subst, arith, ℕ, ◌+◌, ◌≤◌, List, [], ◌∷◌, map, length, length-append}
+use Rattle.std.proofs.Common.{◌∙◌, sym, ap, subst, arith, ℕ, ◌+◌, ◌≤◌, List, [], ◌∷◌, length, length-append}
 use Rattle.std.specs.Prelude.{All, slice_get}
 use Rattle.std.specs.List.{Contains, flat_map}
 use Rattle.std.proofs.lemmas.List.{length-map}
@@ -10,7 +10,8 @@ use Rattle.ckc_syntax.specs.declared.tree.Item.TheVariants as item
 use Rattle.ckc_syntax_limits.specs.Marks.{is_function, marks_of_stmt, marks_of_item, marks_of}
 use Rattle.ckc_syntax_limits.specs.Small.{Small}
 use Rattle.ckc_typed.specs.declared.typed.Typed.{Typed}
-use Rattle.ckc_typed.specs.Environment.{variable_declared, locals_of, variables_of}
+use Rattle.ckc_typed.specs.Environment.{variable_declared, locals_of, params_of, variables_of}
+use Rattle.ckc_typed.specs.Interfaces.{seen, seen_params}
 use Rattle.ckc_typed.specs.Trees.{NotedDecl, NotedHead, NotedStmt, NotedItem, Tree}
 use Rattle.ckc_typed.specs.Types.{type_written}
 use Rattle.ckc_typed_welltyped.proofs.MarksKept as kept
@@ -68,10 +69,10 @@ pub record KeepsLimits (f : Function) : Type 0 where
 
 keeps_limits : (p : Typed) (j : IsJudged p) → Small j.named.tree → (k : ℕ) (h : NotedHead) (body : NotedStmt) → Contains p.tree.items (item.Function h body) → KeepsLimits (function_elaborated p k h body)
 keeps_limits p j small k h body there =
-    let long = length-append (map variable_declared h.params) (locals_of body) in
-    let many = length-map h.params variable_declared in
+    let long = length-append (params_of body.note.mode h) (locals_of body) in
+    let many = length-map (seen_params body.note.mode h) variable_declared ∙ length-map h.params (seen body.note.mode) in
     let few = few_variables p j h body small there in
-    let nodes = stmt_small p (variables_of h body) (type_written h.result) (k + literals_of_head h) body in
+    let nodes = stmt_small p (variables_of body.note.mode h body) (type_written h.result) (k + literals_of_head h) body in
     let most = texts_are_few p j small h body there in
     let same = is_marked (marks_of_stmt body) in
     record {

@@ -13,8 +13,8 @@ use Rattle.ckc_typed.specs.declared.typed.Typed.{Typed}
 use Rattle.ckc_typed.specs.Environment.{variables_of}
 use Rattle.ckc_typed.specs.Trees.{NotedHead, NotedStmt}
 use Rattle.ckc_typed.specs.Types.{is_integer, is_integer_form, is_pointer, is_pointer_form}
-use Rattle.ckc_blame_steps.specs.ckc_bounds.specs.Declarations.{few_of, first_of, declared_in, head_bounds}
-use Rattle.ckc_blame_steps.specs.ckc_bounds.specs.Frames.{all_of, first_fresh, fresh_needed, nameless, locals_frame, function_frame}
+use Rattle.ckc_blame_steps.specs.ckc_bounds.specs.Declarations.{few_of, first_of, head_bounds}
+use Rattle.ckc_blame_steps.specs.ckc_bounds.specs.Frames.{first_fresh, fresh_needed, nameless, locals_frame, function_frame}
 use Rattle.ckc_blame_steps.specs.ckc_bounds_points.specs.declared.frame.Bounds.{Bounds}
 use Rattle.ckc_blame_steps.specs.ckc_bounds_points.specs.declared.frame.Bounds.TheVariants as bounds
 use Rattle.ckc_blame_steps.specs.ckc_bounds_points.specs.declared.frame.Frame.{Frame}
@@ -28,7 +28,7 @@ use Rattle.ckc_build_values.specs.Ends.{base_at, variable_at, local_variable, en
 use Rattle.ckc_blame_steps.specs.ckc_blame_sound.specs.Ends.{IsBase, IsCounted, IsEnd, AreEnds}
 use Rattle.ckc_blame_steps.specs.ckc_blame_sound.specs.JudgedTexts.{IsJudged}
 use Rattle.ckc_blame_steps.specs.ckc_blame_sound.specs.Settings.{Setting, IsFunction, frame_of_text, setting_of}
-use Rattle.ckc_blame_steps.specs.ckc_blame_sound.proofs.Frames.{first_at, locals_counted}
+use Rattle.ckc_blame_steps.specs.ckc_blame_sound.proofs.Frames.{first_at, locals_made, locals_counted}
 use Rattle.ckc_blame_steps.specs.ckc_blame_declared.proofs.HaveEnds.{locals_have_ends}
 use Rattle.ckc_source.specs.declared.expr.Base.TheVariants as ends
 use Rattle.ckc_build_forms.proofs.Forms.{BaseForm, EndForm, LimitsForm}
@@ -56,13 +56,13 @@ behind (y ∷ xs) n x l zero e = inl (omega arith)
 behind (y ∷ xs) n x l (suc k) e = ⊎_elim (λ h. inl (omega (arith, h))) (λ h. inr h) (behind xs n x l k e)
 
 declared_or_void : (frame : Frame) (h : NotedHead) (body : NotedStmt) (k : ℕ) (l : Local) → local_at (function_frame frame h body) k ≡ Some l
-    → (k < length (variables_of h body)) ⊎ (l.ctype ≡ ctype.Void)
+    → (k < length (variables_of body.note.mode h body)) ⊎ (l.ctype ≡ ctype.Void)
 unfolding few_of
 declared_or_void frame h body k l e =
-    let D = declared_in frame (all_of h body) in
+    let D = locals_made frame h body in
     let n = fresh_needed (locals_frame frame h body) (head_bounds frame h) h body (first_fresh h body) in
     let one = first_at 1023 (first_of 1023 D ++ replicate n nameless) k l e in
-    let long : length D ≡ length (variables_of h body) = locals_counted frame h body in
+    let long : length D ≡ length (variables_of body.note.mode h body) = locals_counted frame h body in
     let short = first_short 1023 D in
     ⊎_elim (λ f. inl (omega (arith, f, short, long))) (λ f. inr (sym (ap (λ (x : Local). x.ctype) f))) (behind (first_of 1023 D) n nameless l k one.1)
 

@@ -14,10 +14,9 @@ use Rattle.ckc_syntax_limits.specs.Small.{Small, SmallItem}
 use Rattle.ckc_types.specs.declared.types.CType.{CType}
 use Rattle.ckc_typed.specs.declared.environment.Variable.{Variable}
 use Rattle.ckc_typed.specs.declared.typed.Typed.{Typed}
-use Rattle.ckc_typed.specs.Environment.{type_of_name, variable_declared, variables_of}
+use Rattle.ckc_typed.specs.Environment.{parameter_declared, type_of_name, variable_declared, variables_of}
 use Rattle.ckc_typed.specs.Layouts.{structs_of}
 use Rattle.ckc_typed.specs.Trees.{Item, Tree, NotedDecl, NotedHead, NotedItem, NotedStmt}
-use Rattle.ckc_typed.specs.Types.{type_written}
 use Rattle.ckc_typed_fit.specs.Tests.{item_passes, head_passes, walked, names_declared}
 use Rattle.ckc_typed_welltyped.specs.Noteless.{bare_head, bare_item, bare_stmt}
 use Rattle.ckc_typed_welltyped.specs.Productions.{given_tree}
@@ -64,12 +63,12 @@ each P all f (x ∷ xs) there = All-cons P x xs (f x (All-head (Contains all) x 
 -- ---- the numbers of locals
 
 module _ (h : NotedHead) (body : NotedStmt) where
-  as_many : length (types_numbered (all_of h body)) ≡ length (variables_of h body)
+  as_many : length (types_numbered (all_of h body)) ≡ length (variables_of body.note.mode h body)
   as_many =
       types_length (all_of h body) ∙ sym (length-map (all_of h body) (λ (d : NotedDecl). variable_declared d))
-      ∙ sym (length_permutation (map (λ (d : NotedDecl). variable_declared d) (all_of h body)) (variables_of h body) (variables_moved h body))
+      ∙ sym (length_permutation (map (λ (d : NotedDecl). variable_declared d) (all_of h body)) (variables_of body.note.mode h body) (variables_moved h body))
 
-  below : (k : ℕ) (t : CType) → slice_get (types_numbered (all_of h body)) k ≡ Some t → k < length (variables_of h body)
+  below : (k : ℕ) (t : CType) → slice_get (types_numbered (all_of h body)) k ≡ Some t → k < length (variables_of body.note.mode h body)
   below k t at = subst (λ n. k < n) as_many (slice_get_within (types_numbered (all_of h body)) k t at)
 
 -- ---- what the text was before its bounds were judged
@@ -123,7 +122,7 @@ module _ (p : Typed) (j : IsJudged p) where
       callees : HaveParams p (globals_in p)
       callees m t is =
           let c = callees_known p j s f m t is_function is in
-          let many = ap (λ (g : Function). g.params) c.function.runs ∙ sym (length-map c.function.head.params (λ (d : NotedDecl). type_written d.ctype)) ∙ sym (ap length c.types) in
+          let many = ap (λ (g : Function). g.params) c.function.runs ∙ sym (length-map c.function.head.params (λ (d : NotedDecl). parameter_declared d)) ∙ sym (ap length c.types) in
           subst (HasParams (length t.params)) (sym c.there) many
 
       module _ (b : IsBodyJudged (globals_in p) j.typed h body) where
@@ -144,7 +143,7 @@ module _ (p : Typed) (j : IsJudged p) where
         known =
             each (λ (d : NotedDecl). (m : ℕ) → d.name ≡ name.Local m → m < length s.variables) (path b.before).declared
             (λ d c m is. below h body m (variable_declared d).ctype
-            (All-contains (λ (v : Variable). (m : ℕ) → v.name ≡ name.Local m → slice_get (types_numbered (all_of h body)) m ≡ Some v.ctype) (variables_of h body) (variable_declared d)
+            (All-contains (λ (v : Variable). (m : ℕ) → v.name ≡ name.Local m → slice_get (types_numbered (all_of h body)) m ≡ Some v.ctype) (variables_of body.note.mode h body) (variable_declared d)
             (variables_have h body (numbered p h body j there)) (declared_known (globals_in p) j.typed h body b d c) m is))
             (path b.before).declared (All-contains_itself (path b.before).declared)
 

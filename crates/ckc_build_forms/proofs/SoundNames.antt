@@ -1,5 +1,5 @@
 -- What names, members and functions of a judged text have as types is sound.
-use Rattle.std.proofs.Common.{◌≡◌, ◌∙◌, sym, ap, subst, refl, arith, ◌<◌, Bool, true, false, List, [], ◌∷◌, ◌++◌, map}
+use Rattle.std.proofs.Common.{◌≡◌, ◌∙◌, sym, ap, subst, refl, arith, ◌<◌, Bool, true, false, List, [], ◌∷◌, map}
 use Rattle.std.specs.Prelude.{All, ◌||◌, Some}
 use Rattle.std.specs.List.{Contains, flat_map, list_all}
 use Rattle.std.proofs.lemmas.List.Elements.{All-nil, All-cons, All-head, All-tail}
@@ -13,26 +13,25 @@ use Rattle.ckc_syntax_limits.specs.Marks.{marks_of_item, is_node}
 use Rattle.ckc_syntax_limits.specs.Small.{Small, how_many}
 use Rattle.ckc_typed.specs.declared.environment.Globals.{Globals}
 use Rattle.ckc_typed.specs.declared.environment.Signature.{Signature}
-use Rattle.ckc_typed.specs.declared.environment.Variable.{Variable}
 use Rattle.ckc_typed.specs.declared.typed.Note.{Note}
 use Rattle.ckc_typed.specs.declared.typed.Typed.{Typed}
-use Rattle.ckc_typed.specs.Environment.{getchar, putchar, member_type, same_name, signatures_of, signatures_of_item, type_of_name, variable_declared, variables_of}
+use Rattle.ckc_typed.specs.Environment.{getchar, putchar, member_type, same_name, signatures_of, signatures_of_item, type_of_name, variables_of}
 use Rattle.ckc_typed.specs.Layouts.{structs_of}
 use Rattle.ckc_typed.specs.Texts.{globals_of, is_result_type}
-use Rattle.ckc_typed.specs.Trees.{Decl, Item, Tree, NotedDecl, NotedHead, NotedItem, NotedStmt}
+use Rattle.ckc_typed.specs.Trees.{Item, Tree, NotedHead, NotedItem, NotedStmt}
 use Rattle.ckc_typed.specs.Types.{type_written, is_void, is_scalar_type, is_object_type}
 use Rattle.ckc_typed_fit.specs.Tests.{items_pass}
 use Rattle.ckc_typed_plain.proofs.Found.{tags_have_bodies}
-use Rattle.ckc_typed_welltyped.specs.Noteless.{bare_decl, bare_item, without_notes}
+use Rattle.ckc_typed_welltyped.specs.Noteless.{bare_item, without_notes}
 use Rattle.ckc_typed_welltyped.specs.Productions.{given_item, given_tree}
 use Rattle.ckc_typed_welltyped.specs.Texts.{WellTypedItems}
+use Rattle.ckc_typed_welltyped.proofs.Seen.{variables_bare}
 use Rattle.ckc_source.specs.Code.{Function}
 use Rattle.ckc_blame_steps.specs.ckc_blame_sound.specs.Settings.{Setting, IsFunction}
 use Rattle.ckc_blame_steps.specs.ckc_blame_sound.specs.JudgedTexts.{IsJudged, globals_in}
 use Rattle.ckc_blame_steps.specs.ckc_blame_sound.proofs.Bounded.{layout_kept}
 use Rattle.ckc_blame_steps.specs.ckc_blame_sound.proofs.Functions.{item_is, tree_named}
 use Rattle.ckc_blame_steps.specs.ckc_blame_sound.proofs.Lists.{found}
-use Rattle.ckc_blame_steps.specs.ckc_blame_sound.proofs.Locals.{stmt_declares}
 use Rattle.ckc_blame_steps.proofs.DeclaredTypes.{scalar_parts, names_objects}
 use Rattle.ckc_blame_steps.proofs.Small.{variables_are}
 use Rattle.ckc_blame_steps.specs.ckc_blame_walk.proofs.Sized.{tag_tests}
@@ -82,11 +81,7 @@ result_sound structs t e h = by (is_void t) refl e
     by true v f = void_sound structs t v
     by false v f = h (scalar_parts t f).1
 
--- ---- the variables of a function
-
-params_bare : (ds : List NotedDecl) → map (λ (d : Decl). variable_declared d) (map (λ (d : NotedDecl). bare_decl d) ds) ≡ map (λ (d : NotedDecl). variable_declared d) ds
-params_bare [] = refl
-params_bare (d ∷ ds) = ap (λ vs. variable_declared d ∷ vs) (params_bare ds)
+-- ---- what a text and a function of it declare
 
 module _ (p : Typed) (j : IsJudged p) (given : given_tree j.named.tree ≡ true) (small : Small j.named.tree) where
   abbrev pub js : List Item
@@ -117,13 +112,10 @@ module _ (p : Typed) (j : IsJudged p) (given : given_tree j.named.tree ≡ true)
       subst (λ (is : List Item). All HasResult is) named_is
       (items_results (globals_of (without_notes j.typed.tree).items) Unchecked j.typed.tree.items j.has_types.typed.items)
 
-  variables_tagged : (h : NotedHead) (body : NotedStmt) → Contains p.tree.items (item.Function h body) → VariablesTagged js members_there (variables_of h body)
+  variables_tagged : (h : NotedHead) (body : NotedStmt) → Contains p.tree.items (item.Function h body) → VariablesTagged js members_there (variables_of body.note.mode h body)
   variables_tagged h body there =
       let one : HasTags js members_there (bare_item (item.Function h body)) = item_is p j (HasTags js members_there) tags (item.Function h body) there in
-      subst (λ vs. VariablesTagged js members_there vs) (two (params_bare h.params) (stmt_declares body).same) one.1
-    where
-      two : {vs ws us xs : List Variable} → vs ≡ ws → us ≡ xs → vs ++ us ≡ ws ++ xs
-      two {vs} {ws} {us} {xs} e f = ap (λ z. z ++ us) e ∙ ap (λ z. ws ++ z) f
+      subst (λ vs. VariablesTagged js members_there vs) (variables_bare body.note.mode h body) (one.1 body.note.mode)
 
   module _ (s : Setting) (f : Function) (is : IsFunction p s f) where
     scope_tagged : VariablesTagged js members_there s.variables

@@ -1,10 +1,11 @@
 -- Each structure in the types that a judged text declares has a size, since each tag that a type names has a body.
-use Rattle.std.proofs.Common.{◌≡◌, ◌∙◌, sym, ap, subst, refl, rules, ℕ, ◌<◌, Bool, true, List, [], ◌∷◌, ◌++◌, map}
+use Rattle.std.proofs.Common.{◌≡◌, ◌∙◌, ⊎_elim, sym, ap, subst, refl, rules, ℕ, ◌<◌, Bool, true, List, [], ◌∷◌, ◌++◌, map}
 use Rattle.std.specs.Prelude.{All, find, Option, Some, None}
 use Rattle.std.specs.List.{flat_map, list_all}
 use Rattle.std.specs.Option.{option_map}
 use Rattle.std.proofs.lemmas.Bool.{lt-ltb}
 use Rattle.std.proofs.lemmas.List.Elements.{All-nil, All-cons, All-append, All-head, All-tail}
+use Rattle.ckc_base.specs.declared.arithmetic.Mode.{Mode}
 use Rattle.ckc_types.specs.declared.types.CType.{CType, CType-F, out-CType, map-CType, fold_out-CType, the_lemmas}
 use Rattle.ckc_types.specs.declared.types.CType.TheVariants as ctype
 use Rattle.ckc_types.specs.declared.types.Kind.{Kind}
@@ -22,7 +23,8 @@ use Rattle.ckc_syntax.specs.declared.tree.Stmt.{Stmt-F, map-Stmt, ind-Stmt, roll
 use Rattle.ckc_typed.specs.declared.environment.Object.{Object}
 use Rattle.ckc_typed.specs.declared.environment.Signature.{Signature}
 use Rattle.ckc_typed.specs.declared.environment.Variable.{Variable}
-use Rattle.ckc_typed.specs.Environment.{getchar, putchar, is_member_named, kind_of_array, object_named, object_type, objects_of, object_declared, or_variable, member_type, same_name, signature_named, signatures_of, signatures_of_item, type_of_name, used, variable_declared, variable_named, variables_of, locals_of, locals_of_act, act_variables, stmt_variables}
+use Rattle.ckc_typed.specs.Environment.{getchar, putchar, is_member_named, kind_of_array, object_named, object_type, objects_of, object_declared, or_variable, member_type, same_name, signature_named, signatures_of, signatures_of_item, type_of_name, used, variable_declared, variable_named, params_of, variables_of, locals_of, locals_of_act, act_variables, stmt_variables}
+use Rattle.ckc_typed.specs.Interfaces.{seen, seen_params}
 use Rattle.ckc_typed.specs.Layouts.{members_declared, members_in_item, bare_structs, structs_of}
 use Rattle.ckc_typed.specs.Texts.{globals_of}
 use Rattle.ckc_typed.specs.Trees.{Decl, Item, TypeTree}
@@ -32,6 +34,7 @@ use Rattle.ckc_typed_fit.specs.Tests.{Tests, Walked, type_parts, type_passes, de
 use Rattle.ckc_blame_steps.specs.ckc_bounds_known.proofs.Reaching.{and_cases}
 use Rattle.ckc_blame_steps.specs.ckc_blame_sound.proofs.Lists.{found}
 use Rattle.ckc_blame_steps.specs.ckc_blame_sound.proofs.Members.{members_are}
+use Rattle.ckc_blame_steps.specs.ckc_blame_sound.proofs.Seen.{seen_written}
 use Rattle.ckc_blame_steps.proofs.SmallNames.{members_have, members_of_item, shapes_have}
 use Rattle.ckc_blame_steps.specs.ckc_blame_walk.proofs.Sized.{tag_tests}
 use Rattle.ckc_blame_steps.specs.ckc_blame_walk.proofs.Sizes.{HasMembers, sized, tag_sized}
@@ -245,10 +248,22 @@ module _ (js : List Item) (members : All HasMembers js) where
   params_tagged (d ∷ ds) h =
       All-cons VariableTagged (variable_declared d) (map (λ (d : Decl). variable_declared d) ds) (All-head DeclTagged d ds h) (params_tagged ds (All-tail DeclTagged d ds h))
 
+  -- a parameter has such a type as each body sees it
+  seen_tagged : (mode : Mode) (d : Decl) → DeclTagged d → DeclTagged (seen mode d)
+  seen_tagged mode d h = ⊎_elim
+      (λ e. subst IsTagged (sym e) h)
+      (λ w. subst IsTagged (sym w.2) (tagged_pointer structs kind.Arr w.0 ∙ sym (tagged_pointer structs kind.Raw w.0) ∙ subst IsTagged w.1 h))
+      (seen_written mode d)
+
+  all_seen : (mode : Mode) (ds : List Decl) → All DeclTagged ds → All DeclTagged (map (seen mode) ds)
+  all_seen mode [] h = All-nil DeclTagged
+  all_seen mode (d ∷ ds) h =
+      All-cons DeclTagged (seen mode d) (map (seen mode) ds) (seen_tagged mode d (All-head DeclTagged d ds h)) (all_seen mode ds (All-tail DeclTagged d ds h))
+
   abbrev pub HasTags : Item → Type 0
   HasTags (item.Struct n ms at) = All DeclTagged ms
   HasTags (item.Static d) = DeclTagged d
-  HasTags (item.Function h body) = IsTagged (type_written h.result) × VariablesTagged (variables_of h body)
+  HasTags (item.Function h body) = IsTagged (type_written h.result) × ((mode : Mode) → VariablesTagged (variables_of mode h body))
   HasTags i = Unit {0}
 
   item_tagged : (i : Item) → item_passes tests i ≡ true → HasTags i
@@ -259,7 +274,9 @@ module _ (js : List Item) (members : All HasMembers js) where
       let q = and_cases (type_passes tests h.result) _ p.0 in
       let r = and_cases (decls_pass tests h.params) _ q.1 in (
         type_tagged h.result q.0,
-        joined (map (λ (d : Decl). variable_declared d) h.params) (locals_of body) (params_tagged h.params (decls_tagged (names_declared h.params) (names_declared h.params) h.params r.0)) (statement_tagged body _ p.1),
+        λ mode. joined (params_of mode h) (locals_of body)
+            (params_tagged (seen_params mode h) (all_seen mode h.params (decls_tagged (names_declared h.params) (names_declared h.params) h.params r.0)))
+            (statement_tagged body _ p.1),
       )
   item_tagged (item.Directive d) h = tt
   item_tagged (item.Tag n at) h = tt

@@ -8,7 +8,7 @@ use Rattle.ckc_typed.specs.declared.typed.Typed.{Typed}
 use Rattle.ckc_typed.specs.Trees.{NotedDecl, NotedHead, NotedItem, NotedStmt}
 use Rattle.ckc_bounds.specs.ckc_bounds_points.specs.declared.frame.Frame.{Frame}
 use Rattle.ckc_bounds.specs.ckc_bounds_statements.specs.DeclBounds.{bounds_there}
-use Rattle.ckc_bounds.specs.Declarations.{member_holder, types_in, head_judged, head_bounds}
+use Rattle.ckc_bounds.specs.Declarations.{member_holder, params_frame, head_judged, head_bounds}
 use Rattle.ckc_bounds.specs.Frames.{text_frame, function_frame, begin_of}
 use Rattle.ckc_bounds.specs.Texts.{outside, members_judged, object_judged, body_judged, head_kept, item_judged, items_judged, text_judged}
 use Rattle.ckc_bounds.specs.Phase.{bounding}
@@ -24,7 +24,7 @@ body_kept frame h body =
     bound stmt_first (marks_of_stmt body) _ _ _ _ ((stmt_kept (function_frame frame h body) body).judged (head_bounds frame h) (begin_of frame h body)) (λ p g. g)
 
 head_stays : (frame : Frame) (h : NotedHead) → Keeps marks_of_head (marks_of_head h) (head_kept frame h)
-head_stays frame h = bound none [] _ _ _ _ (any (head_judged (types_in frame h.params) h)) (λ b z. refl)
+head_stays frame h = bound none [] _ _ _ _ (any (head_judged (params_frame frame h) h)) (λ b z. refl)
 
 item_kept : (frame : Frame) (i : NotedItem) → Keeps marks_of_item (marks_of_item i) (item_judged frame i)
 item_kept frame (item.Directive d) = refl

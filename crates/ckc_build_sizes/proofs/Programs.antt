@@ -1,5 +1,5 @@
 -- The program of a text weighs at most 240 for each node of the text.
-use Rattle.std.proofs.Common.{ℕ, ◌+◌, ◌*◌, ◌≤◌, List, [], ◌∷◌, map, length, length-append, arith}
+use Rattle.std.proofs.Common.{ℕ, ◌+◌, ◌*◌, ◌≤◌, List, [], ◌∷◌, length, length-append, arith}
 use Rattle.std.specs.Prelude.{sum_by}
 use Rattle.std.specs.List.{flat_map}
 use Rattle.std.proofs.lemmas.List.{length-map}
@@ -9,7 +9,8 @@ use Rattle.ckc_syntax_limits.specs.Marks.{marks_of_bounds, marks_of_stmt, marks_
 use Rattle.ckc_typed.specs.declared.typed.Typed.{Typed}
 use Rattle.ckc_typed.specs.Trees.{NotedDecl, NotedHead, NotedStmt, NotedItem}
 use Rattle.ckc_typed.specs.Types.{type_written}
-use Rattle.ckc_typed.specs.Environment.{variable_declared, locals_of, variables_of}
+use Rattle.ckc_typed.specs.Environment.{variable_declared, locals_of, params_of, variables_of}
+use Rattle.ckc_typed.specs.Interfaces.{seen, seen_params}
 use Rattle.ckc_checks_operands.specs.Weights.{function_weight, program_weight}
 use Rattle.ckc_build_elaborate.specs.Lists.{numbered}
 use Rattle.ckc_build_elaborate.specs.Objects.{count_declared}
@@ -27,9 +28,10 @@ function_most : (p : Typed) (k : ℕ) (h : NotedHead) (body : NotedStmt) → fun
 function_most p k h body =
     omega (
       arith,
-      stmt_small p (variables_of h body) (type_written h.result) (k + literals_of_head h) body,
-      length-append (map variable_declared h.params) (locals_of body),
-      length-map h.params variable_declared,
+      stmt_small p (variables_of body.note.mode h body) (type_written h.result) (k + literals_of_head h) body,
+      length-append (params_of body.note.mode h) (locals_of body),
+      length-map (seen_params body.note.mode h) variable_declared,
+      length-map h.params (seen body.note.mode),
       params_count h.params,
       marked-append (marks_of_head h) (marks_of_stmt body),
       marked-append (flat_map marks_of_param h.params) (marks_of_bounds h.bounds),

@@ -302,15 +302,15 @@ module _ (p : Typed) (j : IsJudged p) (small : Small j.named.tree) (s : Setting)
       by true = refl
       by false = refl
 
-  variables : s.variables ≡ variables_of is.head is.body
+  variables : s.variables ≡ variables_of is.body.note.mode is.head is.body
   variables = ap (λ (r : Setting). r.variables) is.judged ∙ variables_are p is.head is.body
 
-  as_many : length (types_numbered (all_of is.head is.body)) ≡ length (variables_of is.head is.body)
+  as_many : length (types_numbered (all_of is.head is.body)) ≡ length (variables_of is.body.note.mode is.head is.body)
   as_many =
       let h = is.head in
       let body = is.body in
       types_length (all_of h body) ∙ sym (length-map (all_of h body) (λ (d : NotedDecl). variable_declared d))
-      ∙ sym (length_permutation (map (λ (d : NotedDecl). variable_declared d) (all_of h body)) (variables_of h body) (variables_moved h body))
+      ∙ sym (length_permutation (map (λ (d : NotedDecl). variable_declared d) (all_of h body)) (variables_of body.note.mode h body) (variables_moved h body))
 
   local_below : (k : ℕ) (t : CType) → type_of_name (globals_in p) s.variables (name.Local k) ≡ Some t → k < length s.variables
   local_below k t e =

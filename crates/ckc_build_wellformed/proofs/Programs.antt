@@ -10,9 +10,8 @@ use Rattle.ckc_syntax.specs.declared.tree.Name.TheVariants as name
 use Rattle.ckc_syntax.specs.declared.tree.Item.TheVariants as item
 use Rattle.ckc_syntax_limits.specs.Small.{Small}
 use Rattle.ckc_typed.specs.declared.typed.Typed.{Typed}
-use Rattle.ckc_typed.specs.Environment.{variable_declared}
+use Rattle.ckc_typed.specs.Environment.{parameter_declared, variable_declared}
 use Rattle.ckc_typed.specs.Trees.{NotedDecl, NotedHead, NotedStmt}
-use Rattle.ckc_typed.specs.Types.{type_written}
 use Rattle.ckc_source.specs.declared.program.Object.{Object}
 use Rattle.ckc_source.specs.Blocks.{block_of, end_of, first_place, place_behind}
 use Rattle.ckc_source.specs.Code.{Function}
@@ -88,7 +87,7 @@ module _ (p : Typed) (j : IsJudged p) (small : Small j.named.tree) (safe : AreSa
     unfolding setting_of
     callees m t is =
         let c = callees_known p j s f m t is_function is in
-        let many = ap (λ (g : Function). g.params) c.function.runs ∙ sym (length-map c.function.head.params (λ (d : NotedDecl). type_written d.ctype)) ∙ sym (ap length c.types) in
+        let many = ap (λ (g : Function). g.params) c.function.runs ∙ sym (length-map c.function.head.params (λ (d : NotedDecl). parameter_declared d)) ∙ sym (ap length c.types) in
         subst (HasParams (length t.params)) (sym c.there) many
 
     module _ (b : IsBodyJudged (globals_in p) j.typed h body) where

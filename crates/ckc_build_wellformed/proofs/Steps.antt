@@ -11,6 +11,7 @@ use Rattle.ckc_syntax.specs.declared.tree.TreeOp.TheVariants as op
 use Rattle.ckc_syntax.specs.declared.tree.Node.{Node-F, out-Node}
 use Rattle.ckc_syntax.specs.declared.tree.Expr.{every_here-Expr}
 use Rattle.ckc_typed.specs.declared.environment.Globals.{Globals}
+use Rattle.ckc_typed.specs.declared.environment.Parameter.{Parameter}
 use Rattle.ckc_typed.specs.declared.environment.Signature.{Signature}
 use Rattle.ckc_typed.specs.declared.environment.Variable.{Variable}
 use Rattle.ckc_typed.specs.declared.typed.Note.{Note}
@@ -183,11 +184,11 @@ module _ (globals : Globals) (s : Setting) (g : Program) (knows : Knows globals 
   arguments_many [] (e ∷ es) k = ap suc (arguments_many [] es (k + literals_of e))
   arguments_many (d ∷ ds) (e ∷ es) k = ap suc (arguments_many ds es (k + literals_of e))
 
-  as_many : (ts : List CType) (es : List NotedExpr) → AreArguments ts es → length ts ≡ length es
-  as_many [] [] h = refl
-  as_many [] (e ∷ es) h = absurd h
-  as_many (t ∷ ts) [] h = absurd h
-  as_many (t ∷ ts) (e ∷ es) h = ap suc (as_many ts es h.1)
+  as_many : (mode : Mode) (ps : List Parameter) (es : List NotedExpr) → AreArguments mode ps es → length ps ≡ length es
+  as_many mode [] [] h = refl
+  as_many mode [] (e ∷ es) h = absurd h
+  as_many mode (q ∷ ps) [] h = absurd h
+  as_many mode (q ∷ ps) (e ∷ es) h = ap suc (as_many mode ps es h.1)
 
   first_formed : (mode : Mode) (es : List NotedExpr) → All mode es → (k : ℕ) → F (first_of p vs k es)
   first_formed mode [] h k = tt
@@ -202,7 +203,7 @@ module _ (globals : Globals) (s : Setting) (g : Program) (knows : Knows globals 
       let both : ◌≡◌ {A = Name × ℕ} (m, length fs) (n, length es) = some_same e in
       let name_same : m ≡ n = ap (λ (x : Name × ℕ). x.0) both in
       let many : length fs ≡ length es = ap (λ (x : Name × ℕ). x.1) both in
-      (row.0, ap (λ z. signature_named globals z) (sym name_same) ∙ row.1, as_many row.0.params fs row.2 ∙ many)
+      (row.0, ap (λ z. signature_named globals z) (sym name_same) ∙ row.1, as_many mode row.0.params fs row.2 ∙ many)
   call_there mode x t n es row e = absurd cc
 
   abbrev pub InitFine : NotedInit → Type 0

@@ -6,7 +6,7 @@ ghost use Rattle.ckc_scopes.specs.code.Verdict.{verdict};
 
 use crate::expressions::{bounds_fit, place_fits};
 use crate::raw::first_star;
-use crate::statements::{decl_fits, decls_fit, stmt_fits};
+use crate::statements::{decl_fits, decls_fit, params_fit, stmt_fits};
 use ckc_base::{Mode, Refusal};
 use ckc_syntax::{Head, Item, Name};
 use ckc_typed::Note;
@@ -53,6 +53,6 @@ fn head_fits(
 {
     let mode = head_mode(pragma, head);
     place_fits(first_star(&head.result), mode)?;
-    decls_fit(head.params.as_slice(), mode, items)?;
+    params_fit(head.params.as_slice(), mode, items)?;
     bounds_fit(&head.bounds, items)
 }

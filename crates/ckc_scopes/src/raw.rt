@@ -1,13 +1,14 @@
 //! Whether types have unchecked pointers and arrays in them, and where.
 
 ghost use Rattle.std.specs.Prelude.{◌≡◌, flat_map};
-ghost use Rattle.ckc_typed.specs.Raw.{has_raw, stars, brackets, raws_of_decl, raws_of_head};
+ghost use Rattle.ckc_typed.specs.Raw.{has_raw, stars, brackets, raws_of_decl, raws_of_param, raws_of_head};
 ghost use Rattle.ckc_typed.specs.Scoped.{names_function, is_raw_head, is_raw_item, is_raw_function, is_some_place};
 ghost use Rattle.ckc_scopes.specs.code.Verdict.{first};
 
 use ckc_base::Pos;
 use ckc_syntax::{Decl, Head, Item, Length, Name, TypeTree};
 use ckc_typed::Note;
+use ckc_typed::interfaces::is_interface;
 use ckc_types::{CType, Kind};
 
 /// Whether an unchecked pointer stands anywhere in a type.
@@ -62,11 +63,22 @@ pub fn first_raw<N, A>(decl: &Decl<N, A>) -> Option<Pos>
     first_star(&decl.ctype).or(bracket(decl.length))
 }
 
+/// The first unchecked pointer or array that a parameter writes, if it is no interface.
+pub fn first_raw_of_param<N, A>(param: &Decl<N, A>) -> Option<Pos>
+    ensures { result ≡ first (raws_of_param param.now) }
+{
+    if is_interface(param) {
+        None
+    } else {
+        first_raw(param)
+    }
+}
+
 fn first_of_params<N, A>(params: &[Decl<N, A>]) -> Option<Pos>
-    ensures { result ≡ first (flat_map raws_of_decl params.now) }
+    ensures { result ≡ first (flat_map raws_of_param params.now) }
 {
     for param in params {
-        if let Some(pos) = first_raw(param) {
+        if let Some(pos) = first_raw_of_param(param) {
             return Some(pos);
         }
     }

@@ -1,17 +1,33 @@
 //! Declarations and statements.
 
-ghost use Rattle.std.specs.Prelude.{◌≡◌, flat_map};
+ghost use Rattle.std.specs.Prelude.{◌≡◌, List, flat_map};
+ghost use Rattle.ckc_base.specs.declared.places.Pos.{Pos};
 ghost use Rattle.ckc_syntax.specs.Inside.{listed, inside_each};
-ghost use Rattle.ckc_typed.specs.Walk.{spots_of_decl, spots_of_act, spots_of_stmt, spots_of_part};
-ghost use Rattle.ckc_scopes.specs.code.Verdict.{verdict};
+ghost use Rattle.ckc_typed.specs.Walk.{spots_declared, spots_of_decl, spots_of_param, spots_of_act, spots_of_stmt, spots_of_part};
+ghost use Rattle.ckc_scopes.specs.code.Verdict.{verdict, first};
 
 use crate::expressions::{bounds_fit, expr_fits, init_fits, place_fits, value_fits};
-use crate::raw::first_raw;
-use ckc_base::{Boxed, Mode, Refusal};
+use crate::raw::{first_raw, first_raw_of_param};
+use ckc_base::{Boxed, Mode, Pos, Refusal};
 use ckc_syntax::{Act, Decl, Item, Name, Stmt};
 use ckc_typed::Note;
 
-/// Judges a declaration: its type and limits, then its initialiser.
+/// Judges a declaration with these unchecked pointers and arrays: the first of them, its limits, then its initialiser.
+fn declared_fits(
+    place: Option<Pos>,
+    decl: &Decl<Name, Note>,
+    mode: Mode,
+    items: &[Item<Name, Note>],
+) -> Result<(), Refusal>
+    ensures { (raws : List Pos) → place ≡ first raws →
+        result ≡ verdict items.now (spots_declared mode raws decl.now) }
+{
+    place_fits(place, mode)?;
+    bounds_fit(&decl.bounds, items)?;
+    init_fits(&decl.init, items)
+}
+
+/// Judges a declaration that is no parameter: its type and limits, then its initialiser.
 pub fn decl_fits(
     decl: &Decl<Name, Note>,
     mode: Mode,
@@ -19,12 +35,20 @@ pub fn decl_fits(
 ) -> Result<(), Refusal>
     ensures { result ≡ verdict items.now (spots_of_decl mode decl.now) }
 {
-    place_fits(first_raw(decl), mode)?;
-    bounds_fit(&decl.bounds, items)?;
-    init_fits(&decl.init, items)
+    declared_fits(first_raw(decl), decl, mode, items)
 }
 
-/// Judges declarations in order.
+fn param_fits(
+    param: &Decl<Name, Note>,
+    mode: Mode,
+    items: &[Item<Name, Note>],
+) -> Result<(), Refusal>
+    ensures { result ≡ verdict items.now (spots_of_param mode param.now) }
+{
+    declared_fits(first_raw_of_param(param), param, mode, items)
+}
+
+/// Judges declarations that are no parameters in order.
 pub fn decls_fit(
     decls: &[Decl<Name, Note>],
     mode: Mode,
@@ -34,6 +58,20 @@ pub fn decls_fit(
 {
     for decl in decls {
         decl_fits(decl, mode, items)?;
+    }
+    Ok(())
+}
+
+/// Judges parameters in order.
+pub fn params_fit(
+    params: &[Decl<Name, Note>],
+    mode: Mode,
+    items: &[Item<Name, Note>],
+) -> Result<(), Refusal>
+    ensures { result ≡ verdict items.now (inside_each listed (spots_of_param mode) params.now) }
+{
+    for param in params {
+        param_fits(param, mode, items)?;
     }
     Ok(())
 }

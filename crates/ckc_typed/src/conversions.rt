@@ -150,8 +150,8 @@ fn is_checked_mode(mode: Mode) -> bool
 pub fn takes(mode: Mode, p: &Parameter, e: &Expr<Name, Note>) -> bool
     ensures { result ≡ takes mode p.now e.now }
 {
-    let is_passed = p.is_interface && (is_checked_mode(mode) && is_unchecked_pointer(e));
-    converts(&p.ctype, e) && !is_passed
+    let is_refused = p.is_interface && (is_checked_mode(mode) && is_unchecked_pointer(e));
+    converts(&p.ctype, e) && !is_refused
 }
 
 /// Whether `_Dynamic_bounds_cast` to a type takes an expression.

@@ -3,8 +3,8 @@
 //!
 //! What types the parts of a text have, and what it is that a typed tree keeps the rules of checked scopes, stands in
 //! `specs/`. `types`, `operands`, `conversions`, `literals`, `constants` and `amounts` compute what written types,
-//! operators, casts, literals, constant expressions and amounts stand for, `lookups` what a name stands for, `modes` the
-//! mode of a head, of a body and after an item, and `interfaces` what code of a mode sees of a parameter.
+//! operators, casts, literals, constant expressions and amounts stand for, `lookups` what a name stands for, `modes`
+//! the mode of a head, of a body and after an item, and `interfaces` what code of a mode sees of a parameter.
 #![tactic(auto)]
 
 pub mod amounts;

@@ -17,15 +17,16 @@ use Rattle.ckc_syntax.specs.declared.tree.Node.{Node-F}
 use Rattle.ckc_syntax.proofs.Layers as kept
 use Rattle.ckc_syntax.proofs.Layers.{Steps, Property, LimitsLayer, NodeLayer, ExprLayer, limits_made, node_made, expr_made, each_limits, each_expr}
 use Rattle.ckc_typed.specs.declared.environment.Globals.{Globals}
+use Rattle.ckc_typed.specs.declared.environment.Parameter.{Parameter}
 use Rattle.ckc_typed.specs.declared.environment.Signature.{Signature}
 use Rattle.ckc_typed.specs.declared.environment.Variable.{Variable}
 use Rattle.ckc_typed.specs.Codes.{bad_operands, bad_conversion, bad_target, bad_call, no_address, no_loop, no_initialiser, late_statics}
 use Rattle.ckc_typed.specs.Trees.{Limits, Expr, NotedLimits, NotedExpr}
 use Rattle.ckc_typed.specs.Types.{type_written, is_void, is_object_type}
-use Rattle.ckc_typed.specs.Conversions.{is_null, converts, is_bounds_cast, is_tested, is_trusted}
+use Rattle.ckc_typed.specs.Conversions.{is_null, is_bounds_cast, is_tested, is_trusted}
 use Rattle.ckc_typed.specs.Environment.{type_of_name, signature_named}
 use Rattle.ckc_typed.specs.Operands.{unary_type, binary_type, choice_type, index_type, dot_type, arrow_type, is_cast, size_type}
-use Rattle.ckc_typed.specs.Expressions.{OfLimits, OfNode, OfExpr, address_kind, has_address, in_row, address_typed, unary_typed, binary_typed, choice_typed, index_typed, dot_typed, arrow_typed, cast_typed, is_no_allocation, allocation_typed, tested_typed, trusted_typed, arguments_typed, result_typed, call_typed, limits_parts, node_parts, expr_parts, limits_typed, expr_typed, exprs_typed, bounds_typed, value_typed}
+use Rattle.ckc_typed.specs.Expressions.{OfLimits, OfNode, OfExpr, address_kind, has_address, in_row, address_typed, unary_typed, binary_typed, choice_typed, index_typed, dot_typed, arrow_typed, cast_typed, is_no_allocation, allocation_typed, tested_typed, trusted_typed, takes, arguments_typed, result_typed, call_typed, limits_parts, node_parts, expr_parts, limits_typed, expr_typed, exprs_typed, bounds_typed, value_typed}
 use Rattle.ckc_typing.specs.Phase.{IsTypeCode}
 
 pub is_206 : IsTypeCode late_statics
@@ -126,18 +127,18 @@ trusted_coded t e l at = two_coded (not (is_bounds_cast t l)) (not (is_trusted t
 allocation_coded : (t : CType) (e : NotedExpr) (u : CType) (at : Pos) → Coded (allocation_typed t e u at)
 allocation_coded t e u at = Codes.kept IsTypeCode {A = CType} (is_no_allocation t e u) bad_call at (Ok (ctype.Pointer kind.Arr t)) is_404 tt
 
-arguments_coded : (ts : List CType) (es : List NotedExpr) → Coded (arguments_typed ts es)
-arguments_coded [] [] = tt
-arguments_coded [] (e ∷ es) = tt
-arguments_coded (t ∷ ts) [] = tt
-arguments_coded (t ∷ ts) (e ∷ es) = Codes.kept IsTypeCode (not (converts t e)) bad_conversion e.pos (arguments_typed ts es) is_402 (arguments_coded ts es)
+arguments_coded : (mode : Mode) (ps : List Parameter) (es : List NotedExpr) → Coded (arguments_typed mode ps es)
+arguments_coded mode [] [] = tt
+arguments_coded mode [] (e ∷ es) = tt
+arguments_coded mode (p ∷ ps) [] = tt
+arguments_coded mode (p ∷ ps) (e ∷ es) = Codes.kept IsTypeCode (not (takes mode p e)) bad_conversion e.pos (arguments_typed mode ps es) is_402 (arguments_coded mode ps es)
 
-result_coded : (s : Signature) (es : List NotedExpr) (at : Pos) → Coded (result_typed s es at)
-result_coded s es at =
-    Codes.kept IsTypeCode (not (length es == length s.params)) bad_call at (bind (arguments_typed s.params es) (λ u. Ok s.result)) is_404 (Codes.bound IsTypeCode (arguments_typed s.params es) _ (arguments_coded s.params es) (λ u. tt))
+result_coded : (mode : Mode) (s : Signature) (es : List NotedExpr) (at : Pos) → Coded (result_typed mode s es at)
+result_coded mode s es at =
+    Codes.kept IsTypeCode (not (length es == length s.params)) bad_call at (bind (arguments_typed mode s.params es) (λ u. Ok s.result)) is_404 (Codes.bound IsTypeCode (arguments_typed mode s.params es) _ (arguments_coded mode s.params es) (λ u. tt))
 
-call_coded : (globals : Globals) (n : Name) (es : List NotedExpr) (at : Pos) → Coded (call_typed globals n es at)
-call_coded globals n es at = Codes.bound IsTypeCode (there_or bad_call at (signature_named globals n)) _ (Codes.there IsTypeCode bad_call at (signature_named globals n) is_404) (λ s. result_coded s es at)
+call_coded : (globals : Globals) (mode : Mode) (n : Name) (es : List NotedExpr) (at : Pos) → Coded (call_typed globals mode n es at)
+call_coded globals mode n es at = Codes.bound IsTypeCode (there_or bad_call at (signature_named globals n)) _ (Codes.there IsTypeCode bad_call at (signature_named globals n) is_404) (λ s. result_coded mode s es at)
 
 module _ (globals : Globals) (variables : List Variable) (mode : Mode) where
   abbrev typing : Steps Name (Unit {0}) OfLimits OfNode OfExpr
@@ -203,7 +204,7 @@ module _ (globals : Globals) (variables : List Variable) (mode : Mode) where
   node_step (Node-F.Tested w k (Some l)) at =
       Codes.bound IsTypeCode (expr_typed globals variables mode k.0) _ k.1 (λ a. Codes.bound IsTypeCode (limits_there (Some l)) _ (kept_there (Some l)) (λ m.
       Codes.bound IsTypeCode (tested_typed (type_written w) a m at) _ (tested_coded (type_written w) a m at) (λ t. tt)))
-  node_step (Node-F.Call n ks) at = Codes.bound IsTypeCode (all_of ks) _ (Codes.listed_parts IsTypeCode (expr_typed globals variables mode) ks) (λ es. Codes.bound IsTypeCode (call_typed globals n es at) _ (call_coded globals n es at) (λ t. tt))
+  node_step (Node-F.Call n ks) at = Codes.bound IsTypeCode (all_of ks) _ (Codes.listed_parts IsTypeCode (expr_typed globals variables mode) ks) (λ es. Codes.bound IsTypeCode (call_typed globals mode n es at) _ (call_coded globals mode n es at) (λ t. tt))
   node_step (Node-F.Calloc w k x) at =
       Codes.bound IsTypeCode (expr_typed globals variables mode k.0) _ k.1 (λ a.
       Codes.bound IsTypeCode (allocation_typed (type_written w) a (type_written x) at) _ (allocation_coded (type_written w) a (type_written x) at) (λ t. tt))

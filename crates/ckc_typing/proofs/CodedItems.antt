@@ -6,7 +6,7 @@ use Rattle.ckc_base.proofs.Codes
 use Rattle.ckc_base.specs.declared.places.Pos.{Pos}
 use Rattle.ckc_base.specs.declared.places.Refusal.{Refusal}
 use Rattle.ckc_base.specs.declared.arithmetic.Mode.{Mode}
-use Rattle.ckc_base.specs.declared.arithmetic.Mode.TheVariants.{Unchecked}
+use Rattle.ckc_base.specs.declared.arithmetic.Mode.TheVariants.{Checked, Unchecked}
 use Rattle.ckc_base.specs.Places.{start}
 use Rattle.ckc_base.specs.Outcomes.{Outcome, unless}
 use Rattle.ckc_types.specs.declared.types.CType.{CType}
@@ -29,7 +29,7 @@ use Rattle.ckc_typed.specs.Statics.{blocks, placed, end_of_blocks}
 use Rattle.ckc_typed.specs.Environment.{params_of, variables_of, variable_declared}
 use Rattle.ckc_typed.specs.Expressions.{expr_typed, exprs_typed, bounds_typed, value_typed}
 use Rattle.ckc_typed.specs.Declarations.{init_typed, parts_typed, judged, fault_unless, is_scalar_declared, start_fault, is_plain, bare_fault, local_fault, static_fault, bare_typed, bares_typed, local_typed, static_typed}
-use Rattle.ckc_typed.specs.Statements.{OfAct, OfStmt, act_parts, stmt_parts, act_typed, stmt_typed, all_in, part_in, is_target, is_result, target_fits, scalar_fits, scalar_there_fits, result_fits, loop_fits}
+use Rattle.ckc_typed.specs.Statements.{OfAct, OfStmt, body_mode, act_parts, stmt_parts, act_typed, stmt_typed, all_in, part_in, is_target, is_result, target_fits, scalar_fits, scalar_there_fits, result_fits, loop_fits}
 use Rattle.ckc_typed.specs.Texts.{is_result_type, result_allowed, head_typed, item_typed, items_typed, globals_of, laid_out, named_typed}
 use Rattle.ckc_typed.specs.Walk.{head_mode, pragma_after}
 use Rattle.ckc_typed.specs.Layouts.{structs_of}
@@ -207,8 +207,8 @@ module _ (globals : Globals) (variables : List Variable) (result : CType) where
 
 head_coded : (globals : Globals) (pragma : Mode) (h : Head) → Coded (head_typed globals pragma h)
 head_coded globals pragma h =
-    Codes.bound IsTypeCode (bares_typed globals (params_of h) (head_mode pragma h) h.params) _ (bares_coded globals (params_of h) (head_mode pragma h) h.params) (λ ps.
-    Codes.bound IsTypeCode (bounds_typed globals (params_of h) (head_mode pragma h) h.bounds) _ (bounds_coded globals (params_of h) (head_mode pragma h) h.bounds) (λ l.
+    Codes.bound IsTypeCode (bares_typed globals (params_of Checked h) (head_mode pragma h) h.params) _ (bares_coded globals (params_of Checked h) (head_mode pragma h) h.params) (λ ps.
+    Codes.bound IsTypeCode (bounds_typed globals (params_of Checked h) (head_mode pragma h) h.bounds) _ (bounds_coded globals (params_of Checked h) (head_mode pragma h) h.bounds) (λ l.
     Codes.bound IsTypeCode (result_allowed h) _ (Codes.kept IsTypeCode {A = Unit {0}} (not (is_result_type (type_written h.result))) bad_operands h.pos (Ok tt) is_401 tt) (λ u. tt)))
 
 item_coded : (globals : Globals) (pragma : Mode) (i : Item) → Coded (item_typed globals pragma i)
@@ -220,7 +220,7 @@ item_coded globals pragma (item.Static d) = Codes.bound IsTypeCode (static_typed
 item_coded globals pragma (item.Proto h) = Codes.bound IsTypeCode (head_typed globals pragma h) _ (head_coded globals pragma h) (λ g. tt)
 item_coded globals pragma (item.Function h body) =
     Codes.bound IsTypeCode (head_typed globals pragma h) _ (head_coded globals pragma h) (λ g.
-    Codes.bound IsTypeCode (stmt_typed globals (variables_of h body) (type_written h.result) body (head_mode pragma h) false) _ (stmt_coded globals (variables_of h body) (type_written h.result) body (head_mode pragma h) false) (λ b. tt))
+    Codes.bound IsTypeCode (stmt_typed globals (variables_of (body_mode (head_mode pragma h) body) h body) (type_written h.result) body (head_mode pragma h) false) _ (stmt_coded globals (variables_of (body_mode (head_mode pragma h) body) h body) (type_written h.result) body (head_mode pragma h) false) (λ b. tt))
 
 items_coded : (globals : Globals) (pragma : Mode) (items : List Item) → Coded (items_typed globals pragma items)
 items_coded globals pragma [] = tt

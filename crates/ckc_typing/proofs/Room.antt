@@ -30,7 +30,7 @@ use Rattle.ckc_typed.specs.Environment.{variables_of, variable_declared}
 use Rattle.ckc_typed.specs.Constants.{constant, constant_of_node, size_of, is_laid_out_form, limits_constant, node_constant, expr_constant}
 use Rattle.ckc_typed.specs.Conversions.{is_null_form}
 use Rattle.ckc_typed.specs.Declarations.{is_plain, string_in, string_in_form, string_fits, is_start, init_fits, count_of, count_fits, kept_zero, fault_unless, is_element_declared, static_fault, judged, parts_typed, static_typed, bares_typed}
-use Rattle.ckc_typed.specs.Statements.{stmt_typed}
+use Rattle.ckc_typed.specs.Statements.{body_mode, stmt_typed}
 use Rattle.ckc_base.specs.MemoryMap.{data_start}
 use Rattle.ckc_typed.specs.Statics.{bytes_of, bytes_of_one, initial_bytes, object_of, objects_of_item, object_of_string, strings_of_item, blocks, placed, begin_behind, end_of_block}
 use Rattle.ckc_typed.specs.Texts.{globals_of, head_typed, item_typed, items_typed, named_typed}
@@ -202,7 +202,7 @@ module _ (globals : Globals) where
       subst Roomy (ok_same (item.Proto a.0) j a.2) (All-nil _)
   item_room pragma (item.Function h body) j e =
       let a = made_of (head_typed globals pragma h) _ j e in
-      let b = made_of (stmt_typed globals (variables_of h body) (type_written h.result) body (head_mode pragma h) false) _ j a.2 in
+      let b = made_of (stmt_typed globals (variables_of (body_mode (head_mode pragma h) body) h body) (type_written h.result) body (head_mode pragma h) false) _ j a.2 in
       subst Roomy (ok_same (item.Function a.0 b.0) j b.2) (All-nil _)
 
   items_room : (pragma : Mode) (items : List Item) (js : List NotedItem) → items_typed globals pragma items ≡ Ok js → HaveRoom globals.structs (flat_map (objects_of_item globals.structs) js)

@@ -5,7 +5,8 @@ ghost use Rattle.ckc_base.specs.declared.arithmetic.Mode.TheVariants as mode;
 ghost use Rattle.ckc_syntax.specs.declared.tree.Item.TheVariants as item;
 ghost use Rattle.ckc_base.specs.Outcomes.{bind};
 ghost use Rattle.ckc_typed.specs.Types.{type_written};
-ghost use Rattle.ckc_typed.specs.Environment.{variable_declared, params_of, variables_of};
+ghost use Rattle.ckc_typed.specs.Environment.{variable_declared, variables_of};
+ghost use Rattle.ckc_typed.specs.Statements.{body_mode};
 ghost use Rattle.ckc_typed.specs.Declarations.{bares_typed, static_typed};
 ghost use Rattle.ckc_typed.specs.Texts.{result_allowed, head_with, head_typed, function_typed, item_typed, items_typed, globals_of};
 ghost use Rattle.ckc_typed.specs.Walk.{head_mode};
@@ -17,10 +18,12 @@ use crate::statements::{Frame, boxed_stmt};
 use ckc_base::{Boxed, Fault, Mode, Seq, refused};
 use ckc_syntax::{Decl, Head, Item, Limits, Name, Stmt, copied_type};
 use ckc_typed::codes::BAD_OPERANDS;
-use ckc_typed::modes::{head_mode, pragma_after};
+use ckc_typed::modes::{body_mode, head_mode, pragma_after};
 use ckc_typed::types::{is_scalar_type, is_void, type_written};
-use ckc_typed::{Globals, Note, Variable};
-use ckc_typing_environment::environment::{objects_of, signatures_of, variables_declared};
+use ckc_typed::{Globals, Note};
+use ckc_typing_environment::environment::{
+    objects_of, params_of, signatures_of, variables_declared,
+};
 use ckc_typing_environment::locals::variables_of;
 use ckc_typing_environment::scope::FileScope;
 use ckc_typing_statics::layouts::structs_of;
@@ -71,13 +74,6 @@ fn made_head(
     Ok(made)
 }
 
-/// The parameters that a head declares.
-fn params_of(alloc: Global, h: &Head<Name, ()>) -> Result<Seq<Variable>, AllocError>
-    ensures { IfOk result (λ vs. vs ≡ params_of h.now) }
-{
-    variables_declared(alloc, h.params.as_slice())
-}
-
 fn typed_head(
     alloc: Global,
     globals: &FileScope,
@@ -87,7 +83,7 @@ fn typed_head(
     ensures { AnswersOutcome result (head_typed globals.now pragma h.now) }
 {
     let mode = head_mode(pragma, h);
-    let seen = params_of(alloc, h)?;
+    let seen = params_of(alloc, Mode::Checked, h)?;
     let params = typed_bares(alloc, globals, seen.as_slice(), mode, h.params.as_slice())?;
     let bounds = typed_bounds(alloc, globals, seen.as_slice(), mode, &h.bounds)?;
     made_head(alloc, h, params, bounds)
@@ -103,7 +99,7 @@ fn typed_function(
     ensures { AnswersOutcome result (function_typed globals.now pragma h.now body.now) }
 {
     let head = boxed_head(alloc, globals, pragma, h)?;
-    let frame = frame_of(alloc, h, body)?;
+    let frame = frame_of(alloc, pragma, h, body)?;
     let typed = boxed_stmt(alloc, globals, &frame, head_mode(pragma, h), false, body)?;
     Ok(Item::Function(head, typed))
 }
@@ -121,11 +117,17 @@ fn boxed_head(
     Ok(boxed)
 }
 
-fn frame_of(alloc: Global, h: &Head<Name, ()>, body: &Stmt<Name, ()>) -> Result<Frame, AllocError>
-    ensures variables { IfOk result (λ f. f.variables ≡ variables_of h.now body.now) }
+fn frame_of(
+    alloc: Global,
+    pragma: Mode,
+    h: &Head<Name, ()>,
+    body: &Stmt<Name, ()>,
+) -> Result<Frame, AllocError>
+    ensures variables { IfOk result (λ f. f.variables
+        ≡ variables_of (body_mode (head_mode pragma h.now) body.now) h.now body.now) }
     ensures result_type { IfOk result (λ f. f.result ≡ type_written h.now.result) }
 {
-    let variables = variables_of(alloc, h, body)?;
+    let variables = variables_of(alloc, body_mode(head_mode(pragma, h), body), h, body)?;
     let result = type_written(alloc, &h.result)?;
     Ok(Frame { variables, result })
 }

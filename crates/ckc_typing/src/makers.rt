@@ -343,12 +343,12 @@ pub fn call(
     args: Seq<Expr<Name, Note>>,
 ) -> Result<Expr<Name, Note>, Fault>
     ensures { AnswersOutcome result
-        (bind (call_typed globals.now n args pos) (λ t. Ok (noted mode pos (node.Call n args) t))) }
+        (bind (call_typed globals.now mode n args pos) (λ t. Ok (noted mode pos (node.Call n args) t))) }
 {
     match globals.signature_named(n) {
         None => Err(refused(BAD_CALL, pos)),
         Some(s) => {
-            let t = result_typed(alloc, s, args.as_slice(), pos)?;
+            let t = result_typed(alloc, mode, s, args.as_slice(), pos)?;
             Ok(noted(mode, pos, Node::Call(n, args), t))
         }
     }

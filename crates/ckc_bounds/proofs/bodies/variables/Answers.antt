@@ -32,5 +32,5 @@ module _ (frame : Frame) (mode : Mode) (h : NotedHead) (body : NotedStmt) where
 pub returns : goal.returns
 returns c =
     both c.args.frame.now c.args.mode c.args.h.now c.args.body.now c.args.bounded _ _ _ c.new-all.ensures
-    (joined c.args.frame.now c.args.mode c.args.h.now c.args.body.now turn.Counts _ _ _ _ c.as_slice.ensures c.in_ok-add_params.ensures c.in_ok-add_stmt.ensures)
-    (joined c.args.frame.now c.args.mode c.args.h.now c.args.body.now (turn.Places c.args.bounded) _ _ _ _ c.as_slice.ensures c.in_ok-add_params-2.ensures c.in_ok-add_stmt-2.ensures)
+    (joined c.args.frame.now c.args.mode c.args.h.now c.args.body.now turn.Counts _ _ _ _ c.as_slice-ds.ensures c.in_ok-add_params.ensures c.in_ok-add_stmt.ensures)
+    (joined c.args.frame.now c.args.mode c.args.h.now c.args.body.now (turn.Places c.args.bounded) _ _ _ _ c.as_slice-ds.ensures c.in_ok-add_params-2.ensures c.in_ok-add_stmt-2.ensures)

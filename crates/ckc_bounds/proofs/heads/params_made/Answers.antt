@@ -18,4 +18,4 @@ made frame b ps ds first room last p e q r =
 
 pub returns : goal.returns
 returns c =
-    made c.args.frame.now c.args.bounded c.args.h.now.params _ _ _ _ c.as_slice.ensures c.new-all.ensures c.in_ok-add_params.ensures c.in_ok-add_params-2.ensures
+    made c.args.frame.now c.args.bounded c.args.h.now.params _ _ _ _ c.as_slice-ds.ensures c.new-all.ensures c.in_ok-add_params.ensures c.in_ok-add_params-2.ensures

@@ -9,7 +9,7 @@ use Rattle.ckc_base.specs.Outcomes.{Outcome, bind}
 use Rattle.ckc_typed.specs.Trees.{Head, Stmt, NotedHead, NotedStmt, NotedItem}
 use Rattle.ckc_typed.specs.Types.{type_written}
 use Rattle.ckc_typed.specs.Environment.{variables_of}
-use Rattle.ckc_typed.specs.Statements.{stmt_typed}
+use Rattle.ckc_typed.specs.Statements.{body_mode, stmt_typed}
 use Rattle.ckc_typed.specs.Texts.{head_typed, function_typed}
 use Rattle.ckc_typed.specs.Walk.{head_mode}
 use Rattle.ckc_base.proofs.Chains.{fails, goes}
@@ -17,7 +17,7 @@ use Rattle.ckc_typing.proofs.items.typed_function.Goals as goal
 
 -- the body, after the head
 abbrev body_typed : Globals → Mode → Head → Stmt → Outcome NotedStmt
-body_typed globals pragma h body = stmt_typed globals (variables_of h body) (type_written h.result) body (head_mode pragma h) false
+body_typed globals pragma h body = stmt_typed globals (variables_of (body_mode (head_mode pragma h) body) h body) (type_written h.result) body (head_mode pragma h) false
 
 abbrev made : NotedHead → NotedStmt → Outcome NotedItem
 made g b = Ok (item.Function g b)
