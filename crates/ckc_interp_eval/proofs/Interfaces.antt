@@ -1,5 +1,5 @@
 -- Interfaces are read one by one.
-use Rattle.std.proofs.Common.{◌≡◌, ℕ, List, ◌∷◌, slice_index, Result, Ok, Err, sym, ap}
+use Rattle.std.proofs.Common.{◌≡◌, List, ◌∷◌, slice_index, Result, Ok, Err, sym, ap}
 use Rattle.ckc_source.specs.declared.outcome.Halt.{Halt}
 use Rattle.ckc_source.specs.declared.outcome.Value.{Value}
 use Rattle.ckc_source.specs.declared.program.Interface.{Interface}
