@@ -85,7 +85,7 @@ own_bare p s x n es typed is own = by own
     row : IsRow (globals_in p) s (out-Node Name Note x.node) x.note
     row = every_here-Expr _ _ AnyLimits AnyNode (HasRow (globals_in p) s) x typed
 
-    call : IsCall (globals_in p) n es x.note.ctype
+    call : IsCall (globals_in p) row.mode n es x.note.ctype
     call = subst (λ (y : NotedLayer). HasType (globals_in p) s.variables row.mode y x.note.ctype) is row.row
 
     by : (n ≡ name.Getchar) ⊎ (n ≡ name.Putchar) → is_pointer x.note.ctype ≡ false
