@@ -45,7 +45,7 @@ pub fn memory_bounds_are_own()
         IsFunction p s f → memory_bounds s.frame e ≡ bounds.Known low high → AreOwn low high }
 {}
 
-/// A function that is entered reads its interfaces without being stuck exactly when they may be read within their bounds.
+/// A function whose parameters may be read within their bounds reads its interfaces; if it does, each of them may be.
 pub fn interfaces_are_bounded()
     ensures reads { (p : Typed) (s : Setting) (f : Function) (store : Store) → IsJudged p
         → IsFunction p s f → length s.variables < 1024
