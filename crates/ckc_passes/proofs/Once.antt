@@ -16,7 +16,7 @@ pub record IsDetermined (p : Pass) : Type 0 where
   pub apart : (blocks : List TacBlock) (done ops : List TacOp) (end : TacEnd) (op low : TacOp)
       → p.Keeps blocks done ops end op low → p.Drops blocks done ops end op → ⊥
 
-zip_once : {A B : Type 0} (R : A → B → Type 0) → ((x : A) (y z : B) → R x y → R x z → y ≡ z) → (xs : List A) (ys zs : List B) → AllZip R xs ys → AllZip R xs zs → ys ≡ zs
+pub zip_once : {A B : Type 0} (R : A → B → Type 0) → ((x : A) (y z : B) → R x y → R x z → y ≡ z) → (xs : List A) (ys zs : List B) → AllZip R xs ys → AllZip R xs zs → ys ≡ zs
 zip_once R h [] [] [] a b = refl
 zip_once R h [] [] (z ∷ zs) a b = absurd b
 zip_once R h [] (y ∷ ys) zs a b = absurd a
@@ -61,7 +61,7 @@ module _ (p : Pass) (determined : IsDetermined p) where
         let rest = rest_once ops (op ∷ done) m.0 n.0 end one two m.1 n.1 in
         (same_lower done ops end op m.0 n.0 a b rest.0 m.2 n.2, rest.1)
 
-    block_once : (x y z : TacBlock) → BlockBecomes p blocks x y → BlockBecomes p blocks x z → y ≡ z
+    pub block_once : (x y z : TacBlock) → BlockBecomes p blocks x y → BlockBecomes p blocks x z → y ≡ z
     block_once x y z is too =
         let both = rest_once x.ops [] y.ops z.ops x.end y.end z.end is too in
         ap (λ (ops : List TacOp). let b : TacBlock = record { ops = ops; end = y.end } in b) both.0
