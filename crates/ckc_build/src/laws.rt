@@ -14,7 +14,8 @@ ghost use Rattle.ckc_blame.specs.Checked.{WhollyChecked};
 ghost use Rattle.ckc_build_wellformed.specs.ckc_blame_steps.specs.Stores.{PlansLie};
 ghost use Rattle.ckc_build_wellformed.specs.ckc_blame_steps.specs.Unchecked.{AreStoresBlamed};
 ghost use Rattle.ckc_build_elaborate.specs.Elaborated.{elaborated};
-ghost use Rattle.ckc_build_wellformed.specs.WellFormed.{IsWellFormed};
+ghost use Rattle.ckc_build_wellformed.specs.ckc_source_causes.specs.Causes.{IsStuckForCauseAlone};
+ghost use Rattle.ckc_build_wellformed.specs.ckc_source_causes.specs.WellFormed.{IsWellFormed};
 ghost use Rattle.ckc_build_words.specs.Words.{WordsFit};
 ghost use Rattle.ckc_typed.specs.declared.typed.Typed.{Typed};
 ghost use Rattle.ckc_build.specs.Codes.{IsTextCode};
@@ -22,7 +23,8 @@ ghost use Rattle.ckc_build.specs.Meanings.{HasMeaning, IsWhollyChecked, judging,
 
 use ckc_build_wellformed::{
     accepted_stores_lie, accepted_texts_are_blamed, accepted_texts_are_well_formed,
-    accepted_texts_have_the_form, marks_stay, programs_are_small, stores_are_to_blame,
+    accepted_texts_have_the_form, marks_stay, programs_are_small, runs_are_stuck_for_a_cause,
+    stores_are_to_blame,
 };
 use ckc_source::laws::states_are_orderly;
 use ckc_typed_plain::plain_texts_are_within;
@@ -61,6 +63,15 @@ pub fn programs_are_well_formed()
 {
     texts_exactly();
     accepted_texts_are_well_formed();
+}
+
+/// The meaning of a text is stuck only for a cause: the next step goes to what no block has, or reads a checked pointer whose
+/// bounds are not true.
+pub fn stuck_runs_have_a_cause()
+    ensures { (text : List ℕ) (p : Program) → HasMeaning text p → IsStuckForCauseAlone p }
+{
+    programs_are_well_formed();
+    runs_are_stuck_for_a_cause();
 }
 
 /// Each state of a run of the program of a text is orderly.

@@ -4,11 +4,12 @@ ghost use Rattle.ckc_base.specs.Phases.{Exact, IsExact, viewed};
 ghost use Rattle.ckc_source.specs.Code.{program_of};
 ghost use Rattle.ckc_source.specs.LaidOut.{IsLaidOut};
 ghost use Rattle.ckc_build_elaborate.specs.Elaborated.{elaborated};
-ghost use Rattle.ckc_build_wellformed.specs.WellFormed.{IsWellFormed};
+ghost use Rattle.ckc_build_wellformed.specs.ckc_source_causes.specs.Causes.{IsStuckForCauseAlone};
+ghost use Rattle.ckc_build_wellformed.specs.ckc_source_causes.specs.WellFormed.{IsWellFormed};
 ghost use Rattle.ckc_build.specs.Meanings.{meanings};
 
 use crate::front::judge;
-use crate::laws::{programs_are_laid_out, programs_are_well_formed};
+use crate::laws::{programs_are_laid_out, programs_are_well_formed, stuck_runs_have_a_cause};
 use ckc_base::Fault;
 use ckc_build_elaborate::elaborate;
 use ckc_source::Program;
@@ -24,6 +25,9 @@ pub fn program(alloc: Global, text: &[u8]) -> Result<Program, Fault>
     ensures laid_out { IfOk result (λ p. IsLaidOut (program_of p)) }
     // What the program names is there, and its checked pointers have ranges.
     ensures well_formed { IfOk result (λ p. IsWellFormed (program_of p)) }
+    // A run of it is stuck only at a step that goes to what no block has, or that reads a checked pointer whose bounds are
+    // not true.
+    ensures caused { IfOk result (λ p. IsStuckForCauseAlone (program_of p)) }
 {
     match judge(alloc, text) {
         Err(fault) => Err(fault),
@@ -32,6 +36,7 @@ pub fn program(alloc: Global, text: &[u8]) -> Result<Program, Fault>
             Ok(p) => {
                 programs_are_laid_out();
                 programs_are_well_formed();
+                stuck_runs_have_a_cause();
                 Ok(p)
             }
         },

@@ -180,10 +180,10 @@ module _ (p : Typed) (j : IsJudged p) where
       unfolding setting_of
       function_form = code_form (bodies_are_typed p j h body there)
 
-    abbrev HasForm : Function → Type 0
+    abbrev pub HasForm : Function → Type 0
     HasForm f = CodeForm (functions_elaborated p) f.locals false f.body
 
-    have_form : All HasForm (functions_elaborated p)
+    pub have_form : All HasForm (functions_elaborated p)
     have_form = each_function p HasForm function_form
 
 -- ---- programs

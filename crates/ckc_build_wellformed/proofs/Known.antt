@@ -30,7 +30,7 @@ use Rattle.ckc_build_values.specs.Kinds.{count_of_kind, tag_of}
 use Rattle.ckc_build_values.specs.Members.{count_of_member}
 use Rattle.ckc_build_values.specs.Names.{address_of, array_of, count_of_static}
 use Rattle.ckc_build_forms.specs.ckc_blame_steps.specs.ckc_blame_sound.specs.Settings.{Setting}
-use Rattle.ckc_build_wellformed.specs.WellFormed.{HasObjectAt}
+use Rattle.ckc_source_causes.specs.WellFormed.{HasObjectAt}
 use Rattle.ckc_build_wellformed.proofs.Nodes.{is_there_form}
 use Rattle.ckc_build_wellformed.proofs.Parts.{different, unlike, int_kind, unsigned_kind, integer_kind, kind_pointer, arithmetic_kind}
 

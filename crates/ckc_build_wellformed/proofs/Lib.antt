@@ -1,4 +1,3 @@
-pub mod Given
 pub mod Nodes
 pub mod Parts
 pub mod Known
@@ -7,4 +6,5 @@ pub mod Values
 pub mod Steps
 pub mod Statements
 pub mod Names
+pub mod Looping
 pub mod Programs

@@ -77,7 +77,7 @@ use Rattle.ckc_build_forms.specs.ckc_blame_steps.proofs.Runs.{runs_free}
 use Rattle.ckc_build_forms.specs.ckc_blame_steps.proofs.Small.{few_locals, variables_are}
 use Rattle.ckc_build_forms.specs.ckc_blame_steps.proofs.Texts.{texts_are_told}
 use Rattle.ckc_build_forms.specs.ckc_blame_steps.proofs.Told.{statics_told}
-use Rattle.ckc_build_wellformed.specs.WellFormed.{HasObjectAt}
+use Rattle.ckc_source_causes.specs.WellFormed.{HasObjectAt}
 use Rattle.ckc_build_wellformed.proofs.Nodes.{is_there_form}
 use Rattle.ckc_build_wellformed.proofs.Parts.{different, unlike, int_out, integer_kind, pointer_kind}
 use Rattle.ckc_build_wellformed.proofs.Structures.{is_struct, scalar_plain, void_plain, dot_struct, structure_there}

@@ -19,8 +19,8 @@ use Rattle.ckc_source.specs.Code.{Expr, Number, Moved, Added, Binary, Narrow, Ba
 use Rattle.ckc_build_values.specs.Kinds.{is_signed}
 use Rattle.ckc_build_values.specs.Operators.{converted, cast, unary, binary, is_signed_at, shift, distance, of_operands, elements_in}
 use Rattle.ckc_build_values.specs.Places.{Place, read_at}
-use Rattle.ckc_build_wellformed.specs.Ranges.{GivesRange}
-use Rattle.ckc_build_wellformed.specs.WellFormed.{IsWellFormedAccess, IsWellFormedExpr}
+use Rattle.ckc_source_causes.specs.Ranges.{GivesRange}
+use Rattle.ckc_source_causes.specs.WellFormed.{IsWellFormedAccess, IsWellFormedExpr}
 
 pub different : {X : Type 0} → false ≡ true → X
 different e = absurd cc

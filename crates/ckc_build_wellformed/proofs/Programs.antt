@@ -1,6 +1,6 @@
 -- The program of a text that the phases accept is well formed.
 use Rattle.std.proofs.Common.{◌≡◌, ◌∙◌, sym, ap, subst, refl, arith, le_refl, ℕ, ◌+◌, ◌≤◌, false, List, [], ◌∷◌, ◌++◌, map, length, replicate}
-use Rattle.std.specs.Prelude.{All, Ok, ◌-◌, ◌*◌}
+use Rattle.std.specs.Prelude.{All, Ok, ◌-◌, ◌*◌, slice_get}
 use Rattle.std.specs.List.{Contains}
 use Rattle.std.proofs.lemmas.List.{length-map}
 use Rattle.std.proofs.lemmas.List.Elements.{All-nil, All-cons}
@@ -8,17 +8,19 @@ use Rattle.ckc_base.specs.Lists.{AreBytes}
 use Rattle.ckc_base.specs.Outcomes.{bind}
 use Rattle.ckc_syntax.specs.declared.tree.Name.TheVariants as name
 use Rattle.ckc_syntax.specs.declared.tree.Item.TheVariants as item
+use Rattle.ckc_syntax.specs.declared.tree.NamedText.{NamedText}
 use Rattle.ckc_syntax_limits.specs.Small.{Small}
 use Rattle.ckc_typed.specs.declared.typed.Typed.{Typed}
 use Rattle.ckc_typed.specs.Environment.{parameter_declared, variable_declared}
 use Rattle.ckc_typed.specs.Trees.{NotedDecl, NotedHead, NotedStmt}
+use Rattle.ckc_typed_welltyped.specs.Texts.{TypedAs}
 use Rattle.ckc_source.specs.declared.program.Object.{Object}
 use Rattle.ckc_source.specs.Blocks.{block_of, end_of, first_place, place_behind}
 use Rattle.ckc_source.specs.Code.{Function}
 use Rattle.ckc_source.specs.LaidOut.{AreApart, HoldBytes}
-use Rattle.ckc_checks_operands.specs.Compilable.{HasParams}
 use Rattle.ckc_build_elaborate.specs.Elaborated.{elaborated}
 use Rattle.ckc_build_elaborate.specs.Functions.{literals_of_head, function_elaborated, functions_elaborated}
+use Rattle.ckc_build_elaborate.specs.Names.{number_of}
 use Rattle.ckc_build_elaborate.specs.Objects.{count_declared}
 use Rattle.ckc_build_forms.specs.ckc_blame_steps.specs.Accepted.{IsAccepted}
 use Rattle.ckc_build_forms.specs.ckc_blame_steps.specs.ckc_bounds.specs.Frames.{function_frame, begin_of}
@@ -39,7 +41,9 @@ use Rattle.ckc_build_forms.specs.ckc_blame_steps.proofs.Callees.{callees_known}
 use Rattle.ckc_build_forms.specs.ckc_blame_steps.proofs.Scoped.{texts_are_safe}
 use Rattle.ckc_build_forms.specs.ckc_blame_steps.proofs.Told.{local_named}
 use Rattle.ckc_build_forms.proofs.FunctionsSmall.{each_function, main_there}
-use Rattle.ckc_build_wellformed.specs.WellFormed.{IsWellFormedCode, HasWellFormedBody, BeginsAsBytes, IsWellFormed}
+use Rattle.ckc_build_forms.proofs.Programs.{have_form}
+use Rattle.ckc_source_causes.specs.WellFormed.{HasParams, IsWellFormedCode, HasWellFormedBody, BeginsAsBytes, IsWellFormed}
+use Rattle.ckc_build_wellformed.proofs.Looping.{all_have_steps, there_is}
 use Rattle.ckc_build_wellformed.proofs.Names.{names_known}
 use Rattle.ckc_build_wellformed.proofs.Statements.{Before, judged_form}
 use Rattle.ckc_build_wellformed.proofs.Steps.{HaveParams}
@@ -118,14 +122,16 @@ module _ (p : Typed) (j : IsJudged p) (small : Small j.named.tree) (safe : AreSa
   pub bodies_formed : All (HasWellFormedBody (elaborated p)) (functions_elaborated p)
   bodies_formed = each_function p (HasWellFormedBody (elaborated p)) function_formed
 
-pub accepted_formed : (text : List ℕ) (p : Typed) → IsAccepted text p → IsWellFormed (elaborated p)
-accepted_formed text p a =
-    let k = accepted_known text p a in
-    let j = k.0.granted.judged in
-    let safe : AreSafe p = texts_are_safe a.typed p a.has_bounds.1.0 (subst (λ (q : Typed). bounding.Makes q p) a.has_bounds.1.1 a.has_bounds.2) in
-    record {
-      main = main_there p j;
-      bodies = bodies_formed p j k.1.small safe;
-      placed = lie_from first_place first_place (place_behind first_place (map block_of (elaborated p).objects)) (elaborated p).objects (le_refl first_place) k.1.laid_out.apart;
-      objects = begin_as_bytes (elaborated p).objects k.1.laid_out.bytes;
-    }
+module _ (stays : (t : NamedText) (p : Typed) → TypedAs t p → Small t.tree → Small p.tree) where
+  pub accepted_formed : (text : List ℕ) (p : Typed) → IsAccepted text p → IsWellFormed (elaborated p)
+  accepted_formed text p a =
+      let k = accepted_known text p a in
+      let j = k.0.granted.judged in
+      let safe : AreSafe p = texts_are_safe a.typed p a.has_bounds.1.0 (subst (λ (q : Typed). bounding.Makes q p) a.has_bounds.1.1 a.has_bounds.2) in
+      record {
+        main = there_is 0 (slice_get (functions_elaborated p) (number_of (name.Function p.main) p.tree.items)) (main_there p j);
+        bodies = bodies_formed p j k.1.small safe;
+        steps = all_have_steps (functions_elaborated p) (functions_elaborated p) (have_form p j k.1.given k.1.small (stays j.named j.typed j.has_types k.1.small) k.0.granted.words);
+        placed = lie_from first_place first_place (place_behind first_place (map block_of (elaborated p).objects)) (elaborated p).objects (le_refl first_place) k.1.laid_out.apart;
+        objects = begin_as_bytes (elaborated p).objects k.1.laid_out.bytes;
+      }

@@ -44,7 +44,7 @@ use Rattle.ckc_build_forms.specs.ckc_blame_steps.specs.ckc_blame_sound.proofs.Wo
 use Rattle.ckc_build_forms.specs.ckc_blame_steps.specs.ckc_blame_walk.proofs.Layers.{act_paths, declared_are}
 use Rattle.ckc_build_forms.proofs.NodesOfStatements.{chained-append}
 use Rattle.ckc_build_forms.proofs.StatementParts.{act_inside, part_act, part_if, code_is, assigns_is, kept, if_kept, nothing, some_same, none_some, Layer, act_out, step_off, path_is}
-use Rattle.ckc_build_wellformed.specs.WellFormed.{AreWellFormedAssigns, IsWellFormedCode}
+use Rattle.ckc_source_causes.specs.WellFormed.{AreWellFormedAssigns, IsWellFormedCode}
 use Rattle.ckc_build_wellformed.proofs.Known.{Knows}
 use Rattle.ckc_build_wellformed.proofs.Values.{IsPart, judged_made}
 use Rattle.ckc_build_wellformed.proofs.Steps.{HaveParams, Fine, Left, value_formed, target_is, right_is, nowhere_arrives, place_arrives, local_arrives, InitFine, assigned_formed, started_formed, returned_formed, condition_formed}

@@ -24,14 +24,13 @@ use Rattle.ckc_typed.specs.Types.{type_written}
 use Rattle.ckc_typed_welltyped.specs.Expressions.{AnyLimits, AnyNode, HasType, AreArguments}
 use Rattle.ckc_source.specs.declared.stmt.Spot.{Spot}
 use Rattle.ckc_source.specs.Code.{Expr, Code, Program}
-use Rattle.ckc_checks_operands.specs.Compilable.{HasParams}
 use Rattle.ckc_build_values.specs.Expressions.{expr_elaborated, place_elaborated, literals_of}
 use Rattle.ckc_build_elaborate.specs.Names.{number_of, params_of}
 use Rattle.ckc_build_elaborate.specs.Steps.{Destination, nowhere, memory, target_form, target_of, kept_form, destination_of, destination_for, right_form, right_of, argument, arguments, first_of, called, assigned_form, assigned, started, returned, condition}
 use Rattle.ckc_build_forms.specs.ckc_blame_steps.specs.ckc_bounds_points.specs.Flow.{State}
 use Rattle.ckc_build_forms.specs.ckc_blame_steps.specs.ckc_blame_sound.specs.Settings.{Setting}
 use Rattle.ckc_build_forms.specs.ckc_blame_steps.specs.ckc_blame_sound.proofs.Every.{EachExpr}
-use Rattle.ckc_build_wellformed.specs.WellFormed.{IsWellFormedExpr, AreWellFormed, IsWellFormedTarget, IsWellFormedRight, IsWellFormedKept, IsWellFormedCode}
+use Rattle.ckc_source_causes.specs.WellFormed.{HasParams, IsWellFormedExpr, AreWellFormed, IsWellFormedTarget, IsWellFormedRight, IsWellFormedKept, IsWellFormedCode}
 use Rattle.ckc_build_wellformed.proofs.Parts.{different, unlike, converted_formed}
 use Rattle.ckc_build_wellformed.proofs.Nodes.{is_there, is_there_form, name_in, call_in}
 use Rattle.ckc_build_wellformed.proofs.Known.{Knows}

@@ -60,8 +60,8 @@ use Rattle.ckc_build_values.specs.Expressions.{local_in, static_in, Part, NodePa
 use Rattle.ckc_build_forms.specs.ckc_blame_steps.specs.ckc_blame_sound.specs.Settings.{Setting}
 use Rattle.ckc_build_forms.specs.ckc_blame_steps.specs.ckc_blame_sound.proofs.Every.{LimitsLayer, ExprLayer, EachLimits, EachNode, EachExpr, LimitsParts, NodeParts, AllEach, limits_hold, node_hold, inside}
 use Rattle.ckc_build_forms.specs.ckc_blame_steps.specs.ckc_blame_sound.proofs.Judging.{Gives, bound}
-use Rattle.ckc_build_wellformed.specs.Ranges.{GivesRange}
-use Rattle.ckc_build_wellformed.specs.WellFormed.{IsWellFormedAccess, IsWellFormedExpr}
+use Rattle.ckc_source_causes.specs.Ranges.{GivesRange}
+use Rattle.ckc_source_causes.specs.WellFormed.{IsWellFormedAccess, IsWellFormedExpr}
 use Rattle.ckc_build_wellformed.proofs.Nodes.{no_any, is_there_form, is_there, is_plain_form, is_plain, name_in, call_in}
 use Rattle.ckc_build_wellformed.proofs.Parts.{different, unlike, pointer_kind, size_kind, unary_kind, sum_is, difference_is, index_given, index_pointer, other_kind, PlaceFormed, cast_formed, unary_formed, operands_formed, elements_formed}
 use Rattle.ckc_build_wellformed.proofs.Known.{Knows, KnowsMember, KnowsStatic, chosen, not_chosen, none_is, some_same, no_fault, counted_there, no_raw_kind, zero, number_kind, checked_pointer, if_true, count_missing, one_counts, target_pointer, if_first, if_second, choice_kind, cast_kind}

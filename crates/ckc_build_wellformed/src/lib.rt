@@ -7,4 +7,7 @@ pub use ckc_build_forms::{
     accepted_stores_lie, accepted_texts_are_blamed, accepted_texts_have_the_form, marks_stay,
     programs_are_small, stores_are_to_blame,
 };
-pub use laws::{accepted_texts_are_well_formed, ranges_are_given};
+pub use ckc_source_causes::{
+    expressions_are_stuck_for_a_cause, ranges_are_given, runs_are_stuck_for_a_cause,
+};
+pub use laws::accepted_texts_are_well_formed;

@@ -1,4 +1,4 @@
-use Rattle.ckc_build_wellformed.specs.WellFormed.{IsWellFormed}
+use Rattle.ckc_build_wellformed.specs.ckc_source_causes.specs.WellFormed.{IsWellFormed}
 use Rattle.ckc_build.proofs.Blame.{accepted, meant_by}
 use Rattle.ckc_build.proofs.laws.programs_are_well_formed.Goals as goal
 

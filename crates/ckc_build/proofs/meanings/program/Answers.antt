@@ -21,3 +21,8 @@ pub returns-in-Ok-elaborated-clause-well_formed : goal.returns-in-Ok-elaborated-
 returns-in-Ok-elaborated-clause-well_formed c =
     let p = program_of c.in-Ok-elaborated.p in
     c.programs_are_well_formed.ensures c.args.text.now p (means c.args.text.now c.in-Ok.typed p c.in-Ok.ensures.exact c.in-Ok-elaborated.ensures).answers
+
+pub returns-in-Ok-elaborated-clause-caused : goal.returns-in-Ok-elaborated-clause-caused
+returns-in-Ok-elaborated-clause-caused c =
+    let p = program_of c.in-Ok-elaborated.p in
+    c.stuck_runs_have_a_cause.ensures c.args.text.now p (means c.args.text.now c.in-Ok.typed p c.in-Ok.ensures.exact c.in-Ok-elaborated.ensures).answers

@@ -23,8 +23,8 @@ use Rattle.ckc_source.specs.Blocks.{Block}
 use Rattle.ckc_source.specs.Eval.{Store, given, given_some, stops, plain, ranged, reads_within, reads, at_address, in_range, exact_element, element_through, element, place_in, loads_pointer, counted, moved_exactly, moves_checked, moves, end_address, tests_within, tests, accessed, evaluated}
 use Rattle.ckc_source.specs.Runs.{is_true}
 use Rattle.ckc_source.specs.Words.{exact, as_address, elements_behind}
-use Rattle.ckc_build_wellformed.specs.Ranges.{GivesRange, IsNullOrRanged}
-use Rattle.ckc_build_wellformed.specs.WellFormed.{IsWellFormedAccess}
+use Rattle.ckc_source_causes.specs.Ranges.{GivesRange, IsNullOrRanged}
+use Rattle.ckc_source_causes.specs.WellFormed.{IsWellFormedAccess}
 
 -- a value that there is has this
 abbrev Holds : {A : Type 0} → (A → Type 0) → Result A Halt → Type 0

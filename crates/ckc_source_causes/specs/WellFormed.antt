@@ -11,8 +11,12 @@ use Rattle.ckc_source.specs.declared.program.Object.{Object}
 use Rattle.ckc_source.specs.declared.stmt.Kept.{Kept}
 use Rattle.ckc_source.specs.declared.stmt.Kept.TheVariants as kept
 use Rattle.ckc_source.specs.Code.{Expr, Number, Local, Limited, Array, Load, Member, Address, Moved, Added, Binary, And, Or, Choice, Narrow, Bare, Tested, Trusted, Target, Nothing, Variable, Memory, Right, Value, Fresh, Code, End, Assign, Bundle, Get, Put, Call, If, Loop, Break, Continue, Return, Check, Function, Program}
-use Rattle.ckc_checks_operands.specs.Compilable.{HasParams}
-use Rattle.ckc_build_wellformed.specs.Ranges.{GivesRange}
+use Rattle.ckc_source_causes.specs.Ranges.{GivesRange}
+
+-- the function is there and has so many parameters
+abbrev pub HasParams : ℕ → Option Function → Type 0
+HasParams count (Some f) = f.params ≡ count
+HasParams count None = ⊥
 
 -- ---- accesses
 
@@ -113,11 +117,36 @@ IsWellFormedCode p (Continue rest) = IsWellFormedCode p rest
 IsWellFormedCode p (Return spot e rest) = IsWellFormedExpr p e × IsWellFormedCode p rest
 IsWellFormedCode p (Check spot e rest) = IsWellFormedExpr p e × IsWellFormedCode p rest
 
+-- the step of a loop does not begin with `break` or `continue`
+abbrev pub IsStep : Code → Type 0
+IsStep (Break rest) = ⊥
+IsStep (Continue rest) = ⊥
+IsStep _ = Unit {0}
+
+-- each loop in statements has such a step
+abbrev pub HasSteps : Code → Type 0
+HasSteps (Assign spot target right rest) = HasSteps rest
+HasSteps (Bundle spot assigns rest) = HasSteps rest
+HasSteps (Get spot target rest) = HasSteps rest
+HasSteps (Put spot target e rest) = HasSteps rest
+HasSteps (Call spot target callee es rest) = HasSteps rest
+HasSteps (If spot e one two rest) = HasSteps one × HasSteps two × HasSteps rest
+HasSteps (Loop spot e body step rest) = IsStep step × HasSteps body × HasSteps step × HasSteps rest
+HasSteps (Break rest) = HasSteps rest
+HasSteps (Continue rest) = HasSteps rest
+HasSteps (Return spot e rest) = HasSteps rest
+HasSteps (Check spot e rest) = HasSteps rest
+HasSteps End = Unit {0}
+
 -- ---- programs
 
 -- the body of a function is well formed
 abbrev pub HasWellFormedBody : Program → Function → Type 0
 HasWellFormedBody p f = IsWellFormedCode p f.body
+
+-- each loop of a function has a step that is one
+abbrev pub HasStepsInBody : Function → Type 0
+HasStepsInBody f = HasSteps f.body
 
 -- An object lies in the data region, from the first place for objects on; so none lies at 0.
 abbrev pub LiesInData : Object → Type 0
@@ -127,10 +156,11 @@ LiesInData o = first_place ≤ o.at
 abbrev pub BeginsAsBytes : Object → Type 0
 BeginsAsBytes o = AreBytes o.initial
 
--- A program is well formed: `main` is there and has no parameters, the body of each function is well formed, and each object
--- lies in the data region and begins as bytes.
+-- A program is well formed: `main` is there and has no parameters, the body of each function is well formed, no step of a loop
+-- begins with `break` or `continue`, and each object lies in the data region and begins as bytes.
 pub record IsWellFormed (p : Program) : Type 0 where
   pub main : HasParams 0 (slice_get p.functions p.main)
   pub bodies : All (HasWellFormedBody p) p.functions
+  pub steps : All HasStepsInBody p.functions
   pub placed : All LiesInData p.objects
   pub objects : All BeginsAsBytes p.objects

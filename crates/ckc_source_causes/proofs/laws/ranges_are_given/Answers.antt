@@ -1,5 +1,5 @@
-use Rattle.ckc_build_wellformed.proofs.Given.{given_value, judged, cast_judged}
-use Rattle.ckc_build_wellformed.proofs.laws.ranges_are_given.Goals as goal
+use Rattle.ckc_source_causes.proofs.Given.{given_value, judged, cast_judged}
+use Rattle.ckc_source_causes.proofs.laws.ranges_are_given.Goals as goal
 
 pub returns-clause-given : goal.returns-clause-given
 returns-clause-given c = λ e s v g is. given_value s e v g is

@@ -1,0 +1,6 @@
+//! Programs that are well formed, and why a run of one is stuck.
+#![tactic(auto)]
+
+mod laws;
+
+pub use laws::{expressions_are_stuck_for_a_cause, ranges_are_given, runs_are_stuck_for_a_cause};
