@@ -4,6 +4,7 @@ pub mod Calls
 pub mod Growing
 pub mod Scanned
 pub mod Fair
+pub mod Given
 pub mod Simulated
 pub mod Follows
 pub mod Assigned

@@ -10,7 +10,7 @@ use Rattle.ckc_frame.specs.Places.{home, number_of, number_of_home}
 use Rattle.ckc_frame.specs.WellFormed.{IsPlace}
 use Rattle.ckc_assign.specs.declared.ranges.Range.{Range}
 use Rattle.ckc_assign.specs.code.Ranges.{range_of, Covers}
-use Rattle.ckc_assign.specs.code.Homes.{first_home, home_of, AreFirst, IsScan, LieApart}
+use Rattle.ckc_assign.specs.code.Homes.{first_home, holder_of, home_of, AreFirst, IsScan, LieApart}
 
 -- ---- the first homes
 
@@ -38,14 +38,16 @@ first_slot false r s e = (let f : r ≡ s = cc in sym f)
 not_reg : (r h : ℕ) → Slot r ≡ Reg h → ⊥
 not_reg r h e = absurd cc
 
-pub scan_first : (ranges : List Range) (busy : List ℕ) (homes : List Place) → length ranges ≤ 4064 → length busy ≡ 12 → AreFirst ranges (length ranges) homes → IsScan ranges busy homes
-scan_first ranges busy homes few wide a = record {
+pub scan_first : (ranges : List Range) (holders : List ℕ) (homes : List Place) → length ranges ≤ 4064 → length holders ≡ 16 → ((h : ℕ) → h < 16 → length ranges ≤ holder_of holders h) → AreFirst ranges (length ranges) homes → IsScan ranges holders homes
+scan_first ranges holders homes few wide none a = record {
   few = few;
   long = a.long;
   wide = wide;
   places = λ r h. subst IsPlace (sym (a.first r h)) (first_is_place (nat_lt (range_of ranges r).last (range_of ranges r).first) r (omega arith));
   slots = λ r s h e. first_slot (nat_lt (range_of ranges r).last (range_of ranges r).first) r s (sym (a.first r h) ∙ e);
   needed = λ r s h e. let range = range_of ranges r in test_not range.last range.first (slot_test (nat_lt range.last range.first) r s (sym (a.first r h) ∙ e));
+  used = λ h l low. absurd (let n = none h l in omega (arith, n, low));
+  here = λ h l low. absurd (let n = none h l in omega (arith, n, low));
   ended = λ r h k u e. absurd (not_reg r h (sym (used_slot (range_of ranges r) r u) ∙ sym (a.first r k) ∙ e));
   apart = λ r q h k m ne u v e f. absurd (not_reg r h (sym (used_slot (range_of ranges r) r u) ∙ sym (a.first r k) ∙ e));
 }
@@ -66,7 +68,7 @@ home_is : (homes : List Place) (r : ℕ) → r < length homes → home homes r �
 unfolding home
 home_is homes r h = ap number_of_home (slice_get-get_or homes r (Slot 0) h)
 
-module _ (ranges : List Range) (busy : List ℕ) (homes : List Place) (s : IsScan ranges busy homes) where
+module _ (ranges : List Range) (holders : List ℕ) (homes : List Place) (s : IsScan ranges holders homes) where
   same_home : (place : Place) (r q p : ℕ) → r < length ranges → q < length ranges → r ≢ q → Covers ranges r p → Covers ranges q p
       → home_of homes r ≡ place → home_of homes q ≡ place → ⊥
   same_home (Reg h) r q p m n ne c d e f = ⊎_elim (λ l. omega (arith, c.0, c.1, d.0, d.1, l)) (λ l. omega (arith, c.0, c.1, d.0, d.1, l))

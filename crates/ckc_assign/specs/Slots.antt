@@ -1,4 +1,4 @@
--- A register has a slot only if more than twelve live ranges meet.
+-- A register has a slot only if more than sixteen live ranges meet.
 use Rattle.std.specs.Prelude.{◌≡◌, ℕ, ◌+◌, ◌≤◌, ◌<◌, List, [], ◌∷◌, length, slice_get, take, sum_by, Some, All}
 use Rattle.std.specs.List.{Contains}
 use Rattle.ckc_tac.specs.declared.code.TacBlock.{TacBlock}
@@ -35,15 +35,15 @@ abbrev pub AreDistinct : List ℕ → Type 0
 AreDistinct [] = Unit {0}
 AreDistinct (r ∷ rs) = (Contains rs r → ⊥) × AreDistinct rs
 
--- At some place of the range of a register more than twelve ranges meet.
+-- At some place of the range of a register more than sixteen ranges meet.
 pub record IsCrowded (f : TacFunc) (r : ℕ) : Type 0 where
   pub place : ℕ
   pub here : IsInRange f place r
   pub others : List ℕ
-  pub many : length others ≡ 12
+  pub many : length others ≡ 16
   pub distinct : AreDistinct (r ∷ others)
   pub meet : All (IsInRange f place) others
 
--- A register has a slot only if more than twelve ranges meet at some place of its own.
+-- A register has a slot only if more than sixteen ranges meet at some place of its own.
 abbrev pub UsesFewSlots : PlacedFunc → Type 0
 UsesFewSlots f = (r s : ℕ) → slice_get f.homes r ≡ Some (Slot s) → IsCrowded f.code r

@@ -1,13 +1,16 @@
 //! Places for registers by linear scan: in the order in which their ranges begin, each takes a machine register whose
-//! last range has ended, and a slot of its own if there is none.
-ghost use Rattle.std.specs.Prelude.{◌≡◌, ◌≤◌, ◌<◌, ◌↔◌, get_or, length, IfOk, IfSome, IsTrue, None, ℕ};
-ghost use Rattle.ckc_frame.specs.declared.code.Place.TheVariants.{Slot};
-ghost use Rattle.ckc_assign.specs.code.Homes.{AreBusy, AreFirst, BeginLate, HasStarts, IsFair, IsGiven};
+//! last range has ended. If there is none, one of those that meet gets a slot of its own: the one to which a machine
+//! register is worth least.
+ghost use Rattle.std.specs.Prelude.{◌≡◌, ◌≤◌, ◌<◌, length, set, IfOk, IfSome, None, ℕ};
+ghost use Rattle.ckc_frame.specs.declared.code.Place.TheVariants.{Reg, Slot};
+ghost use Rattle.ckc_assign.specs.code.Homes.{AreBusy, AreFirst, BeginLate, HasStarts, HaveBegun, IsFair, IsGiven};
 ghost use Rattle.ckc_assign.specs.code.Ranges.{range_of};
-ghost use Rattle.ckc_assign.specs.code.Homes.{IsOrder, IsScan, LieApart, first_home, home_of};
+ghost use Rattle.ckc_assign.specs.code.Homes.{IsOrder, IsScan, LieApart, first_home, holder_of, home_of};
 
 use crate::ranges::Range;
+use crate::worths::worths_of;
 use ckc_frame::Place;
+use ckc_tac::TacFunc;
 use std::alloc::{AllocError, Global};
 
 /// A register with the first place of its range.
@@ -18,16 +21,22 @@ struct Start {
 }
 
 /// A place for each register, so that those whose ranges meet have places of their own, and slots are for those with
-/// more than twelve ranges at some place.
-pub fn homes_of(alloc: Global, ranges: &[Range]) -> Result<Vec<Place>, AllocError>
+/// more than sixteen ranges at some place.
+pub fn homes_of(alloc: Global, f: &TacFunc, ranges: &[Range]) -> Result<Vec<Place>, AllocError>
     requires few { length ranges.now ≤ 4064 }
     requires late { BeginLate ranges.now }
     ensures apart { IfOk result (λ homes. LieApart ranges.now homes.items) }
     ensures fair { IfOk result (λ homes. (r : ℕ) → IsFair ranges.now homes.items r) }
 {
+    let worths = worths_of(alloc, f, ranges)?;
     let mut homes = first_homes(alloc, ranges)?;
     let order = order_of(alloc, ranges)?;
-    scan(order.as_slice(), ranges, homes.as_mut_slice());
+    scan(
+        order.as_slice(),
+        ranges,
+        worths.as_slice(),
+        homes.as_mut_slice(),
+    );
     Ok(homes)
 }
 
@@ -80,7 +89,7 @@ fn starts_of(alloc: Global, ranges: &[Range]) -> Result<Vec<Start>, AllocError>
     Ok(starts)
 }
 
-fn scan(order: &[Start], ranges: &[Range], homes: &mut [Place])
+fn scan(order: &[Start], ranges: &[Range], worths: &[u64], homes: &mut [Place])
     requires first { AreFirst ranges.now (length ranges.now) homes.old }
     requires few { length ranges.now ≤ 4064 }
     requires late { BeginLate ranges.now }
@@ -88,61 +97,147 @@ fn scan(order: &[Start], ranges: &[Range], homes: &mut [Place])
     ensures apart { LieApart ranges.now homes.new }
     ensures fair { (r : ℕ) → IsFair ranges.now homes.new r }
 {
-    let mut busy = [0; 12];
+    let mut holders = [ranges.len() as u32; 16];
     for start in order {
-        place_one(start.register, ranges, &mut busy, homes);
+        place_one(start.register, ranges, worths, &mut holders, homes);
     }
 }
 
-/// Gives a register in a slot a free machine register, if there is one.
-fn place_one(r: u32, ranges: &[Range], busy: &mut [u32], homes: &mut [Place])
+/// Gives a register in a slot a machine register that is free, or that of another register.
+fn place_one(r: u32, ranges: &[Range], worths: &[u64], holders: &mut [u32], homes: &mut [Place])
     requires late { BeginLate ranges.now }
-    requires scan { IsScan ranges.now busy.old homes.old }
-    ensures scan { IsScan ranges.now busy.new homes.new }
-    ensures given { IsGiven ranges.now r busy.old homes.old busy.new homes.new }
+    requires scan { IsScan ranges.now holders.old homes.old }
+    requires begun { HaveBegun ranges.now holders.old (range_of ranges.now r).first }
+    ensures scan { IsScan ranges.now holders.new homes.new }
+    ensures given { IsGiven ranges.now r holders.old homes.old holders.new homes.new }
 {
     if (r as usize) < ranges.len() {
         match homes[r as usize] {
-            Place::Slot(_) => take_free(r, ranges[r as usize], ranges, busy, homes),
+            Place::Slot(_) => take(r, ranges, worths, holders, homes),
             Place::Reg(_) => {}
         }
     }
 }
 
-fn take_free(r: u32, range: Range, ranges: &[Range], busy: &mut [u32], homes: &mut [Place])
+fn take(r: u32, ranges: &[Range], worths: &[u64], holders: &mut [u32], homes: &mut [Place])
     requires late { BeginLate ranges.now }
-    requires scan { IsScan ranges.now busy.old homes.old }
+    requires scan { IsScan ranges.now holders.old homes.old }
+    requires begun { HaveBegun ranges.now holders.old (range_of ranges.now r).first }
     requires there { r < length ranges.now }
-    requires range { range ≡ range_of ranges.now r }
     requires slot { home_of homes.old r ≡ Slot r }
-    ensures scan { IsScan ranges.now busy.new homes.new }
-    ensures given { IsGiven ranges.now r busy.old homes.old busy.new homes.new }
+    ensures scan { IsScan ranges.now holders.new homes.new }
+    ensures given { IsGiven ranges.now r holders.old homes.old holders.new homes.new }
 {
-    match free(busy, range.first) {
+    let place = first_of(ranges, r);
+    match free(holders, ranges, place) {
+        Some(h) => give(h, r, holders, homes),
+        None => take_over(r, ranges, worths, holders, homes),
+    }
+}
+
+/// Gives a register the machine register of another one, if that is worth less to it.
+fn take_over(r: u32, ranges: &[Range], worths: &[u64], holders: &mut [u32], homes: &mut [Place])
+    requires late { BeginLate ranges.now }
+    requires scan { IsScan ranges.now holders.old homes.old }
+    requires begun { HaveBegun ranges.now holders.old (range_of ranges.now r).first }
+    requires there { r < length ranges.now }
+    requires slot { home_of homes.old r ≡ Slot r }
+    requires busy { AreBusy ranges.now holders.old (range_of ranges.now r).first }
+    ensures scan { IsScan ranges.now holders.new homes.new }
+    ensures given { IsGiven ranges.now r holders.old homes.old holders.new homes.new }
+{
+    match least(holders, worths, r) {
         Some(h) => {
-            busy[h] = range.last;
-            homes[r as usize] = Place::Reg(h as u8);
+            let other = holder_at(holders, h);
+            put_out(other, homes);
+            give(h, r, holders, homes);
         }
         None => {}
     }
 }
 
-/// A machine register whose last range ended in front of a place, if there is one.
-fn free(busy: &[u32], place: u32) -> Option<usize>
-    ensures free { IfSome result (λ h. (h < length busy.now) × (get_or busy.now h 0 < place)) }
-    ensures busy { result ≡ None → AreBusy busy.now place }
+/// The register that holds a machine register.
+fn holder_at(holders: &[u32], h: usize) -> u32
+    requires { h < length holders.now }
+    ensures { result ≡ holder_of holders.now h }
 {
-    for h in 0..busy.len() {
-        if has_ended(busy[h], place) {
+    holders[h]
+}
+
+/// A register gets a slot of its own.
+fn put_out(q: u32, homes: &mut [Place])
+    requires there { q < length homes.old }
+    requires few { length homes.old ≤ 4064 }
+    ensures { homes.new ≡ set homes.old q (Slot q) }
+{
+    homes[q as usize] = Place::Slot(q as u16);
+}
+
+/// A register gets a machine register.
+fn give(h: usize, r: u32, holders: &mut [u32], homes: &mut [Place])
+    requires machine { h < length holders.old }
+    requires few { length holders.old ≤ 16 }
+    requires register { r < length homes.old }
+    ensures holders { holders.new ≡ set holders.old h r }
+    ensures homes { homes.new ≡ set homes.old r (Reg h) }
+{
+    holders[h] = r;
+    homes[r as usize] = Place::Reg(h as u8);
+}
+
+/// The machine register that is worth least to the register that holds it, if it is worth more to another one.
+fn least(holders: &[u32], worths: &[u64], r: u32) -> Option<usize>
+    ensures { IfSome result (λ h. h < length holders.now) }
+{
+    let mut found = None;
+    let mut low = worth_of(worths, r);
+    for h in 0..holders.len() {
+        let worth = worth_of(worths, holders[h]);
+        if worth < low {
+            low = worth;
+            found = Some(h);
+        }
+    }
+    found
+}
+
+fn worth_of(worths: &[u64], r: u32) -> u64 {
+    if (r as usize) < worths.len() {
+        worths[r as usize]
+    } else {
+        0
+    }
+}
+
+/// A machine register that no range holds at a place, if there is one.
+fn free(holders: &[u32], ranges: &[Range], place: u32) -> Option<usize>
+    ensures free { IfSome result
+        (λ h. (h < length holders.now) × ((range_of ranges.now (holder_of holders.now h)).last < place)) }
+    ensures busy { result ≡ None → AreBusy ranges.now holders.now place }
+{
+    for h in 0..holders.len() {
+        if last_of(ranges, holders[h]) < place {
             return Some(h);
         }
     }
     None
 }
 
-/// Whether a range that ends at one place has ended in front of another.
-fn has_ended(last: u32, place: u32) -> bool
-    ensures { IsTrue result ↔ (last < place) }
+/// The first place of the range of a register.
+fn first_of(ranges: &[Range], r: u32) -> u32
+    requires { r < length ranges.now }
+    ensures { result ≡ (range_of ranges.now r).first }
 {
-    place > last
+    ranges[r as usize].first
+}
+
+/// The last place of the range of a register.
+fn last_of(ranges: &[Range], r: u32) -> u32
+    ensures { result ≡ (range_of ranges.now r).last }
+{
+    if (r as usize) < ranges.len() {
+        ranges[r as usize].last
+    } else {
+        0
+    }
 }

@@ -7,5 +7,6 @@ mod kept;
 pub mod laws;
 mod program;
 mod ranges;
+mod worths;
 
 pub use program::assign;

@@ -21,7 +21,7 @@ use std::alloc::{AllocError, Global};
 
 /// The program with a place for each register of each function, by linear scan over live ranges. Registers that are
 /// live at once never share a place, a call keeps exactly what is live after it, and a register has a slot only if more
-/// than twelve ranges meet at some place of its own. The code, and with it the initial bytes, is as it was. The placed
+/// than sixteen ranges meet at some place of its own. The code, and with it the initial bytes, is as it was. The placed
 /// program does what the program does, calls, returns and stores to the data region included, in as many steps.
 pub fn assign(alloc: Global, t: &Tac) -> Result<Placed, AllocError>
     requires whole { tac.IsWellFormed t.now }
@@ -63,7 +63,7 @@ fn function(alloc: Global, f: &TacFunc) -> Result<PlacedFunc, AllocError>
     let live = live(alloc, f)?;
     let rows = live.before.as_slice();
     let ranges = ranges_of(alloc, f, rows)?;
-    let homes = homes_of(alloc, ranges.as_slice())?;
+    let homes = homes_of(alloc, f, ranges.as_slice())?;
     let kept = kept_of(alloc, f, rows)?;
     let code = copy_of(alloc, f)?;
     Ok(PlacedFunc {

@@ -133,4 +133,4 @@ module _ (c : Code) where
   copy_writes t (place.Slot k) x rest l f ht ha e fits =
       let low = source_low c t ht in
       write_after c 1 3 (copy_lines t (place.Slot k) rest) t x rest l f ht
-      (load_sets c (source_of t 5) 2 (k * 4 + 64) x (write_lines t 5 rest) l low.0 low.1 (omega arith) (omega arith) (omega arith) (slot_word c l k f ha) e fits)
+      (load_sets c (source_of t 5) 2 (k * 4 + 80) x (write_lines t 5 rest) l low.0 low.1 (omega arith) (omega arith) (omega arith) (slot_word c l k f ha) e fits)

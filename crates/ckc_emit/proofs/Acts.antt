@@ -144,7 +144,7 @@ module _ (c : Code) (l : Local) (places : Values) (world : World) (framed : IsFr
   -- states with the same registers and words have the same values of places
   pub same_values : (m n : Local) (q : Place) (w : ℕ) → n.x ≡ m.x → n.words ≡ m.words → HasValue m q w → HasValue n q w
   same_values m n (place.Reg k) w e f h = ap (λ (x : ℕ → ℕ). x (register_of k)) e ∙ h
-  same_values m n (place.Slot k) w e f h = ap (λ (x : ℕ → ℕ). n.words (x 2 + (k * 4 + 64))) e ∙ ap (λ (g : ℕ → ℕ). g (m.x 2 + (k * 4 + 64))) f ∙ h
+  same_values m n (place.Slot k) w e f h = ap (λ (x : ℕ → ℕ). n.words (x 2 + (k * 4 + 80))) e ∙ ap (λ (g : ℕ → ℕ). g (m.x 2 + (k * 4 + 80))) f ∙ h
 
   pub store_path : (width : Width) (ra rb x : ℕ) (z : ℤ) (p y : ℕ) (rest : List Line) (m : Local) (bytes : ℕ → ℕ) → m.bytes ≡ bytes → ra < 32 → rb < 32 → m.x ra ≡ x → m.x rb ≡ y → moved x z ≡ p
       → p % base.width_bytes width ≡ 0 → data_start ≤ p → p + base.width_bytes width ≤ stack_start

@@ -47,7 +47,7 @@ pub near_fits : (n : ℕ) → n < 2048 → IsSigned (2 ^ 11) (pos n)
 near_fits n h = (grind (arith, ints), grind (arith, ints))
 
 -- a register of a place is one of x13 to x25
-pub register_low : (k : ℕ) → k < 12 → register_of k < 27
+pub register_low : (k : ℕ) → k < 16 → register_of k < 27
 register_low k h = grind (arith, nat_tests)
 
 pub source_low : (q : Place) (scratch : ℕ) → IsPlace q → scratch < 27 → source_of q scratch < 27
@@ -173,19 +173,19 @@ module _ (labels : Labels) (k : ℕ) where
 
   pub read_adds : (q : Place) (scratch : ℕ) (ys : List Line) → scratch < 27 → Adding 3 (read_lines q scratch ys) ys
   read_adds (place.Reg j) scratch ys h = more_adds labels 3 (omega arith) (nothing labels k ys)
-  read_adds (place.Slot j) scratch ys h = loads_add scratch 2 (j * 4 + 64) ys h (omega arith)
+  read_adds (place.Slot j) scratch ys h = loads_add scratch 2 (j * 4 + 80) ys h (omega arith)
 
   write_adds : (q : Place) (scratch : ℕ) (ys : List Line) → scratch < 27 → Adding 3 (write_lines q scratch ys) ys
   write_adds (place.Reg j) scratch ys h = more_adds labels 3 (omega arith) (nothing labels k ys)
-  write_adds (place.Slot j) scratch ys h = stores_add scratch 2 (j * 4 + 64) ys h (omega arith)
+  write_adds (place.Slot j) scratch ys h = stores_add scratch 2 (j * 4 + 80) ys h (omega arith)
 
   pub settle_adds : (q : Place) (rs : ℕ) (ys : List Line) → IsPlace q → rs < 27 → Adding 3 (settle_lines q rs ys) ys
   settle_adds (place.Reg j) rs ys p h = more_adds labels 3 (omega arith) (move_adds (register_of j) rs ys (register_low j p) h)
-  settle_adds (place.Slot j) rs ys p h = stores_add rs 2 (j * 4 + 64) ys h (omega arith)
+  settle_adds (place.Slot j) rs ys p h = stores_add rs 2 (j * 4 + 80) ys h (omega arith)
 
   pub fetch_adds : (rd : ℕ) (q : Place) (ys : List Line) → IsPlace q → rd < 27 → Adding 3 (fetch_lines rd q ys) ys
   fetch_adds rd (place.Reg j) ys p h = more_adds labels 3 (omega arith) (move_adds rd (register_of j) ys h (register_low j p))
-  fetch_adds rd (place.Slot j) ys p h = loads_add rd 2 (j * 4 + 64) ys h (omega arith)
+  fetch_adds rd (place.Slot j) ys p h = loads_add rd 2 (j * 4 + 80) ys h (omega arith)
 
   -- ---- operands
 
@@ -225,7 +225,7 @@ module _ (labels : Labels) (k : ℕ) where
   pub copy_adds : (t a : Place) (ys : List Line) → IsPlace t → IsPlace a → Adding 6 (copy_lines t a ys) ys
   copy_adds t (place.Reg j) ys p q = more_adds labels 6 (omega arith) (settle_adds t (register_of j) ys p (register_low j q))
   copy_adds t (place.Slot j) ys p q =
-      then_adds labels (loads_add (source_of t 5) 2 (j * 4 + 64) _ (source_low t 5 p (omega arith)) (omega arith)) (write_adds t 5 ys (omega arith))
+      then_adds labels (loads_add (source_of t 5) 2 (j * 4 + 80) _ (source_low t 5 p (omega arith)) (omega arith)) (write_adds t 5 ys (omega arith))
 
   value_adds : (t : Place) (a : PlacedOperand) (ys : List Line) → IsPlace t → IsOperand a → Adding 6 (value_lines t a ys) ys
   value_adds t (At q) ys p r = copy_adds t q ys p r
@@ -404,15 +404,15 @@ module _ (labels : Labels) (k : ℕ) where
   tests_add ys =
       then_adds labels (addi_adds 10 0 (pos 0) _ (omega arith) (omega arith) (near_fits 0 (omega arith)))
       (then_adds labels (branch_adds Bge 0 5 12 _ (omega arith) (omega arith) (omega arith))
-      (then_adds labels (branch_adds Bltu 12 11 11 _ (omega arith) (omega arith) (omega arith))
-      (then_adds labels (reg_adds Sub 12 12 11 _ (omega arith) (omega arith) (omega arith))
-      (then_adds labels (reg_adds Divu 12 12 6 _ (omega arith) (omega arith) (omega arith)) (branch_adds Bltu 12 5 8 ys (omega arith) (omega arith) (omega arith))))))
+      (then_adds labels (branch_adds Bltu 1 4 11 _ (omega arith) (omega arith) (omega arith))
+      (then_adds labels (reg_adds Sub 1 1 4 _ (omega arith) (omega arith) (omega arith))
+      (then_adds labels (reg_adds Divu 1 1 6 _ (omega arith) (omega arith) (omega arith)) (branch_adds Bltu 1 5 8 ys (omega arith) (omega arith) (omega arith))))))
 
   room_adds : (ys : List Line) → Adding 9 (room_lines ys) ys
   room_adds ys =
-      then_adds labels (lui_adds 8 0x2000 _ (omega arith) (omega arith))
-      (then_adds labels (load_adds Lw 11 8 (pos 0) _ (omega arith) (omega arith) (near_fits 0 (omega arith)))
-      (then_adds labels (lui_adds 12 0x3000 _ (omega arith) (omega arith)) (tests_add ys)))
+      then_adds labels (lui_adds 3 0x2000 _ (omega arith) (omega arith))
+      (then_adds labels (load_adds Lw 4 3 (pos 0) _ (omega arith) (omega arith) (near_fits 0 (omega arith)))
+      (then_adds labels (lui_adds 1 0x3000 _ (omega arith) (omega arith)) (tests_add ys)))
 
   shift_adds : (rd rs n : ℕ) (ys : List Line) → rd < 27 → rs < 27 → n < 32 → Adding 1 (Plain (Imm Srli rd rs (pos n)) ∷ ys) ys
   shift_adds rd rs n ys h i s = plain_adds labels k (Imm Srli rd rs (pos n)) ys (omega arith, omega arith, (grind (arith, ints), grind (arith, ints))) (h, i)
@@ -423,13 +423,13 @@ module _ (labels : Labels) (k : ℕ) where
   rounded_adds : (ys : List Line) → Adding 3 (rounded_lines ys) ys
   rounded_adds ys =
       then_adds labels (shift_adds 5 5 3 _ (omega arith) (omega arith) (omega arith))
-      (then_adds labels (shift_back_adds 5 5 3 _ (omega arith) (omega arith) (omega arith)) (store_adds Sw 8 5 (pos 0) ys (omega arith) (omega arith) (near_fits 0 (omega arith))))
+      (then_adds labels (shift_back_adds 5 5 3 _ (omega arith) (omega arith) (omega arith)) (store_adds Sw 3 5 (pos 0) ys (omega arith) (omega arith) (near_fits 0 (omega arith))))
 
   claim_adds : (ys : List Line) → Adding 7 (claim_lines ys) ys
   claim_adds ys =
-      then_adds labels (addi_adds 10 11 (pos 0) _ (omega arith) (omega arith) (near_fits 0 (omega arith)))
+      then_adds labels (addi_adds 10 4 (pos 0) _ (omega arith) (omega arith) (near_fits 0 (omega arith)))
       (then_adds labels (reg_adds Mul 5 5 6 _ (omega arith) (omega arith) (omega arith))
-      (then_adds labels (reg_adds Add 5 5 11 _ (omega arith) (omega arith) (omega arith))
+      (then_adds labels (reg_adds Add 5 5 4 _ (omega arith) (omega arith) (omega arith))
       (then_adds labels (addi_adds 5 5 (pos 15) _ (omega arith) (omega arith) (near_fits 15 (omega arith))) (rounded_adds ys))))
 
   pub alloc_adds : (t : Place) (a : PlacedOperand) (size : ℕ) (ys : List Line) → IsPlace t → IsOperand a → Adding 32 (alloc_lines t a size ys) ys

@@ -21,25 +21,25 @@ module _ (labels : Labels) (k : ℕ) where
   abbrev Adding : ℕ → List Line → List Line → Type 0
   Adding most xs ys = Adds labels k k most xs ys
 
-  save_adds : (b : Bool) (j : ℕ) (ys : List Line) → j < 12 → Adding 1 (save_lines b j ys) ys
+  save_adds : (b : Bool) (j : ℕ) (ys : List Line) → j < 16 → Adding 1 (save_lines b j ys) ys
   save_adds b j ys h =
       either_adds labels b
       (λ e. near_store_adds labels k (register_of j) 2 (j * 4 + 16) ys (register_low j h) (omega arith) (omega arith))
       (λ e. more_adds labels 1 (omega arith) (nothing labels k ys))
 
-  saves_add : (test : ℕ → Bool) (count j : ℕ) (ys : List Line) → j + count ≤ 12 → Adding count (saves_lines test count j ys) ys
+  saves_add : (test : ℕ → Bool) (count j : ℕ) (ys : List Line) → j + count ≤ 16 → Adding count (saves_lines test count j ys) ys
   unfolding each_lines
   saves_add test zero j ys h = nothing labels k ys
   saves_add test (suc count) j ys h =
       more_adds labels (suc count) (omega arith) (then_adds labels (save_adds (test j) j _ (omega arith)) (saves_add test count (j + 1) ys (omega arith)))
 
-  restore_adds : (b : Bool) (j : ℕ) (ys : List Line) → j < 12 → Adding 1 (restore_lines b j ys) ys
+  restore_adds : (b : Bool) (j : ℕ) (ys : List Line) → j < 16 → Adding 1 (restore_lines b j ys) ys
   restore_adds b j ys h =
       either_adds labels b
       (λ e. near_load_adds labels k (register_of j) 2 (j * 4 + 16) ys (register_low j h) (omega arith) (omega arith))
       (λ e. more_adds labels 1 (omega arith) (nothing labels k ys))
 
-  restores_add : (test : ℕ → Bool) (count j : ℕ) (ys : List Line) → j + count ≤ 12 → Adding count (restores_lines test count j ys) ys
+  restores_add : (test : ℕ → Bool) (count j : ℕ) (ys : List Line) → j + count ≤ 16 → Adding count (restores_lines test count j ys) ys
   unfolding each_lines
   restores_add test zero j ys h = nothing labels k ys
   restores_add test (suc count) j ys h =
@@ -49,13 +49,13 @@ module _ (labels : Labels) (k : ℕ) where
   depth_adds at ys =
       then_adds labels (lui_adds labels k 5 0x3000 _ (omega arith) (omega arith))
       (then_adds labels (check_adds labels k Bne 2 5 Depth at _ (omega arith) (omega arith))
-      (then_adds labels (lui_adds labels k 8 0xFFFFC _ (omega arith) (omega arith)) (reg_adds labels k Add 8 8 2 ys (omega arith) (omega arith) (omega arith))))
+      (then_adds labels (lui_adds labels k 3 0xFFFFC _ (omega arith) (omega arith)) (reg_adds labels k Add 3 3 2 ys (omega arith) (omega arith) (omega arith))))
 
   argument_adds : (from to : Place) (ys : List Line) → IsPlace from → IsPlace to → Adding 6 (argument_lines from to ys) ys
   argument_adds from (place.Reg j) ys p q =
       more_adds labels 6 (omega arith) (loads_add labels k (register_of j) 2 (offset_of from) ys (register_low j q) (omega arith))
   argument_adds from (place.Slot j) ys p q =
-      then_adds labels (loads_add labels k 5 2 (offset_of from) _ (omega arith) (omega arith)) (stores_add labels k 5 8 (j * 4 + 64) ys (omega arith) (omega arith))
+      then_adds labels (loads_add labels k 5 2 (offset_of from) _ (omega arith) (omega arith)) (stores_add labels k 5 3 (j * 4 + 80) ys (omega arith) (omega arith))
 
   arguments_add : (homes : List Place) (rs : List ℕ) (j : ℕ) (params : List Place) (ys : List Line) → All IsPlace homes → All IsPlace params → All (λ r. r < length homes) rs → j + length rs ≤ length params
       → Adding (length rs * 6) (arguments_lines homes rs j params ys) ys
@@ -68,9 +68,9 @@ module _ (labels : Labels) (k : ℕ) where
 
   visit_adds : (label : ℕ) (ys : List Line) → label < labels.count → Adding 5 (visit_lines label ys) ys
   visit_adds label ys h =
-      then_adds labels (move_adds labels k 2 8 _ (omega arith) (omega arith))
+      then_adds labels (move_adds labels k 2 3 _ (omega arith) (omega arith))
       (then_adds labels (far_adds labels k 1 label _ (omega arith) h)
-      (then_adds labels (lui_adds labels k 8 4 _ (omega arith) (omega arith)) (reg_adds labels k Add 2 2 8 ys (omega arith) (omega arith) (omega arith))))
+      (then_adds labels (lui_adds labels k 3 4 _ (omega arith) (omega arith)) (reg_adds labels k Add 2 2 3 ys (omega arith) (omega arith) (omega arith))))
 
   result_adds : (homes : List Place) (target : Option ℕ) (ys : List Line) → All IsPlace homes → IfSome target (λ t. t < length homes) → Adding 3 (result_lines homes target ys) ys
   result_adds homes None ys p h = more_adds labels 3 (omega arith) (nothing labels k ys)
@@ -81,8 +81,8 @@ module _ (labels : Labels) (k : ℕ) where
       → Adding (64 + 8 * length rs) (call_lines homes marks params label rs at (result_lines homes target ys)) ys
   call_adds homes marks params label rs at target ys p q within enough below h =
       more_adds labels (64 + 8 * length rs) (omega arith)
-      (then_adds labels (saves_add (is_saved homes marks rs) 12 0 _ (omega arith))
+      (then_adds labels (saves_add (is_saved homes marks rs) 16 0 _ (omega arith))
       (then_adds labels (depth_adds at _)
       (then_adds labels (arguments_add homes rs 0 params _ p q within (omega arith))
       (then_adds labels (visit_adds label _ below)
-      (then_adds labels (restores_add (λ j. is_kept_home j homes marks) 12 0 _ (omega arith)) (result_adds homes target ys p h))))))
+      (then_adds labels (restores_add (λ j. is_kept_home j homes marks) 16 0 _ (omega arith)) (result_adds homes target ys p h))))))

@@ -45,13 +45,20 @@ soft_then l m n p q = record {
 pub record IsFree (r : ℕ) : Type 0 where
   pub nonzero : r ≢ 0
   pub apart : r ≢ 2
-  pub homeless : (k : ℕ) → k < 12 → register_of k ≢ r
+  pub homeless : (k : ℕ) → k < 16 → register_of k ≢ r
 
-pub free_below : (r : ℕ) → r ≢ 0 → r ≢ 2 → r < 13 → IsFree r
+pub free_below : (r : ℕ) → r ≢ 0 → r ≢ 2 → r < 8 → IsFree r
 free_below r a b h = record {
   nonzero = a;
   apart = b;
   homeless = λ k i. (let home = register_is k i in let low = home.low in omega arith);
+}
+
+pub ten_free : IsFree 10
+ten_free = record {
+  nonzero = omega arith;
+  apart = omega arith;
+  homeless = λ k i. (register_is k i).ten;
 }
 
 pub seventeen_free : IsFree 17
@@ -63,7 +70,7 @@ seventeen_free = record {
 
 set_has : (l : Local) (r v : ℕ) → IsFree r → (q : Place) (w : ℕ) → IsPlace q → HasValue l q w → HasValue (with_x l (set l.x r v)) q w
 set_has l r v f (place.Reg k) w h e = set_other l.x r v (register_of k) (f.homeless k h) ∙ e
-set_has l r v f (place.Slot k) w h e = ap (λ b. l.words (b + (k * 4 + 64))) (set_other l.x r v 2 (λ q. f.apart (sym q))) ∙ e
+set_has l r v f (place.Slot k) w h e = ap (λ b. l.words (b + (k * 4 + 80))) (set_other l.x r v 2 (λ q. f.apart (sym q))) ∙ e
 
 input_has : (l : Local) (input : List ℕ) (q : Place) (w : ℕ) → HasValue l q w → HasValue (record l { input = input }) q w
 input_has l input (place.Reg k) w e = e
@@ -86,7 +93,7 @@ module _ (c : Code) where
       let low = i.low in
       s.other (register_of k) (f.homeless k h) (omega arith) ∙ e
   sets_has a b xs ys l rd v f s (place.Slot k) w h e =
-      ap (λ (g : ℕ → ℕ). g (s.next.x 2 + (k * 4 + 64))) s.words ∙ ap (λ b. l.words (b + (k * 4 + 64))) (s.other 2 (λ q. f.apart (sym q)) (omega arith)) ∙ e
+      ap (λ (g : ℕ → ℕ). g (s.next.x 2 + (k * 4 + 80))) s.words ∙ ap (λ b. l.words (b + (k * 4 + 80))) (s.other 2 (λ q. f.apart (sym q)) (omega arith)) ∙ e
 
   pub sets_soft : (a b : ℕ) (xs ys : List Line) (l : Local) (rd v : ℕ) → IsFree rd → (s : Sets c a b xs ys l rd v) → IsSoft l s.next
   sets_soft a b xs ys l rd v f s = record {
@@ -136,7 +143,7 @@ module _ (c : Code) where
         let v = 2 ^ 32 - 1 in
         let s = asked 2 (settle_lines t 10 rest) (omega arith) in
         let m : Local = with_x s.next (set s.next.x 10 v) in
-        let soft = soft_then l s.next m (sets_soft 1 2 (get_lines t rest) (line.Plain Ecall ∷ settle_lines t 10 rest) l 17 2 seventeen_free s) (set_is_soft s.next 10 v (free_below 10 (omega arith) (omega arith) (omega arith))) in
+        let soft = soft_then l s.next m (sets_soft 1 2 (get_lines t rest) (line.Plain Ecall ∷ settle_lines t 10 rest) l 17 2 seventeen_free s) (set_is_soft s.next 10 v (ten_free)) in
         let call = straight c Ecall (settle_lines t 10 rest) (Outside (Got None) ∷ []) s.next m (λ pc at. ends_input c.parts s.next pc at s.value (s.input ∙ sym whole.input ∙ none)) in
         let world_then : HasWorld m world = record {
           memory = whole.memory ∙ ap region (sym s.bytes);
@@ -157,7 +164,7 @@ module _ (c : Code) where
     get_does t byte more rest ht next_is =
         let s = asked 2 (settle_lines t 10 rest) (omega arith) in
         let m : Local = record s.next { x = set s.next.x 10 byte; input = more } in
-        let soft0 = set_is_soft s.next 10 byte (free_below 10 (omega arith) (omega arith) (omega arith)) in
+        let soft0 = set_is_soft s.next 10 byte (ten_free) in
         let soft1 : IsSoft s.next m = record { keeps = record { zero = soft0.keeps.zero; frame = soft0.keeps.frame; above = soft0.keeps.above }; has = λ q w h e. input_has (with_x s.next (set s.next.x 10 byte)) more q w (soft0.has q w h e) } in
         let soft = soft_then l s.next m (sets_soft 1 2 (get_lines t rest) (line.Plain Ecall ∷ settle_lines t 10 rest) l 17 2 seventeen_free s) soft1 in
         let event = Got (Some byte) in
@@ -185,7 +192,7 @@ module _ (c : Code) where
         let last = line.Plain Ecall ∷ rest in
         let fits = operand_word l places has a v ha ea in
         let s = take_sets c 10 a v mid l framed ha (operand_has l places has a v ha ea) fits (omega arith) (omega arith) in
-        let soft1 = sets_soft 1 3 (put_lines a rest) mid l 10 v (free_below 10 (omega arith) (omega arith) (omega arith)) s in
+        let soft1 = sets_soft 1 3 (put_lines a rest) mid l 10 v (ten_free) s in
         let t = constant_sets c 17 1 last s.next (omega arith) (omega arith) (omega arith) (soft1.keeps.zero ∙ framed.zero) in
         let soft2 = sets_soft 1 2 mid last s.next 17 1 seventeen_free t in
         let soft = soft_then l s.next t.next soft1 soft2 in

@@ -56,8 +56,8 @@ split_values None more values e = absurd cc
 -- the words of the frame that a call reads its arguments from
 pub record IsStored (l m : Local) (test : ℕ → Bool) : Type 0 where
   pub frame : m.x 2 ≡ l.x 2
-  pub saved : (j : ℕ) → j < 12 → test j ≡ true → m.words (register_word l j) ≡ l.x (register_of j)
-  pub slots : (k : ℕ) → m.words (l.x 2 + (k * 4 + 64)) ≡ l.words (l.x 2 + (k * 4 + 64))
+  pub saved : (j : ℕ) → j < 16 → test j ≡ true → m.words (register_word l j) ≡ l.x (register_of j)
+  pub slots : (k : ℕ) → m.words (l.x 2 + (k * 4 + 80)) ≡ l.words (l.x 2 + (k * 4 + 80))
 
 argument_word : (l m : Local) (test : ℕ → Bool) (p : Place) (v : ℕ) → IsStored l m test → IsPlace p → HasValue l p v → ((k : ℕ) → number_of p ≡ k → test k ≡ true) → m.words (l.x 2 + offset_of p) ≡ v
 argument_word l m test (place.Reg k) v s h e named = s.saved k h (named k refl) ∙ e
@@ -100,52 +100,52 @@ module _ (c : Code) where
     pub passes : AreFrameStores below passed
     pub zero_is : next.x 0 ≡ 0
     pub frame : next.x 2 ≡ below
-    pub saved : (j : ℕ) → j < 12 → test j ≡ true → next.words (register_word l j) ≡ l.x (register_of j)
-    pub elsewhere : (a : ℕ) → l.x 2 ≤ a → ((j : ℕ) → j < 12 → a ≢ register_word l j) → next.words a ≡ l.words a
+    pub saved : (j : ℕ) → j < 16 → test j ≡ true → next.words (register_word l j) ≡ l.x (register_of j)
+    pub elsewhere : (a : ℕ) → l.x 2 ≤ a → ((j : ℕ) → j < 16 → a ≢ register_word l j) → next.words a ≡ l.words a
     pub has : (q : Place) (w : ℕ) → IsPlace q → entry_places params 0 values (number_of q) ≡ Some w → HasValue next q w
     pub word : (q : Place) (w : ℕ) → IsPlace q → entry_places params 0 values (number_of q) ≡ Some w → w < 2 ^ 32
     pub bytes : next.bytes ≡ l.bytes
     pub input : next.input ≡ l.input
 
-  -- a place of the frame at x8 is one of the frame at x2, once x2 is x8
-  lands : (l m : Local) (q : Place) (w : ℕ) → m.x 2 ≡ l.x 8 → ((r : ℕ) → r ≢ 2 → r ≢ 7 → m.x r ≡ l.x r) → m.words ≡ l.words → IsPlace q → HasBelow l q w → HasValue m q w
+  -- a place of the frame at x3 is one of the frame at x2, once x2 is x3
+  lands : (l m : Local) (q : Place) (w : ℕ) → m.x 2 ≡ l.x 3 → ((r : ℕ) → r ≢ 2 → r ≢ 7 → m.x r ≡ l.x r) → m.words ≡ l.words → IsPlace q → HasBelow l q w → HasValue m q w
   lands l m (place.Reg k) w e other words h v =
       let i = register_is k h in
       let low = i.low in
       other (register_of k) (omega arith) (omega arith) ∙ v
-  lands l m (place.Slot k) w e other words h v = ap (λ (f : ℕ → ℕ). f (m.x 2 + (k * 4 + 64))) words ∙ ap (λ b. l.words (b + (k * 4 + 64))) e ∙ v
+  lands l m (place.Slot k) w e other words h v = ap (λ (f : ℕ → ℕ). f (m.x 2 + (k * 4 + 80))) words ∙ ap (λ b. l.words (b + (k * 4 + 80))) e ∙ v
 
   sunk : (base below : ℕ) → below + 16384 ≡ base → base < 2 ^ 31 → (0xFFFFC * 2 ^ 12 + base) % 2 ^ 32 ≡ below
   sunk base below e h = omega arith
 
-  -- The depth allows one more call, and x8 is the frame below.
+  -- The depth allows one more call, and x3 is the frame below.
   record Sinks (xs ys : List Line) (l : Local) (below : ℕ) : Type 0 where
     next : Local
     path : Path c 4 5 xs ys [] l next
-    eight : next.x 8 ≡ below
-    other : (r : ℕ) → r ≢ 5 → r ≢ 7 → r ≢ 8 → next.x r ≡ l.x r
+    three : next.x 3 ≡ below
+    other : (r : ℕ) → r ≢ 5 → r ≢ 7 → r ≢ 3 → next.x r ≡ l.x r
     words : next.words ≡ l.words
     bytes : next.bytes ≡ l.bytes
     input : next.input ≡ l.input
 
   sinks : (at : Pos) (ys : List Line) (l : Local) (base below : ℕ) → l.x 2 ≡ base → below + 16384 ≡ base → base < 2 ^ 31 → stack_start ≤ below → Sinks (depth_lines at ys) ys l below
   sinks at ys l base below frame under high low =
-      let y5 = Plain (Reg Add 8 8 2) ∷ ys in
-      let y4 = Plain (Lui 8 0xFFFFC) ∷ y5 in
+      let y5 = Plain (Reg Add 3 3 2) ∷ ys in
+      let y4 = Plain (Lui 3 0xFFFFC) ∷ y5 in
       let y3 = check_lines Bne 2 5 Depth at y4 in
       let y2 = Plain (Lui 5 0x3000) ∷ y3 in
       let s2 = lui_sets c 5 0x3000 y3 l (omega arith) (omega arith) in
       let two : s2.next.x 2 ≡ base = s2.other 2 (omega arith) (omega arith) ∙ frame in
       let apart : s2.next.x 2 ≢ s2.next.x 5 = λ same. (let e : base ≡ 0x3000 * 2 ^ 12 = sym two ∙ same ∙ s2.value in omega arith) in
       let p3 = check_passes c Bne 2 5 Depth at y4 s2.next (omega arith) (omega arith) (bne_taken c (s2.next.x 2) (s2.next.x 5) apart) in
-      let s4 = lui_sets c 8 0xFFFFC y5 s2.next (omega arith) (omega arith) in
-      let s5 = plain_sets c Add below 8 8 2 (0xFFFFC * 2 ^ 12) base ys s4.next (omega arith) (omega arith) (omega arith) (omega arith) s4.value (s4.other 2 (omega arith) (omega arith) ∙ two) (sunk base below under high) in
+      let s4 = lui_sets c 3 0xFFFFC y5 s2.next (omega arith) (omega arith) in
+      let s5 = plain_sets c Add below 3 3 2 (0xFFFFC * 2 ^ 12) base ys s4.next (omega arith) (omega arith) (omega arith) (omega arith) s4.value (s4.other 2 (omega arith) (omega arith) ∙ two) (sunk base below under high) in
       record {
         next = s5.next;
         path = followed c 1 1 (1 + (1 + 1)) (1 + (1 + 2)) y2 y3 ys [] [] l s2.next s5.next s2.path
             (followed c 1 1 (1 + 1) (1 + 2) y3 y4 ys [] [] s2.next s2.next s5.next p3
             (followed c 1 1 1 2 y4 y5 ys [] [] s2.next s4.next s5.next s4.path s5.path));
-        eight = s5.value;
+        three = s5.value;
         other = λ r a b d. s5.other r d b ∙ s4.other r d b ∙ s2.other r a b;
         words = s5.words ∙ s4.words ∙ s2.words;
         bytes = s5.bytes ∙ s4.bytes ∙ s2.bytes;
@@ -156,36 +156,36 @@ module _ (c : Code) where
   record Prepared (xs ys : List Line) (l : Local) (test : ℕ → Bool) (below : ℕ) : Type 0 where
     next : Local
     stored : List MachineEvent
-    path : Path c 4 17 xs ys stored l next
+    path : Path c 4 21 xs ys stored l next
     stores : AreFrameStores (l.x 2) stored
     under_is : IsBelow next
-    eight : next.x 8 ≡ below
+    three : next.x 3 ≡ below
     stored_is : IsStored l next test
     zero_is : next.x 0 ≡ 0
-    elsewhere : (a : ℕ) → ((j : ℕ) → j < 12 → a ≢ register_word l j) → next.words a ≡ l.words a
+    elsewhere : (a : ℕ) → ((j : ℕ) → j < 16 → a ≢ register_word l j) → next.words a ≡ l.words a
     bytes : next.bytes ≡ l.bytes
     input : next.input ≡ l.input
 
   prepared_by : (test : ℕ → Bool) (at : Pos) (ys : List Line) (l : Local) (below : ℕ) → IsFramed l → below + 16384 ≡ l.x 2 → stack_start ≤ below
-      → (a : Saves c test 12 0 (saves_lines test 12 0 (depth_lines at ys)) (depth_lines at ys) l) → Sinks (depth_lines at ys) ys a.next below
-      → Prepared (saves_lines test 12 0 (depth_lines at ys)) ys l test below
+      → (a : Saves c test 16 0 (saves_lines test 16 0 (depth_lines at ys)) (depth_lines at ys) l) → Sinks (depth_lines at ys) ys a.next below
+      → Prepared (saves_lines test 16 0 (depth_lines at ys)) ys l test below
   prepared_by test at ys l below framed under low a s =
-      let kept : (r : ℕ) → r ≢ 5 → r ≢ 7 → r ≢ 8 → s.next.x r ≡ l.x r = λ r i j k. s.other r i j k ∙ a.other r j in
+      let kept : (r : ℕ) → r ≢ 5 → r ≢ 7 → r ≢ 3 → s.next.x r ≡ l.x r = λ r i j k. s.other r i j k ∙ a.other r j in
       let two : s.next.x 2 ≡ l.x 2 = kept 2 (omega arith) (omega arith) (omega arith) in
       let zeroed : s.next.x 0 ≡ l.x 0 = kept 0 (omega arith) (omega arith) (omega arith) in
       let words : (q : ℕ) → s.next.words q ≡ a.next.words q = λ q. ap (λ (f : ℕ → ℕ). f q) s.words in
       record {
         next = s.next;
         stored = a.events ++ [];
-        path = loosened c (0 + 4) (12 + 5) 4 17 (saves_lines test 12 0 (depth_lines at ys)) ys (a.events ++ []) l s.next (omega arith) (omega arith)
-            (followed c 0 12 4 5 (saves_lines test 12 0 (depth_lines at ys)) (depth_lines at ys) ys a.events [] l a.next s.next a.path s.path);
+        path = loosened c (0 + 4) (16 + 5) 4 21 (saves_lines test 16 0 (depth_lines at ys)) ys (a.events ++ []) l s.next (omega arith) (omega arith)
+            (followed c 0 16 4 5 (saves_lines test 16 0 (depth_lines at ys)) (depth_lines at ys) ys a.events [] l a.next s.next a.path s.path);
         stores = stores_join c (l.x 2) a.events [] a.stores tt;
-        under_is = record { framed = framed_same c l s.next zeroed two framed; next = ap (λ b. b + 16384) s.eight ∙ under ∙ sym two; low = subst (λ b. stack_start ≤ b) (sym s.eight) low };
-        eight = s.eight;
+        under_is = record { framed = framed_same c l s.next zeroed two framed; next = ap (λ b. b + 16384) s.three ∙ under ∙ sym two; low = subst (λ b. stack_start ≤ b) (sym s.three) low };
+        three = s.three;
         stored_is = record {
           frame = two;
           saved = λ j h t. words (register_word l j) ∙ a.saved j (omega arith) (omega arith) t;
-          slots = λ k. words (l.x 2 + (k * 4 + 64)) ∙ a.elsewhere (l.x 2 + (k * 4 + 64)) (λ j from less. omega arith);
+          slots = λ k. words (l.x 2 + (k * 4 + 80)) ∙ a.elsewhere (l.x 2 + (k * 4 + 80)) (λ j from less. omega arith);
         };
         zero_is = zeroed ∙ framed.zero;
         elsewhere = λ q off. words q ∙ a.elsewhere q (λ j from less. off j (omega arith));
@@ -194,21 +194,21 @@ module _ (c : Code) where
       }
 
   prepares : (test : ℕ → Bool) (at : Pos) (ys : List Line) (l : Local) (below : ℕ) → IsFramed l → below + 16384 ≡ l.x 2 → stack_start ≤ below
-      → Prepared (saves_lines test 12 0 (depth_lines at ys)) ys l test below
+      → Prepared (saves_lines test 16 0 (depth_lines at ys)) ys l test below
   prepares test at ys l below framed under low =
       let high = framed.high in
-      let a = saves c test 12 0 (depth_lines at ys) l (omega arith) framed in
+      let a = saves c test 16 0 (depth_lines at ys) l (omega arith) framed in
       prepared_by test at ys l below framed under low a (sinks at ys a.next (l.x 2) below (a.other 2 (omega arith)) under (omega arith) low)
 
   descended_by : (homes params : List Place) (rs vs : List ℕ) (test : ℕ → Bool) (xs ys : List Line) (l : Local) (below : ℕ)
-      → (m : Prepared xs (arguments_lines homes rs 0 params (Plain (Imm Addi 2 8 (pos 0)) ∷ ys)) l test below) → below < 2 ^ 32
-      → PassesAll c (length rs) (arguments_lines homes rs 0 params (Plain (Imm Addi 2 8 (pos 0)) ∷ ys)) (Plain (Imm Addi 2 8 (pos 0)) ∷ ys) m.next params 0 vs
-      → Descends (18 + 6 * length rs) xs ys l test params vs below
+      → (m : Prepared xs (arguments_lines homes rs 0 params (Plain (Imm Addi 2 3 (pos 0)) ∷ ys)) l test below) → below < 2 ^ 32
+      → PassesAll c (length rs) (arguments_lines homes rs 0 params (Plain (Imm Addi 2 3 (pos 0)) ∷ ys)) (Plain (Imm Addi 2 3 (pos 0)) ∷ ys) m.next params 0 vs
+      → Descends (22 + 6 * length rs) xs ys l test params vs below
   descended_by homes params rs vs test xs ys l below m small t =
-      let y7 = Plain (Imm Addi 2 8 (pos 0)) ∷ ys in
+      let y7 = Plain (Imm Addi 2 3 (pos 0)) ∷ ys in
       let y6 = arguments_lines homes rs 0 params y7 in
-      let eight : t.next.x 8 ≡ below = t.keeps.below ∙ m.eight in
-      let s = move_sets c 2 8 below ys t.next (omega arith) (omega arith) (omega arith) eight small in
+      let three : t.next.x 3 ≡ below = t.keeps.below ∙ m.three in
+      let s = move_sets c 2 3 below ys t.next (omega arith) (omega arith) (omega arith) three small in
       let above : (a : ℕ) → l.x 2 ≤ a → s.next.words a ≡ m.next.words a = λ a h.
       ap (λ (f : ℕ → ℕ). f a) s.words ∙ t.keeps.above a (subst (λ b. b ≤ a) (sym m.stored_is.frame) h) in
       let q = length rs * 6 in
@@ -216,16 +216,16 @@ module _ (c : Code) where
         next = s.next;
         stored = m.stored;
         passed = t.events ++ [];
-        path = loosened c (4 + (0 + 1)) (17 + (q + 1)) 1 (18 + 6 * length rs) xs ys (m.stored ++ (t.events ++ [])) l s.next (omega arith) (omega arith)
-            (followed c 4 17 (0 + 1) (q + 1) xs y6 ys m.stored (t.events ++ []) l m.next s.next m.path
+        path = loosened c (4 + (0 + 1)) (21 + (q + 1)) 1 (22 + 6 * length rs) xs ys (m.stored ++ (t.events ++ [])) l s.next (omega arith) (omega arith)
+            (followed c 4 21 (0 + 1) (q + 1) xs y6 ys m.stored (t.events ++ []) l m.next s.next m.path
             (followed c 0 q 1 1 y6 y7 ys t.events [] m.next t.next s.next t.path s.path));
         stores = m.stores;
-        passes = stores_join c below t.events [] (subst (λ b. AreFrameStores b t.events) m.eight t.stores) tt;
+        passes = stores_join c below t.events [] (subst (λ b. AreFrameStores b t.events) m.three t.stores) tt;
         zero_is = s.other 0 (omega arith) (omega arith) ∙ t.keeps.zero ∙ m.zero_is;
         frame = s.value;
         saved = λ j h n. above (register_word l j) (omega arith) ∙ m.stored_is.saved j h n;
         elsewhere = λ a h off. above a h ∙ m.elsewhere a off;
-        has = λ p w h e. lands t.next s.next p w (s.value ∙ sym eight) s.other s.words h (t.has p w h e);
+        has = λ p w h e. lands t.next s.next p w (s.value ∙ sym three) s.other s.words h (t.has p w h e);
         word = t.word;
         bytes = s.bytes ∙ t.bytes ∙ m.bytes;
         input = s.input ∙ t.input ∙ m.input;
@@ -233,12 +233,12 @@ module _ (c : Code) where
 
   pub descends : (homes params : List Place) (rs vs : List ℕ) (test : ℕ → Bool) (at : Pos) (ys : List Line) (l : Local) (below : ℕ) → IsFramed l → below + 16384 ≡ l.x 2 → stack_start ≤ below
       → length rs ≤ length params → All IsPlace params → ((m : Local) → IsStored l m test → HasArguments c m homes rs vs)
-      → Descends (18 + 6 * length rs) (saves_lines test 12 0 (depth_lines at (arguments_lines homes rs 0 params (Plain (Imm Addi 2 8 (pos 0)) ∷ ys)))) ys l test params vs below
+      → Descends (22 + 6 * length rs) (saves_lines test 16 0 (depth_lines at (arguments_lines homes rs 0 params (Plain (Imm Addi 2 3 (pos 0)) ∷ ys)))) ys l test params vs below
   descends homes params rs vs test at ys l below framed under low few good arguments =
       let high = framed.high in
-      let y7 = Plain (Imm Addi 2 8 (pos 0)) ∷ ys in
+      let y7 = Plain (Imm Addi 2 3 (pos 0)) ∷ ys in
       let m = prepares test at (arguments_lines homes rs 0 params y7) l below framed under low in
-      descended_by homes params rs vs test (saves_lines test 12 0 (depth_lines at (arguments_lines homes rs 0 params y7))) ys l below m (omega arith)
+      descended_by homes params rs vs test (saves_lines test 16 0 (depth_lines at (arguments_lines homes rs 0 params y7))) ys l below m (omega arith)
       (passes_all c homes params rs vs 0 y7 m.next (omega arith) good m.under_is (arguments m.next m.stored_is))
 
   -- ---- one call too many
@@ -248,17 +248,17 @@ module _ (c : Code) where
     pub mid : Local
     pub ys : List Line
     pub stored : List MachineEvent
-    pub path : Path c 0 12 xs ys stored l mid
+    pub path : Path c 0 16 xs ys stored l mid
     pub stores : AreFrameStores (l.x 2) stored
     pub halting : Halting c 11 ys mid (Stopped Depth at)
 
   pub too_deep : (test : ℕ → Bool) (at : Pos) (rest : List Line) (l : Local) → IsFramed l → l.x 2 ≡ stack_start → at.line < 2 ^ 32 → at.col < 2 ^ 32
-      → TooDeep (saves_lines test 12 0 (depth_lines at rest)) l at
+      → TooDeep (saves_lines test 16 0 (depth_lines at rest)) l at
   too_deep test at rest l framed last fl fc =
-      let y4 = Plain (Lui 8 0xFFFFC) ∷ Plain (Reg Add 8 8 2) ∷ rest in
+      let y4 = Plain (Lui 3 0xFFFFC) ∷ Plain (Reg Add 3 3 2) ∷ rest in
       let y3 = check_lines Bne 2 5 Depth at y4 in
       let y2 = Plain (Lui 5 0x3000) ∷ y3 in
-      let s1 = saves c test 12 0 y2 l (omega arith) framed in
+      let s1 = saves c test 16 0 y2 l (omega arith) framed in
       let s2 = lui_sets c 5 0x3000 y3 s1.next (omega arith) (omega arith) in
       let two : s2.next.x 2 ≡ stack_start = s2.other 2 (omega arith) (omega arith) ∙ s1.other 2 (omega arith) ∙ last in
       let z : s2.next.x 0 ≡ 0 = s2.other 0 (omega arith) (omega arith) ∙ s1.other 0 (omega arith) ∙ framed.zero in

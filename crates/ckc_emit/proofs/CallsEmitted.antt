@@ -15,17 +15,17 @@ on_ok (Ok x) f h = f h
 on_ok (Err e) f h = h
 
 pub call_emits : {A E : Type 0} (r : Result A E) (homes : List Place) (row : List Bool) (params : List Place) (label : ℕ) (rs : List ℕ) (at : Pos) (kept saved : List Bool) (o p q s t u : List Line)
-    → ((k : ℕ) → k < 12 → get_or kept k false ≡ is_kept_home k homes row)
-    → ((k : ℕ) → k < 12 → get_or saved k false ≡ (get_or kept k false || is_argument_home k homes rs))
-    → Emits o p (saves_lines (λ k. get_or saved k false) 12 0) → Emits p q (depth_lines at) → Emits q s (arguments_lines homes rs 0 params) → Emits s t (visit_lines label)
-    → OnOk r (Emits t u (restores_lines (λ k. get_or kept k false) 12 0)) → OnOk r (Emits o u (call_lines homes row params label rs at))
+    → ((k : ℕ) → k < 16 → get_or kept k false ≡ is_kept_home k homes row)
+    → ((k : ℕ) → k < 16 → get_or saved k false ≡ (get_or kept k false || is_argument_home k homes rs))
+    → Emits o p (saves_lines (λ k. get_or saved k false) 16 0) → Emits p q (depth_lines at) → Emits q s (arguments_lines homes rs 0 params) → Emits s t (visit_lines label)
+    → OnOk r (Emits t u (restores_lines (λ k. get_or kept k false) 16 0)) → OnOk r (Emits o u (call_lines homes row params label rs at))
 call_emits r homes row params label rs at kept saved o p q s t u k m a b c d e =
-    on_ok r (λ (f : Emits t u (restores_lines (λ j. get_or kept j false) 12 0)) (rest : List Line).
-    let back : List Line = restores_lines (λ j. is_kept_home j homes row) 12 0 rest in
-    let same : restores_lines (λ j. get_or kept j false) 12 0 rest ≡ back = each_same restore_lines (λ j. get_or kept j false) (λ j. is_kept_home j homes row) 12 0 rest (λ j h. k j (omega arith)) in
+    on_ok r (λ (f : Emits t u (restores_lines (λ j. get_or kept j false) 16 0)) (rest : List Line).
+    let back : List Line = restores_lines (λ j. is_kept_home j homes row) 16 0 rest in
+    let same : restores_lines (λ j. get_or kept j false) 16 0 rest ≡ back = each_same restore_lines (λ j. get_or kept j false) (λ j. is_kept_home j homes row) 16 0 rest (λ j h. k j (omega arith)) in
     let there : List Line = depth_lines at (arguments_lines homes rs 0 params (visit_lines label back)) in
-    let first : saves_lines (λ j. get_or saved j false) 12 0 there ≡ saves_lines (is_saved homes row rs) 12 0 there =
-    each_same save_lines (λ j. get_or saved j false) (is_saved homes row rs) 12 0 there (λ j h. m j (omega arith) ∙ ap (λ x. x || is_argument_home j homes rs) (k j (omega arith))) in
+    let first : saves_lines (λ j. get_or saved j false) 16 0 there ≡ saves_lines (is_saved homes row rs) 16 0 there =
+    each_same save_lines (λ j. get_or saved j false) (is_saved homes row rs) 16 0 there (λ j h. m j (omega arith) ∙ ap (λ x. x || is_argument_home j homes rs) (k j (omega arith))) in
     f rest ∙ ap (λ l. t ++ l) same ∙ d back ∙ c (visit_lines label back) ∙ b (arguments_lines homes rs 0 params (visit_lines label back)) ∙ a there ∙ ap (λ l. o ++ l) first) e
 
 -- ---- with the result, and with what is read from lists

@@ -38,7 +38,7 @@ use Rattle.ckc_emit.proofs.FrameWords.{sets_value, constant_sets, move_sets, lui
 use Rattle.ckc_emit.proofs.Homes.{HasPlaces, IsFramed, framed_kept, settle_writes, keeps_same}
 use Rattle.ckc_emit.proofs.Acting.{plain_sets}
 use Rattle.ckc_emit.proofs.Acts.{data_sets, store_path, same_values}
-use Rattle.ckc_emit.proofs.Asking.{IsSoft, free_below, soft_then, sets_soft, before_does, places_soft}
+use Rattle.ckc_emit.proofs.Asking.{IsSoft, free_below, ten_free, soft_then, sets_soft, before_does, places_soft}
 use Rattle.ckc_emit.proofs.Allocating.{not_positive, rounded, fits_by_quotient}
 use Rattle.ckc_emit.proofs.Regions.{region, value_word, put_small, data_store as data_put}
 use Rattle.ckc_emit.proofs.Relation.{AreBytes, HasWorld, Does, world_kept, write_does, does_loosened}
@@ -137,10 +137,10 @@ module _ (c : Code) where
     zero_is : l.x 0 ≡ 0
     count_is : l.x 5 ≡ n
     size_is : l.x 6 ≡ size
-    word_is : l.x 8 ≡ data_start
+    word_is : l.x 3 ≡ data_start
     none_is : l.x 10 ≡ 0
-    place_is : l.x 11 ≡ h
-    limit_is : l.x 12 ≡ limit
+    place_is : l.x 4 ≡ h
+    limit_is : l.x 1 ≡ limit
 
   -- a path that changes scratch registers alone
   record Softly (most : ℕ) (xs ys : List Line) (l : Local) (n size h limit : ℕ) : Type 0 where
@@ -153,28 +153,28 @@ module _ (c : Code) where
 
   module _ (l : Local) (places : Values) (world : World) (framed : IsFramed l) (has : HasPlaces l places) (whole : HasWorld l world) where
     readied : (a : PlacedOperand) (n size h : ℕ) (ys : List Line) → IsOperand a → operand_value places a ≡ Some n → size < 2 ^ 32 → base.value_at Word world.memory data_start ≡ Some h
-        → Softly 9 (take_lines 5 a (constant_lines 6 size (Plain (Lui 8 0x2000) ∷ Plain (Load Lw 11 8 (pos 0)) ∷ Plain (Lui 12 0x3000) ∷ Plain (Imm Addi 10 0 (pos 0)) ∷ ys))) ys l n size h data_end
+        → Softly 9 (take_lines 5 a (constant_lines 6 size (Plain (Lui 3 0x2000) ∷ Plain (Load Lw 4 3 (pos 0)) ∷ Plain (Lui 1 0x3000) ∷ Plain (Imm Addi 10 0 (pos 0)) ∷ ys))) ys l n size h data_end
     readied a n size h ys ha ea fits there =
         let y6 = Plain (Imm Addi 10 0 (pos 0)) ∷ ys in
-        let y5 = Plain (Lui 12 0x3000) ∷ y6 in
-        let y4 = Plain (Load Lw 11 8 (pos 0)) ∷ y5 in
-        let y3 = Plain (Lui 8 0x2000) ∷ y4 in
+        let y5 = Plain (Lui 1 0x3000) ∷ y6 in
+        let y4 = Plain (Load Lw 4 3 (pos 0)) ∷ y5 in
+        let y3 = Plain (Lui 3 0x2000) ∷ y4 in
         let y2 = constant_lines 6 size y3 in
         let y1 = take_lines 5 a y2 in
         let s1 = take_sets c 5 a n y2 l framed ha (operand_has l places has a n ha ea) (operand_word l places has a n ha ea) (omega arith) (omega arith) in
         let f1 = sets_soft c 1 3 y1 y2 l 5 n (free_below 5 (omega arith) (omega arith) (omega arith)) s1 in
         let s2 = constant_sets c 6 size y3 s1.next (omega arith) (omega arith) fits (f1.keeps.zero ∙ framed.zero) in
         let f2 = soft_then l s1.next s2.next f1 (sets_soft c 1 2 y2 y3 s1.next 6 size (free_below 6 (omega arith) (omega arith) (omega arith)) s2) in
-        let s3 = lui_sets c 8 0x2000 y4 s2.next (omega arith) (omega arith) in
-        let f3 = soft_then l s2.next s3.next f2 (sets_soft c 1 1 y3 y4 s2.next 8 (0x2000 * 2 ^ 12) (free_below 8 (omega arith) (omega arith) (omega arith)) s3) in
+        let s3 = lui_sets c 3 0x2000 y4 s2.next (omega arith) (omega arith) in
+        let f3 = soft_then l s2.next s3.next f2 (sets_soft c 1 1 y3 y4 s2.next 3 (0x2000 * 2 ^ 12) (free_below 3 (omega arith) (omega arith) (omega arith)) s3) in
         let b3 : s3.next.bytes ≡ l.bytes = s3.bytes ∙ s2.bytes ∙ s1.bytes in
         let here : base.value_at Word (region s3.next.bytes) data_start ≡ Some h = ap (λ (m : base.Memory). base.value_at Word m data_start) (ap region b3 ∙ sym whole.memory) ∙ there in
-        let s4 = data_sets c l places world framed has whole Word 11 8 data_start (pos 0) data_start h y5 s3.next (omega arith) (omega arith) (omega arith) s3.value (omega arith) here in
-        let f4 = soft_then l s3.next s4.next f3 (sets_soft c 1 1 y4 y5 s3.next 11 h (free_below 11 (omega arith) (omega arith) (omega arith)) s4) in
-        let s5 = lui_sets c 12 0x3000 y6 s4.next (omega arith) (omega arith) in
-        let f5 = soft_then l s4.next s5.next f4 (sets_soft c 1 1 y5 y6 s4.next 12 (0x3000 * 2 ^ 12) (free_below 12 (omega arith) (omega arith) (omega arith)) s5) in
+        let s4 = data_sets c l places world framed has whole Word 4 3 data_start (pos 0) data_start h y5 s3.next (omega arith) (omega arith) (omega arith) s3.value (omega arith) here in
+        let f4 = soft_then l s3.next s4.next f3 (sets_soft c 1 1 y4 y5 s3.next 4 h (free_below 4 (omega arith) (omega arith) (omega arith)) s4) in
+        let s5 = lui_sets c 1 0x3000 y6 s4.next (omega arith) (omega arith) in
+        let f5 = soft_then l s4.next s5.next f4 (sets_soft c 1 1 y5 y6 s4.next 1 (0x3000 * 2 ^ 12) (free_below 1 (omega arith) (omega arith) (omega arith)) s5) in
         let s6 = move_sets c 10 0 0 ys s5.next (omega arith) (omega arith) (omega arith) (f5.keeps.zero ∙ framed.zero) (omega arith) in
-        let f6 = soft_then l s5.next s6.next f5 (sets_soft c 1 1 y6 ys s5.next 10 0 (free_below 10 (omega arith) (omega arith) (omega arith)) s6) in
+        let f6 = soft_then l s5.next s6.next f5 (sets_soft c 1 1 y6 ys s5.next 10 0 ten_free s6) in
         record {
           next = s6.next;
           path = loosened c (1 + (1 + (1 + (1 + (1 + 1))))) (3 + (2 + (1 + (1 + (1 + 1))))) 0 9 y1 ys [] l s6.next (omega arith) (omega arith)
@@ -190,10 +190,10 @@ module _ (c : Code) where
             zero_is = f6.keeps.zero ∙ framed.zero;
             count_is = s6.other 5 (omega arith) (omega arith) ∙ s5.other 5 (omega arith) (omega arith) ∙ s4.other 5 (omega arith) (omega arith) ∙ s3.other 5 (omega arith) (omega arith) ∙ s2.other 5 (omega arith) (omega arith) ∙ s1.value;
             size_is = s6.other 6 (omega arith) (omega arith) ∙ s5.other 6 (omega arith) (omega arith) ∙ s4.other 6 (omega arith) (omega arith) ∙ s3.other 6 (omega arith) (omega arith) ∙ s2.value;
-            word_is = s6.other 8 (omega arith) (omega arith) ∙ s5.other 8 (omega arith) (omega arith) ∙ s4.other 8 (omega arith) (omega arith) ∙ s3.value;
+            word_is = s6.other 3 (omega arith) (omega arith) ∙ s5.other 3 (omega arith) (omega arith) ∙ s4.other 3 (omega arith) (omega arith) ∙ s3.value;
             none_is = s6.value;
-            place_is = s6.other 11 (omega arith) (omega arith) ∙ s5.other 11 (omega arith) (omega arith) ∙ s4.value;
-            limit_is = s6.other 12 (omega arith) (omega arith) ∙ s5.value;
+            place_is = s6.other 4 (omega arith) (omega arith) ∙ s5.other 4 (omega arith) (omega arith) ∙ s4.value;
+            limit_is = s6.other 1 (omega arith) (omega arith) ∙ s5.value;
           };
         }
 
@@ -207,9 +207,9 @@ module _ (c : Code) where
     input : next.input ≡ l.input
     five : next.x 5 ≡ n
     six : next.x 6 ≡ size
-    eight : next.x 8 ≡ data_start
+    three : next.x 3 ≡ data_start
     ten : next.x 10 ≡ 0
-    eleven : next.x 11 ≡ h
+    four : next.x 4 ≡ h
 
   soft_same : (l : Local) → IsSoft l l
   soft_same l = record { keeps = keeps_same l; has = λ q w h e. e }
@@ -219,13 +219,13 @@ module _ (c : Code) where
     claims = claim_lines z
 
     abbrev third : List Line
-    third = Plain (Branch Bltu 12 5 (pos 32)) ∷ claims
+    third = Plain (Branch Bltu 1 5 (pos 32)) ∷ claims
 
     abbrev divides : List Line
-    divides = Plain (Reg Sub 12 12 11) ∷ Plain (Reg Divu 12 12 6) ∷ third
+    divides = Plain (Reg Sub 1 1 4) ∷ Plain (Reg Divu 1 1 6) ∷ third
 
     abbrev second : List Line
-    second = Plain (Branch Bltu 12 11 (pos 44)) ∷ divides
+    second = Plain (Branch Bltu 1 4 (pos 44)) ∷ divides
 
     abbrev first : List Line
     first = Plain (Branch Bge 0 5 (pos 48)) ∷ second
@@ -249,16 +249,16 @@ module _ (c : Code) where
         input = refl;
         five = r.count_is;
         six = r.size_is;
-        eight = r.word_is;
+        three = r.word_is;
         ten = r.none_is;
-        eleven = r.place_is;
+        four = r.place_is;
       }
 
       first_test : (b : Bool) → is_taken Bge 0 n ≡ b → is_taken Bge (l.x 0) (l.x 5) ≡ b
       first_test b e = ap (λ v. is_taken Bge v (l.x 5)) r.zero_is ∙ ap (is_taken Bge 0) r.count_is ∙ e
 
-      second_test : (b : Bool) → nat_lt data_end h ≡ b → is_taken Bltu (l.x 12) (l.x 11) ≡ b
-      second_test b e = ap (λ v. nat_lt v (l.x 11)) r.limit_is ∙ ap (nat_lt data_end) r.place_is ∙ e
+      second_test : (b : Bool) → nat_lt data_end h ≡ b → is_taken Bltu (l.x 1) (l.x 4) ≡ b
+      second_test b e = ap (λ v. nat_lt v (l.x 4)) r.limit_is ∙ ap (nat_lt data_end) r.place_is ∙ e
 
       past_first : is_taken Bge 0 n ≡ false → Path c 1 1 first second [] l l
       past_first e = passed_on Bge 0 5 48 second l (omega arith) (omega arith) (first_test false e)
@@ -266,36 +266,36 @@ module _ (c : Code) where
       past_second : is_taken Bge 0 n ≡ false → h ≤ data_end → Path c 2 2 first divides [] l l
       past_second e k =
           followed c 1 1 1 1 first second divides [] [] l l l (past_first e)
-          (passed_on Bltu 12 11 44 divides l (omega arith) (omega arith) (second_test false (lt_not data_end h k)))
+          (passed_on Bltu 1 4 44 divides l (omega arith) (omega arith) (second_test false (lt_not data_end h k)))
 
       -- the quotient is computed, and the third test leads to ys
       divided_then : (room : ℕ) (ys : List Line) → is_taken Bge 0 n ≡ false → h + room ≡ data_end → n < 2 ^ 32
-          → ((m : Local) → is_taken Bltu (m.x 12) (m.x 5) ≡ not (heap_has_room h n size) → Path c 1 1 third ys [] m m) → Tested first ys l n size h
+          → ((m : Local) → is_taken Bltu (m.x 1) (m.x 5) ≡ not (heap_has_room h n size) → Path c 1 1 third ys [] m m) → Tested first ys l n size h
       divided_then room ys e k fits on =
-          let y4 = Plain (Reg Divu 12 12 6) ∷ third in
+          let y4 = Plain (Reg Divu 1 1 6) ∷ third in
           let q = reg_value Divu room size in
           let front = past_second e (omega arith) in
-          let s = plain_sets c Sub room 12 12 11 data_end h y4 l (omega arith) (omega arith) (omega arith) (omega arith) r.limit_is r.place_is (omega arith) in
-          let t = plain_sets c Divu q 12 12 6 room size third s.next (omega arith) (omega arith) (omega arith) (omega arith) s.value (s.other 6 (omega arith) (omega arith) ∙ r.size_is) refl in
+          let s = plain_sets c Sub room 1 1 4 data_end h y4 l (omega arith) (omega arith) (omega arith) (omega arith) r.limit_is r.place_is (omega arith) in
+          let t = plain_sets c Divu q 1 1 6 room size third s.next (omega arith) (omega arith) (omega arith) (omega arith) s.value (s.other 6 (omega arith) (omega arith) ∙ r.size_is) refl in
           let m = t.next in
-          let kept : (i : ℕ) → i ≢ 12 → i ≢ 7 → m.x i ≡ l.x i = λ i a b. t.other i a b ∙ s.other i a b in
+          let kept : (i : ℕ) → i ≢ 1 → i ≢ 7 → m.x i ≡ l.x i = λ i a b. t.other i a b ∙ s.other i a b in
           let five : m.x 5 ≡ n = kept 5 (omega arith) (omega arith) ∙ r.count_is in
-          let test : is_taken Bltu (m.x 12) (m.x 5) ≡ not (heap_has_room h n size) = ap (λ v. nat_lt v (m.x 5)) t.value ∙ ap (nat_lt q) five ∙ room_by_quotient h n size room fits e k in
+          let test : is_taken Bltu (m.x 1) (m.x 5) ≡ not (heap_has_room h n size) = ap (λ v. nat_lt v (m.x 5)) t.value ∙ ap (nat_lt q) five ∙ room_by_quotient h n size room fits e k in
           record {
             next = m;
             path = loosened c (2 + (1 + (1 + 1))) (2 + (2 + (2 + 1))) 0 7 first ys [] l m (omega arith) (omega arith)
                 (followed c 2 2 (1 + (1 + 1)) (2 + (2 + 1)) first divides ys [] [] l l m front
                 (followed c 1 2 (1 + 1) (2 + 1) divides y4 ys [] [] l s.next m s.path
                 (followed c 1 2 1 1 y4 third ys [] [] s.next m m t.path (on m test))));
-            soft = soft_then l s.next m (sets_soft c 1 2 divides y4 l 12 room (free_below 12 (omega arith) (omega arith) (omega arith)) s)
-                (sets_soft c 1 2 y4 third s.next 12 q (free_below 12 (omega arith) (omega arith) (omega arith)) t);
+            soft = soft_then l s.next m (sets_soft c 1 2 divides y4 l 1 room (free_below 1 (omega arith) (omega arith) (omega arith)) s)
+                (sets_soft c 1 2 y4 third s.next 1 q (free_below 1 (omega arith) (omega arith) (omega arith)) t);
             bytes = t.bytes ∙ s.bytes;
             input = t.input ∙ s.input;
             five = five;
             six = kept 6 (omega arith) (omega arith) ∙ r.size_is;
-            eight = kept 8 (omega arith) (omega arith) ∙ r.word_is;
+            three = kept 3 (omega arith) (omega arith) ∙ r.word_is;
             ten = kept 10 (omega arith) (omega arith) ∙ r.none_is;
-            eleven = kept 11 (omega arith) (omega arith) ∙ r.place_is;
+            four = kept 4 (omega arith) (omega arith) ∙ r.place_is;
           }
 
       below : h ≤ data_end → (room : ℕ) × (h + room ≡ data_end)
@@ -309,11 +309,11 @@ module _ (c : Code) where
         | inl past ↦
             still 2 2 z (omega arith)
             (followed c 1 1 1 1 first second z [] [] l l l (past_first e)
-            (taken_over Bltu 12 11 44 divides z l (omega arith) (omega arith) (omega arith) (omega arith) (second_test true (lt_is data_end h past)) skip_second))
+            (taken_over Bltu 1 4 44 divides z l (omega arith) (omega arith) (omega arith) (omega arith) (second_test true (lt_is data_end h past)) skip_second))
         | inr within ↦
             let room = below within in
             divided_then room.0 z e room.1 fits (λ m test.
-            taken_over Bltu 12 5 32 claims z m (omega arith) (omega arith) (omega arith) (omega arith) (test ∙ ap not none) skip_third)
+            taken_over Bltu 1 5 32 claims z m (omega arith) (omega arith) (omega arith) (omega arith) (test ∙ ap not none) skip_third)
       ]
 
       -- there is room: no branch is taken
@@ -324,35 +324,35 @@ module _ (c : Code) where
         | inr within ↦
             let room = below within in
             divided_then room.0 claims e room.1 fits (λ m test.
-            passed_on Bltu 12 5 32 claims m (omega arith) (omega arith) (test ∙ ap not some))
+            passed_on Bltu 1 5 32 claims m (omega arith) (omega arith) (test ∙ ap not some))
       ]
 
   -- ---- the block is claimed
 
   record Claimed (xs ys : List Line) (l : Local) (h next_block : ℕ) : Type 0 where
     next : Local
-    path : Path c 0 9 xs (Plain (Store Sw 8 5 (pos 0)) ∷ ys) [] l next
+    path : Path c 0 9 xs (Plain (Store Sw 3 5 (pos 0)) ∷ ys) [] l next
     soft : IsSoft l next
     bytes : next.bytes ≡ l.bytes
     input : next.input ≡ l.input
     five : next.x 5 ≡ next_block
-    eight : next.x 8 ≡ data_start
+    three : next.x 3 ≡ data_start
     ten : next.x 10 ≡ h
 
-  claims_it : (z : List Line) (l : Local) (n size h : ℕ) → h + n * size ≤ data_end → l.x 5 ≡ n → l.x 6 ≡ size → l.x 8 ≡ data_start → l.x 11 ≡ h → Claimed (claim_lines z) z l h (next_place h n size)
-  claims_it z l n size h fits five six eight eleven =
-      let u7 = Plain (Store Sw 8 5 (pos 0)) ∷ z in
+  claims_it : (z : List Line) (l : Local) (n size h : ℕ) → h + n * size ≤ data_end → l.x 5 ≡ n → l.x 6 ≡ size → l.x 3 ≡ data_start → l.x 4 ≡ h → Claimed (claim_lines z) z l h (next_place h n size)
+  claims_it z l n size h fits five six three four =
+      let u7 = Plain (Store Sw 3 5 (pos 0)) ∷ z in
       let u6 = Plain (Imm Slli 5 5 (pos 3)) ∷ u7 in
       let u5 = Plain (Imm Srli 5 5 (pos 3)) ∷ u6 in
       let u4 = Plain (Imm Addi 5 5 (pos 15)) ∷ u5 in
-      let u3 = Plain (Reg Add 5 5 11) ∷ u4 in
+      let u3 = Plain (Reg Add 5 5 4) ∷ u4 in
       let u2 = Plain (Reg Mul 5 5 6) ∷ u3 in
-      let u1 = Plain (Imm Addi 10 11 (pos 0)) ∷ u2 in
+      let u1 = Plain (Imm Addi 10 4 (pos 0)) ∷ u2 in
       let all = n * size in
       let end = h + all in
-      let s1 = move_sets c 10 11 h u2 l (omega arith) (omega arith) (omega arith) eleven (omega arith) in
+      let s1 = move_sets c 10 4 h u2 l (omega arith) (omega arith) (omega arith) four (omega arith) in
       let s2 = plain_sets c Mul all 5 5 6 n size u3 s1.next (omega arith) (omega arith) (omega arith) (omega arith) (s1.other 5 (omega arith) (omega arith) ∙ five) (s1.other 6 (omega arith) (omega arith) ∙ six) (small_part all (omega arith)) in
-      let s3 = plain_sets c Add end 5 5 11 all h u4 s2.next (omega arith) (omega arith) (omega arith) (omega arith) s2.value (s2.other 11 (omega arith) (omega arith) ∙ s1.other 11 (omega arith) (omega arith) ∙ eleven) (omega arith) in
+      let s3 = plain_sets c Add end 5 5 4 all h u4 s2.next (omega arith) (omega arith) (omega arith) (omega arith) s2.value (s2.other 4 (omega arith) (omega arith) ∙ s1.other 4 (omega arith) (omega arith) ∙ four) (omega arith) in
       let s4 = imm_is Addi 5 5 (pos 15) end (end + 15) u5 s3.next (omega arith) (omega arith) (omega arith) s3.value (omega arith) in
       let s5 = imm_is Srli 5 5 (pos 3) (end + 15) (reg_value Srl (end + 15) 3) u6 s4.next (omega arith) (omega arith) (omega arith) s4.value refl in
       let s6 = imm_is Slli 5 5 (pos 3) (reg_value Srl (end + 15) 3) (next_place h n size) u7 s5.next (omega arith) (omega arith) (omega arith) s5.value (rounded (end + 15) (omega arith)) in
@@ -365,7 +365,7 @@ module _ (c : Code) where
             (followed c 1 2 (1 + (1 + 1)) (1 + (1 + 1)) u3 u4 u7 [] [] s2.next s3.next s6.next s3.path
             (followed c 1 1 (1 + 1) (1 + 1) u4 u5 u7 [] [] s3.next s4.next s6.next s4.path
             (followed c 1 1 1 1 u5 u6 u7 [] [] s4.next s5.next s6.next s5.path s6.path)))));
-        soft = soft_then l s1.next s6.next (sets_soft c 1 1 u1 u2 l 10 h (free_below 10 (omega arith) (omega arith) (omega arith)) s1)
+        soft = soft_then l s1.next s6.next (sets_soft c 1 1 u1 u2 l 10 h ten_free s1)
             (soft_then s1.next s2.next s6.next (sets_soft c 1 2 u2 u3 s1.next 5 all five_free s2)
             (soft_then s2.next s3.next s6.next (sets_soft c 1 2 u3 u4 s2.next 5 end five_free s3)
             (soft_then s3.next s4.next s6.next (sets_soft c 1 1 u4 u5 s3.next 5 (end + 15) five_free s4)
@@ -374,7 +374,7 @@ module _ (c : Code) where
         bytes = s6.bytes ∙ s5.bytes ∙ s4.bytes ∙ s3.bytes ∙ s2.bytes ∙ s1.bytes;
         input = s6.input ∙ s5.input ∙ s4.input ∙ s3.input ∙ s2.input ∙ s1.input;
         five = s6.value;
-        eight = s6.other 8 (omega arith) (omega arith) ∙ s5.other 8 (omega arith) (omega arith) ∙ s4.other 8 (omega arith) (omega arith) ∙ s3.other 8 (omega arith) (omega arith) ∙ s2.other 8 (omega arith) (omega arith) ∙ s1.other 8 (omega arith) (omega arith) ∙ eight;
+        three = s6.other 3 (omega arith) (omega arith) ∙ s5.other 3 (omega arith) (omega arith) ∙ s4.other 3 (omega arith) (omega arith) ∙ s3.other 3 (omega arith) (omega arith) ∙ s2.other 3 (omega arith) (omega arith) ∙ s1.other 3 (omega arith) (omega arith) ∙ three;
         ten = s6.other 10 (omega arith) (omega arith) ∙ s5.other 10 (omega arith) (omega arith) ∙ s4.other 10 (omega arith) (omega arith) ∙ s3.other 10 (omega arith) (omega arith) ∙ s2.other 10 (omega arith) (omega arith) ∙ s1.value;
       }
 
@@ -410,7 +410,7 @@ module _ (c : Code) where
         let s = readied l places world framed has whole a n size h (first z) ha ea fits there in
         let d = admits z s.next n size h s.ready (is_taken Bge 0 n) refl (operand_word l places has a n ha ea) some in
         let end = fits_whole h n size some in
-        let k = claims_it z d.next n size h end d.five d.six d.eight d.eleven in
+        let k = claims_it z d.next n size h end d.five d.six d.three d.four in
         let small : y < 2 ^ 32 = omega (arith, end) in
         let bytes : k.next.bytes ≡ l.bytes = k.bytes ∙ d.bytes ∙ s.bytes in
         let input : k.next.input ≡ l.input = k.input ∙ d.input ∙ s.input in
@@ -420,7 +420,7 @@ module _ (c : Code) where
         let after = framed_kept l m framed soft.keeps in
         let event = Wrote data_start 4 (y % 256 ^ 4) in
         let stored = data_put Word l.bytes data_start y now (ap (λ (r : base.Memory). base.memory_with Word r data_start y) (sym whole.memory) ∙ put) in
-        let store = store_path c l places world framed has whole Word 8 5 data_start (pos 0) data_start y z k.next l.bytes bytes (omega arith) (omega arith) k.eight k.five (omega arith) refl (omega arith) (omega arith) in
+        let store = store_path c l places world framed has whole Word 3 5 data_start (pos 0) data_start y z k.next l.bytes bytes (omega arith) (omega arith) k.three k.five (omega arith) refl (omega arith) (omega arith) in
         let world_then : HasWorld m (record world { memory = now }) = record {
           memory = stored.now_is;
           input = whole.input ∙ sym input;
@@ -430,7 +430,7 @@ module _ (c : Code) where
         before_does c (0 + (0 + (0 + 1))) (9 + (7 + (9 + 1))) 6 (alloc_lines t a size rest) z rest l m (event ∷ []) (Stored data_start Word y ∷ []) [] (with_written places (number_of t) h) (record world { memory = now })
         (followed c 0 9 (0 + (0 + 1)) (7 + (9 + 1)) (alloc_lines t a size rest) (first z) z [] (event ∷ []) l s.next m s.path
         (followed c 0 7 (0 + 1) (9 + 1) (first z) (claim_lines z) z [] (event ∷ []) s.next d.next m d.path
-        (followed c 0 9 1 1 (claim_lines z) (Plain (Store Sw 8 5 (pos 0)) ∷ z) z [] (event ∷ []) d.next k.next m k.path store)))
+        (followed c 0 9 1 1 (claim_lines z) (Plain (Store Sw 3 5 (pos 0)) ∷ z) z [] (event ∷ []) d.next k.next m k.path store)))
         (ap (λ v. Stored data_start Word v ∷ []) (let e : y % 256 ^ 4 ≡ y = omega (arith, small) in e))
         (inr (refl, inr refl), tt) soft.keeps
         (does_loosened c 3 6 z rest m [] (with_written places (number_of t) h) (record world { memory = now }) (omega arith)

@@ -55,18 +55,18 @@ if_kept : (b : Bool) (o : Option ℕ) (w : ℕ) → (if b then o else None) ≡ 
 if_kept true o w e = (refl, e)
 if_kept false o w e = absurd cc
 
-kept_register : (homes : List Place) (marks : List Bool) (places : Values) (k w : ℕ) → k < 12 → places_kept homes marks places k ≡ Some w → (is_kept_home k homes marks ≡ true) × (places k ≡ Some w)
+kept_register : (homes : List Place) (marks : List Bool) (places : Values) (k w : ℕ) → k < 16 → places_kept homes marks places k ≡ Some w → (is_kept_home k homes marks ≡ true) × (places k ≡ Some w)
 unfolding places_kept
 kept_register homes marks places k w h e =
-    if_kept (is_kept_home k homes marks) (places k) w (sym (ap (λ b. if b then (if is_kept_home k homes marks then places k else None) else places k) (lt_is k 12 h)) ∙ e)
+    if_kept (is_kept_home k homes marks) (places k) w (sym (ap (λ b. if b then (if is_kept_home k homes marks then places k else None) else places k) (lt_is k 16 h)) ∙ e)
 
-kept_slot : (homes : List Place) (marks : List Bool) (places : Values) (k w : ℕ) → 12 ≤ k → places_kept homes marks places k ≡ Some w → places k ≡ Some w
+kept_slot : (homes : List Place) (marks : List Bool) (places : Values) (k w : ℕ) → 16 ≤ k → places_kept homes marks places k ≡ Some w → places k ≡ Some w
 unfolding places_kept
-kept_slot homes marks places k w h e = sym (ap (λ b. if b then (if is_kept_home k homes marks then places k else None) else places k) (lt_not k 12 h)) ∙ e
+kept_slot homes marks places k w h e = sym (ap (λ b. if b then (if is_kept_home k homes marks then places k else None) else places k) (lt_not k 16 h)) ∙ e
 
 kept_place : (homes : List Place) (marks : List Bool) (places : Values) (q : Place) (w : ℕ) → IsPlace q → places_kept homes marks places (number_of q) ≡ Some w → places (number_of q) ≡ Some w
 kept_place homes marks places (place.Reg k) w h e = (kept_register homes marks places k w h e).1
-kept_place homes marks places (place.Slot k) w h e = kept_slot homes marks places (12 + k) w (omega arith) e
+kept_place homes marks places (place.Slot k) w h e = kept_slot homes marks places (16 + k) w (omega arith) e
 
 -- the callee's code
 pub mapped : (functions : List PlacedFunc) (k : ℕ) (g : PlacedFunc) → slice_get functions k ≡ Some g → slice_get (map (λ (f : PlacedFunc). f.code) functions) k ≡ Some g.code
@@ -120,12 +120,12 @@ module _ (functions : List PlacedFunc) (c : Code) (main : ℕ) (whole : IsWhole 
   ops_over : All (IsOpOver codes f.code.regs) ops
   ops_over = All-tail (IsOpOver codes f.code.regs) (Call target callee arguments at) ops (subst (All (IsOpOver codes f.code.regs)) all r.at.ops_over)
 
-  room_for : most s ≡ 63 + 80 * length arguments
-  room_for = ap (λ (ops : List TacOp). 63 + 80 * extra_steps ops) all
+  room_for : most s ≡ 59 + 80 * length arguments
+  room_for = ap (λ (ops : List TacOp). 59 + 80 * extra_steps ops) all
 
   -- the lines of the call stand here
   call_stands : (g : PlacedFunc) → slice_get functions callee ≡ Some g
-      → LinesAt c pc (saves_lines test 12 0 (depth_lines at (arguments_lines f.homes arguments 0 g.homes (visit_lines label (restores_lines (λ k. is_kept_home k f.homes marks) 12 0 (result_lines f.homes target later))))))
+      → LinesAt c pc (saves_lines test 16 0 (depth_lines at (arguments_lines f.homes arguments 0 g.homes (visit_lines label (restores_lines (λ k. is_kept_home k f.homes marks) 16 0 (result_lines f.homes target later))))))
   call_stands g e =
       subst (λ (o : Option PlacedFunc). LinesAt c pc (call_lines f.homes marks (homes_of o) label arguments at (result_lines f.homes target later))) e
       (stands functions c s l pc r (Call target callee arguments at) ops all)
@@ -157,8 +157,8 @@ module _ (functions : List PlacedFunc) (c : Code) (main : ℕ) (whole : IsWhole 
     linked : m.words below ≡ link
     back_is : LinesAt c link back
     short : link < 2 ^ 32
-    saved : (j : ℕ) → j < 12 → test j ≡ true → m.words (register_word l j) ≡ l.x (register_of j)
-    elsewhere : (a : ℕ) → l.x 2 ≤ a → ((j : ℕ) → j < 12 → a ≢ register_word l j) → m.words a ≡ l.words a
+    saved : (j : ℕ) → j < 16 → test j ≡ true → m.words (register_word l j) ≡ l.x (register_of j)
+    elsewhere : (a : ℕ) → l.x 2 ≤ a → ((j : ℕ) → j < 16 → a ≢ register_word l j) → m.words a ≡ l.words a
     has : (q : Place) (w : ℕ) → IsPlace q → entry_places g.homes 0 values (number_of q) ≡ Some w → HasValue m q w
     word : (q : Place) (w : ℕ) → IsPlace q → entry_places g.homes 0 values (number_of q) ≡ Some w → w < 2 ^ 32
     bytes : m.bytes ≡ l.bytes
@@ -174,7 +174,7 @@ module _ (functions : List PlacedFunc) (c : Code) (main : ℕ) (whole : IsWhole 
     count : ℕ
     lower : List MachineEvent
     many : 1 ≤ count
-    few : count ≤ 21 + 6 * length arguments
+    few : count ≤ 25 + 6 * length arguments
     travels : Travels (detailed_system c.parts) count lower (state_of c.parts l pc) (state_of c.parts to there)
     unseen_is : flat_map seen_events lower ≡ []
     allowed : All (May s) lower
@@ -186,7 +186,7 @@ module _ (functions : List PlacedFunc) (c : Code) (main : ℕ) (whole : IsWhole 
       let low = i.low in
       let high = i.high in
       other (register_of j) (omega arith) (omega arith) ∙ v
-  far_value m k (place.Slot j) w other words h v = ap (λ (g : ℕ → ℕ). g (k.x 2 + (j * 4 + 64))) words ∙ ap (λ b. m.words (b + (j * 4 + 64))) (other 2 (omega arith) (omega arith)) ∙ v
+  far_value m k (place.Slot j) w other words h v = ap (λ (g : ℕ → ℕ). g (k.x 2 + (j * 4 + 80))) words ∙ ap (λ b. m.words (b + (j * 4 + 80))) (other 2 (omega arith) (omega arith)) ∙ v
 
   put_value : (m k : Local) (base link : ℕ) (q : Place) (w : ℕ) → m.x 2 ≡ base → ((r : ℕ) → r ≢ 7 → k.x r ≡ m.x r) → k.words ≡ changed m.words base link → IsPlace q → HasValue m q w → HasValue k q w
   put_value m k base link (place.Reg j) w e other words h v =
@@ -194,8 +194,8 @@ module _ (functions : List PlacedFunc) (c : Code) (main : ℕ) (whole : IsWhole 
       let low = i.low in
       other (register_of j) (omega arith) ∙ v
   put_value m k base link (place.Slot j) w e other words h v =
-      ap (λ (g : ℕ → ℕ). g (k.x 2 + (j * 4 + 64))) words ∙ ap (λ b. changed m.words base link (b + (j * 4 + 64))) (other 2 (omega arith))
-      ∙ changed_other m.words base link (m.x 2 + (j * 4 + 64)) (omega arith) ∙ v
+      ap (λ (g : ℕ → ℕ). g (k.x 2 + (j * 4 + 80))) words ∙ ap (λ b. changed m.words base link (b + (j * 4 + 80))) (other 2 (omega arith))
+      ∙ changed_other m.words base link (m.x 2 + (j * 4 + 80)) (omega arith) ∙ v
 
   hidden_join : (xs ys : List MachineEvent) → flat_map seen_events xs ≡ [] → flat_map seen_events ys ≡ [] → flat_map seen_events (xs ++ ys) ≡ []
   hidden_join xs ys e f = flat_map-append seen_events xs ys ∙ ap (λ z. z ++ flat_map seen_events ys) e ∙ f
@@ -231,8 +231,8 @@ module _ (functions : List PlacedFunc) (c : Code) (main : ℕ) (whole : IsWhole 
       record { aligned = omega arith; low = omega arith; high = omega arith }
 
   enters_by : (g : PlacedFunc) (values : List ℕ) (below : ℕ) (xs : List Line) → slice_get functions callee ≡ Some g → below + 16384 ≡ l.x 2 → stack_start ≤ below → active s < 1024
-      → (d : Descends c (18 + 6 * length arguments) xs (Far 1 label ∷ back) l test g.homes values below)
-      → Leads c 1 (18 + 6 * length arguments) (Far 1 label ∷ back) (d.stored ++ d.passed) l d.next pc → Enters below g values
+      → (d : Descends c (22 + 6 * length arguments) xs (Far 1 label ∷ back) l test g.homes values below)
+      → Leads c 1 (22 + 6 * length arguments) (Far 1 label ∷ back) (d.stored ++ d.passed) l d.next pc → Enters below g values
   enters_by g values below xs e under low few d lead =
       let far = lead.there.0 in
       let j = far_goes c d.next lead.to 1 label (omega arith) far in
@@ -263,7 +263,7 @@ module _ (functions : List PlacedFunc) (c : Code) (main : ℕ) (whole : IsWhole 
         allowed = All-append (May s) (d.stored ++ d.passed) (event ∷ [])
             (All-append (May s) d.stored d.passed (frame_may s (l.x 2) r.depth d.stored d.stores) (below_may s (l.x 2) r.depth below d.passed under few d.passes))
             (below_may s (l.x 2) r.depth below (event ∷ []) under few last);
-        entered = entered_by g values below lead.to (18 + 6 * length arguments) xs behind under d lead.there.1 (omega arith) j p;
+        entered = entered_by g values below lead.to (22 + 6 * length arguments) xs behind under d lead.there.1 (omega arith) j p;
       }
 
   -- a frame more fits below
@@ -292,7 +292,7 @@ module _ (functions : List PlacedFunc) (c : Code) (main : ℕ) (whole : IsWhole 
       (λ k named. or_second (is_kept_home k f.homes marks) (is_argument_home k f.homes arguments) named)) in (
         below,
         deep.1,
-        enters_by g values below (saves_lines test 12 0 (depth_lines at (arguments_lines f.homes arguments 0 g.homes (visit_lines label (restores_lines (λ k. is_kept_home k f.homes marks) 12 0 (result_lines f.homes target later))))))
+        enters_by g values below (saves_lines test 16 0 (depth_lines at (arguments_lines f.homes arguments 0 g.homes (visit_lines label (restores_lines (λ k. is_kept_home k f.homes marks) 16 0 (result_lines f.homes target later))))))
             e deep.1 deep.2 few d (d.path.leads pc (call_stands g e)),
       )
 
@@ -304,8 +304,8 @@ module _ (functions : List PlacedFunc) (c : Code) (main : ℕ) (whole : IsWhole 
       let kept = kept_register f.homes marks s.frame.places k w h e in
       i.saved k h (or_first (is_kept_home k f.homes marks) (is_argument_home k f.homes arguments) kept.0) ∙ r.has.has (place.Reg k) w h kept.1
   saved_is below link g values m under i (place.Slot k) w h e =
-      i.elsewhere (l.x 2 + (k * 4 + 64)) (omega arith) (λ j less. omega arith)
-      ∙ r.has.has (place.Slot k) w h (kept_slot f.homes marks s.frame.places (12 + k) w (omega arith) e)
+      i.elsewhere (l.x 2 + (k * 4 + 80)) (omega arith) (λ j less. omega arith)
+      ∙ r.has.has (place.Slot k) w h (kept_slot f.homes marks s.frame.places (16 + k) w (omega arith) e)
 
   waiting : (below link : ℕ) (g : PlacedFunc) (values : List ℕ) (m : Local) → below + 16384 ≡ l.x 2 → IsEntered m below link g values → IsWaiting functions c m.words below caller
   waiting below link g values m under i = record {
@@ -320,7 +320,7 @@ module _ (functions : List PlacedFunc) (c : Code) (main : ℕ) (whole : IsWhole 
     kept = λ k w h e. (kept_register f.homes marks s.frame.places k w h e).0;
   }
 
-  off_registers : (a : ℕ) → (a ≡ l.x 2) ⊎ (l.x 2 + 16384 ≤ a) → (j : ℕ) → j < 12 → a ≢ register_word l j
+  off_registers : (a : ℕ) → (a ≡ l.x 2) ⊎ (l.x 2 + 16384 ≤ a) → (j : ℕ) → j < 16 → a ≢ register_word l j
   off_registers a o j less = elim o as (λ _. a ≢ register_word l j) [ inl e ↦ omega arith | inr h ↦ omega arith ]
 
   at_least : (a : ℕ) → (a ≡ l.x 2) ⊎ (l.x 2 + 16384 ≤ a) → l.x 2 ≤ a
@@ -396,7 +396,7 @@ module _ (functions : List PlacedFunc) (c : Code) (main : ℕ) (whole : IsWhole 
       let d = r.depth in
       let low = r.framed.low in
       let last : l.x 2 ≡ stack_start = omega arith in
-      let k = too_deep c test at (arguments_lines f.homes arguments 0 g.homes (visit_lines label (restores_lines (λ k. is_kept_home k f.homes marks) 12 0 (result_lines f.homes target later)))) l r.framed last over.3.0 over.3.1 in
+      let k = too_deep c test at (arguments_lines f.homes arguments 0 g.homes (visit_lines label (restores_lines (λ k. is_kept_home k f.homes marks) 16 0 (result_lines f.homes target later)))) l r.framed last over.3.0 over.3.1 in
       let lead = k.path.leads pc (call_stands g e) in
       let halt = k.halting.halts lead.to lead.there in
       inr (record {

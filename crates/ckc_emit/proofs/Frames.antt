@@ -52,7 +52,7 @@ module _ (functions : List PlacedFunc) (c : Code) where
     pub short : words base < 2 ^ 32
     pub saved : (q : Place) (w : ℕ) → IsPlace q → caller.frame.places (number_of q) ≡ Some w → words (base + 16384 + offset_of q) ≡ w
     pub word : (q : Place) (w : ℕ) → IsPlace q → caller.frame.places (number_of q) ≡ Some w → w < 2 ^ 32
-    pub kept : (k w : ℕ) → k < 12 → caller.frame.places k ≡ Some w
+    pub kept : (k w : ℕ) → k < 16 → caller.frame.places k ≡ Some w
         → is_kept_home k caller.frame.function.homes (marks_of (slice_get caller.frame.function.kept call)) ≡ true
 
   -- the first call returns to the end of the program

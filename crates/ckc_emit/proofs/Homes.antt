@@ -19,36 +19,51 @@ use Rattle.ckc_emit.proofs.FrameWords.{IsStackWord, load_sets, move_sets, Puts, 
 
 -- the register of a home: neither x0, x2 nor a scratch register
 pub record IsHome (r : ℕ) : Type 0 where
-  pub low : 13 ≤ r
+  pub low : 8 ≤ r
   pub high : r < 26
+  pub ten : r ≢ 10
   pub apart : r ≢ 17
 
-pub register_is : (k : ℕ) → k < 12 → IsHome (register_of k)
-register_is k h = elim (cases_lt k 4) as (λ _. IsHome (register_of k)) [
-  | inl p ↦
-      let e : register_of k ≡ k + 13 = grind (arith, nat_tests) in
-      record { low = omega arith; high = omega arith; apart = omega arith }
-  | inr p ↦
-      let e : register_of k ≡ k + 14 = grind (arith, nat_tests) in
-      record { low = omega arith; high = omega arith; apart = omega arith }
+-- the three rows of registers that are homes: x8 and x9, x11 to x16, and from x18 on
+abbrev Row : ℕ → Type 0
+Row k =
+    ((k < 2) × (register_of k ≡ k + 8)) ⊎ ((2 ≤ k) × (k < 8) × (register_of k ≡ k + 9)) ⊎ ((8 ≤ k) × (register_of k ≡ k + 10))
+
+row_of : (k : ℕ) → Row k
+row_of k = elim (cases_lt k 2) as (λ _. Row k) [
+  | inl p ↦ inl (p, grind (arith, nat_tests))
+  | inr p ↦ elim (cases_lt k 8) as (λ _. Row k) [
+    | inl q ↦ inr (inl (p, q, grind (arith, nat_tests)))
+    | inr q ↦ inr (inr (q, grind (arith, nat_tests)))
+  ]
 ]
 
-pub registers_apart : (k j : ℕ) → k < 12 → j < 12 → j ≢ k → register_of j ≢ register_of k
-registers_apart k j h i apart e = apart (elim (cases_lt k 4) as (λ _. j ≡ k) [
-  | inl p ↦ elim (cases_lt j 4) as (λ _. j ≡ k) [
-    | inl q ↦ (let a : register_of k ≡ k + 13 = grind (arith, nat_tests) in let b : register_of j ≡ j + 13 = grind (arith, nat_tests) in omega arith)
-    | inr q ↦ absurd (let a : register_of k ≡ k + 13 = grind (arith, nat_tests) in let b : register_of j ≡ j + 14 = grind (arith, nat_tests) in omega arith)
-  ]
-  | inr p ↦ elim (cases_lt j 4) as (λ _. j ≡ k) [
-    | inl q ↦ absurd (let a : register_of k ≡ k + 14 = grind (arith, nat_tests) in let b : register_of j ≡ j + 13 = grind (arith, nat_tests) in omega arith)
-    | inr q ↦ (let a : register_of k ≡ k + 14 = grind (arith, nat_tests) in let b : register_of j ≡ j + 14 = grind (arith, nat_tests) in omega arith)
-  ]
-])
+home_in : (k : ℕ) → k < 16 → Row k → IsHome (register_of k)
+home_in k h (inl (p, e)) = record { low = omega arith; high = omega arith; ten = omega arith; apart = omega arith }
+home_in k h (inr (inl (p, q, e))) = record { low = omega arith; high = omega arith; ten = omega arith; apart = omega arith }
+home_in k h (inr (inr (p, e))) = record { low = omega arith; high = omega arith; ten = omega arith; apart = omega arith }
+
+pub register_is : (k : ℕ) → k < 16 → IsHome (register_of k)
+register_is k h = home_in k h (row_of k)
+
+same_in : (k j : ℕ) → Row k → Row j → register_of j ≡ register_of k → j ≡ k
+same_in k j (inl (p, a)) (inl (q, b)) e = omega arith
+same_in k j (inl (p, a)) (inr (inl (q, r, b))) e = absurd (omega arith)
+same_in k j (inl (p, a)) (inr (inr (q, b))) e = absurd (omega arith)
+same_in k j (inr (inl (p, o, a))) (inl (q, b)) e = absurd (omega arith)
+same_in k j (inr (inl (p, o, a))) (inr (inl (q, r, b))) e = omega arith
+same_in k j (inr (inl (p, o, a))) (inr (inr (q, b))) e = absurd (omega arith)
+same_in k j (inr (inr (p, a))) (inl (q, b)) e = absurd (omega arith)
+same_in k j (inr (inr (p, a))) (inr (inl (q, r, b))) e = absurd (omega arith)
+same_in k j (inr (inr (p, a))) (inr (inr (q, b))) e = omega arith
+
+pub registers_apart : (k j : ℕ) → k < 16 → j < 16 → j ≢ k → register_of j ≢ register_of k
+registers_apart k j h i apart e = apart (same_in k j (row_of k) (row_of j) e)
 
 -- the place has the value, if the frame is at x2
 abbrev pub HasValue : Local → Place → ℕ → Type 0
 HasValue l (Reg k) v = l.x (register_of k) ≡ v
-HasValue l (Slot k) v = l.words (l.x 2 + (k * 4 + 64)) ≡ v
+HasValue l (Slot k) v = l.words (l.x 2 + (k * 4 + 80)) ≡ v
 
 -- x0 is zero, and a frame of the stack is at x2
 pub record IsFramed (l : Local) : Type 0 where
@@ -89,7 +104,7 @@ keeps_then l m n p q = record {
 }
 
 -- the address of a slot
-pub slot_word : (c : Code) (l : Local) (k : ℕ) → IsFramed l → k < 4064 → IsStackWord c (l.x 2 + (k * 4 + 64))
+pub slot_word : (c : Code) (l : Local) (k : ℕ) → IsFramed l → k < 4064 → IsStackWord c (l.x 2 + (k * 4 + 80))
 slot_word c l k f h =
     let a = f.aligned in
     let b = f.low in
@@ -111,20 +126,20 @@ AreFrameStores base (event ∷ events) = IsFrameStore base event × AreFrameStor
 
 module _ (c : Code) where
   -- a register that is no home and not x2 is set: the places are as they were
-  pub scratch_keeps : (a b : ℕ) (xs ys : List Line) (l : Local) (rd v : ℕ) → rd < 13 → rd ≢ 0 → rd ≢ 2 → (s : Sets c a b xs ys l rd v) → Keeps l s.next
+  pub scratch_keeps : (a b : ℕ) (xs ys : List Line) (l : Local) (rd v : ℕ) → rd < 8 → rd ≢ 0 → rd ≢ 2 → (s : Sets c a b xs ys l rd v) → Keeps l s.next
   scratch_keeps a b xs ys l rd v h nonzero apart s = record {
     zero = s.other 0 (λ e. nonzero (sym e)) (omega arith);
     frame = s.other 2 (λ e. apart (sym e)) (omega arith);
     above = λ q o. ap (λ (f : ℕ → ℕ). f q) s.words;
   }
 
-  pub scratch_has : (a b : ℕ) (xs ys : List Line) (l : Local) (rd v : ℕ) → rd < 13 → rd ≢ 2 → (s : Sets c a b xs ys l rd v) → (q : Place) (w : ℕ) → IsPlace q → HasValue l q w → HasValue s.next q w
+  pub scratch_has : (a b : ℕ) (xs ys : List Line) (l : Local) (rd v : ℕ) → rd < 8 → rd ≢ 2 → (s : Sets c a b xs ys l rd v) → (q : Place) (w : ℕ) → IsPlace q → HasValue l q w → HasValue s.next q w
   scratch_has a b xs ys l rd v h apart s (Reg k) w p e =
       let i = register_is k p in
       let low = i.low in
       s.other (register_of k) (omega arith) (omega arith) ∙ e
   scratch_has a b xs ys l rd v h apart s (Slot k) w p e =
-      ap (λ (f : ℕ → ℕ). f (s.next.x 2 + (k * 4 + 64))) s.words ∙ ap (λ b. l.words (b + (k * 4 + 64))) (s.other 2 (λ q. apart (sym q)) (omega arith)) ∙ e
+      ap (λ (f : ℕ → ℕ). f (s.next.x 2 + (k * 4 + 80))) s.words ∙ ap (λ b. l.words (b + (k * 4 + 80))) (s.other 2 (λ q. apart (sym q)) (omega arith)) ∙ e
 
   -- a place is read: its value is in the register that has it then
   pub read_sets : (p : Place) (scratch v : ℕ) (rest : List Line) (l : Local) → IsFramed l → IsPlace p → HasValue l p v → v < 2 ^ 32 → scratch ≢ 0 → scratch < 32
@@ -139,8 +154,8 @@ module _ (c : Code) where
     input = refl;
   }
   read_sets (Slot k) scratch v rest l f h e fits nonzero low =
-      sets_loosened c 1 3 0 3 (load_lines scratch 2 (k * 4 + 64) rest) rest l scratch v (omega arith) (omega arith)
-      (load_sets c scratch 2 (k * 4 + 64) v rest l nonzero low (omega arith) (omega arith) (omega arith) (slot_word c l k f h) e fits)
+      sets_loosened c 1 3 0 3 (load_lines scratch 2 (k * 4 + 80) rest) rest l scratch v (omega arith) (omega arith)
+      (load_sets c scratch 2 (k * 4 + 80) v rest l nonzero low (omega arith) (omega arith) (omega arith) (slot_word c l k f h) e fits)
 
   -- any register gets the value of a place
   pub fetch_sets : (rd : ℕ) (p : Place) (v : ℕ) (rest : List Line) (l : Local) → IsFramed l → IsPlace p → HasValue l p v → v < 2 ^ 32 → rd ≢ 0 → rd < 32
@@ -150,7 +165,7 @@ module _ (c : Code) where
       sets_loosened c 1 1 1 3 (move_lines rd (register_of k) rest) rest l rd v (omega arith) (omega arith)
       (move_sets c rd (register_of k) v rest l nonzero low (omega (arith, i.high)) e fits)
   fetch_sets rd (Slot k) v rest l f h e fits nonzero low =
-      load_sets c rd 2 (k * 4 + 64) v rest l nonzero low (omega arith) (omega arith) (omega arith) (slot_word c l k f h) e fits
+      load_sets c rd 2 (k * 4 + 80) v rest l nonzero low (omega arith) (omega arith) (omega arith) (slot_word c l k f h) e fits
 
   -- ---- writing
 
@@ -170,17 +185,17 @@ module _ (c : Code) where
   number_apart_reg : (j k : ℕ) → number_of (Reg j) ≢ number_of (Reg k) → j ≢ k
   number_apart_reg j k h e = h e
 
-  other_kept : (a b : ℕ) (xs ys : List Line) (l : Local) (k v : ℕ) → k < 12 → (s : Sets c a b xs ys l (register_of k) v) → s.next.x 2 ≡ l.x 2
+  other_kept : (a b : ℕ) (xs ys : List Line) (l : Local) (k v : ℕ) → k < 16 → (s : Sets c a b xs ys l (register_of k) v) → s.next.x 2 ≡ l.x 2
       → (q : Place) (w : ℕ) → IsPlace q → number_of q ≢ number_of (Reg k) → HasValue l q w → HasValue s.next q w
   other_kept a b xs ys l k v h s frame (Reg j) w p apart e =
       let i = register_is j p in
       let low = i.low in
       s.other (register_of j) (registers_apart k j h p apart) (omega arith) ∙ e
   other_kept a b xs ys l k v h s frame (Slot j) w p apart e =
-      ap (λ (f : ℕ → ℕ). f (s.next.x 2 + (j * 4 + 64))) s.words ∙ ap (λ b. l.words (b + (j * 4 + 64))) frame ∙ e
+      ap (λ (f : ℕ → ℕ). f (s.next.x 2 + (j * 4 + 80))) s.words ∙ ap (λ b. l.words (b + (j * 4 + 80))) frame ∙ e
 
   -- a home that is a register was set
-  pub register_writes : (a b : ℕ) (xs ys : List Line) (l : Local) (k v : ℕ) → k < 12 → Sets c a b xs ys l (register_of k) v → Writes a b xs ys l (Reg k) v
+  pub register_writes : (a b : ℕ) (xs ys : List Line) (l : Local) (k v : ℕ) → k < 16 → Sets c a b xs ys l (register_of k) v → Writes a b xs ys l (Reg k) v
   register_writes a b xs ys l k v h s =
       let i = register_is k h in
       let low = i.low in
@@ -201,34 +216,34 @@ module _ (c : Code) where
         input = s.input;
       }
 
-  slot_other : (a b : ℕ) (xs ys : List Line) (l : Local) (k v : ℕ) → (s : Puts c a b xs ys l (l.x 2 + (k * 4 + 64)) v) → s.next.x 2 ≡ l.x 2
+  slot_other : (a b : ℕ) (xs ys : List Line) (l : Local) (k v : ℕ) → (s : Puts c a b xs ys l (l.x 2 + (k * 4 + 80)) v) → s.next.x 2 ≡ l.x 2
       → (q : Place) (w : ℕ) → IsPlace q → number_of q ≢ number_of (Slot k) → HasValue l q w → HasValue s.next q w
   slot_other a b xs ys l k v s frame (Reg j) w p apart e =
       let i = register_is j p in
       let low = i.low in
       s.other (register_of j) (omega arith) ∙ e
   slot_other a b xs ys l k v s frame (Slot j) w p apart e =
-      let off : j ≢ k = λ same. apart (ap (λ n. 12 + n) same) in
-      ap (λ (f : ℕ → ℕ). f (s.next.x 2 + (j * 4 + 64))) s.words ∙ ap (λ b. changed l.words (l.x 2 + (k * 4 + 64)) v (b + (j * 4 + 64))) frame
-      ∙ changed_other l.words (l.x 2 + (k * 4 + 64)) v (l.x 2 + (j * 4 + 64)) (omega arith) ∙ e
+      let off : j ≢ k = λ same. apart (ap (λ n. 16 + n) same) in
+      ap (λ (f : ℕ → ℕ). f (s.next.x 2 + (j * 4 + 80))) s.words ∙ ap (λ b. changed l.words (l.x 2 + (k * 4 + 80)) v (b + (j * 4 + 80))) frame
+      ∙ changed_other l.words (l.x 2 + (k * 4 + 80)) v (l.x 2 + (j * 4 + 80)) (omega arith) ∙ e
 
-  slot_above : (a b : ℕ) (xs ys : List Line) (l : Local) (k v : ℕ) → k < 4064 → (s : Puts c a b xs ys l (l.x 2 + (k * 4 + 64)) v)
+  slot_above : (a b : ℕ) (xs ys : List Line) (l : Local) (k v : ℕ) → k < 4064 → (s : Puts c a b xs ys l (l.x 2 + (k * 4 + 80)) v)
       → (q : ℕ) → (q ≡ l.x 2) ⊎ (l.x 2 + 16384 ≤ q) → s.next.words q ≡ l.words q
   slot_above a b xs ys l k v h s q o =
-      let off : q ≢ l.x 2 + (k * 4 + 64) = elim o as (λ _. q ≢ l.x 2 + (k * 4 + 64)) [ inl p ↦ omega arith | inr p ↦ omega arith ] in
-      ap (λ (f : ℕ → ℕ). f q) s.words ∙ changed_other l.words (l.x 2 + (k * 4 + 64)) v q off
+      let off : q ≢ l.x 2 + (k * 4 + 80) = elim o as (λ _. q ≢ l.x 2 + (k * 4 + 80)) [ inl p ↦ omega arith | inr p ↦ omega arith ] in
+      ap (λ (f : ℕ → ℕ). f q) s.words ∙ changed_other l.words (l.x 2 + (k * 4 + 80)) v q off
 
   -- a home that is a slot was stored
-  pub slot_writes : (a b : ℕ) (xs ys : List Line) (l : Local) (k v : ℕ) → k < 4064 → Puts c a b xs ys l (l.x 2 + (k * 4 + 64)) v → Writes a b xs ys l (Slot k) v
+  pub slot_writes : (a b : ℕ) (xs ys : List Line) (l : Local) (k v : ℕ) → k < 4064 → Puts c a b xs ys l (l.x 2 + (k * 4 + 80)) v → Writes a b xs ys l (Slot k) v
   slot_writes a b xs ys l k v h s =
       let frame : s.next.x 2 ≡ l.x 2 = s.other 2 (omega arith) in
       record {
         next = s.next;
-        events = Wrote (l.x 2 + (k * 4 + 64)) 4 (v % 256 ^ 4) ∷ [];
+        events = Wrote (l.x 2 + (k * 4 + 80)) 4 (v % 256 ^ 4) ∷ [];
         path = s.path;
         stores = ((omega arith, omega arith), tt);
         keeps = record { zero = s.other 0 (omega arith); frame = frame; above = slot_above a b xs ys l k v h s };
-        value = ap (λ (f : ℕ → ℕ). f (s.next.x 2 + (k * 4 + 64))) s.words ∙ changed_same l.words (l.x 2 + (k * 4 + 64)) v (s.next.x 2 + (k * 4 + 64)) (ap (λ b. b + (k * 4 + 64)) frame);
+        value = ap (λ (f : ℕ → ℕ). f (s.next.x 2 + (k * 4 + 80))) s.words ∙ changed_same l.words (l.x 2 + (k * 4 + 80)) v (s.next.x 2 + (k * 4 + 80)) (ap (λ b. b + (k * 4 + 80)) frame);
         other = slot_other a b xs ys l k v s frame;
         bytes = s.bytes;
         input = s.input;
@@ -248,7 +263,7 @@ module _ (c : Code) where
   }
 
   -- a scratch register is set before a place is written
-  pub scratch_then : (a b d e : ℕ) (xs ys zs : List Line) (l : Local) (rd w : ℕ) (t : Place) (v : ℕ) → rd < 13 → rd ≢ 0 → rd ≢ 2
+  pub scratch_then : (a b d e : ℕ) (xs ys zs : List Line) (l : Local) (rd w : ℕ) (t : Place) (v : ℕ) → rd < 8 → rd ≢ 0 → rd ≢ 2
       → (s : Sets c a b xs ys l rd w) → Writes d e ys zs s.next t v → Writes (a + d) (b + e) xs zs l t v
   scratch_then a b d e xs ys zs l rd w t v h nonzero apart s m =
       let kept = scratch_keeps a b xs ys l rd w h nonzero apart s in
@@ -274,7 +289,7 @@ module _ (c : Code) where
       (register_writes 1 1 (settle_lines (Reg k) rs rest) rest l k v h (move_sets c (register_of k) rs v rest l (omega arith) (omega (arith, i.high)) low e fits))
   settle_writes (Slot k) rs v rest l f h low apart e fits =
       slot_writes 1 3 (settle_lines (Slot k) rs rest) rest l k v h
-      (store_puts c rs 2 (k * 4 + 64) v rest l low apart (omega arith) (omega arith) (omega arith) (slot_word c l k f h) e)
+      (store_puts c rs 2 (k * 4 + 80) v rest l low apart (omega arith) (omega arith) (omega arith) (slot_word c l k f h) e)
 
   pub source_low : (t : Place) → IsPlace t → (source_of t 5 ≢ 0) × (source_of t 5 < 32)
   source_low (Reg k) h =
@@ -294,4 +309,4 @@ module _ (c : Code) where
       writes_loosened (a + 1) (b + 3) a (b + 3) xs rest l (Slot k) v (omega arith) (omega arith)
       (scratch_then a b 1 3 xs (write_lines (Slot k) 5 rest) rest l 5 v (Slot k) v (omega arith) (omega arith) (omega arith) s
       (slot_writes 1 3 (write_lines (Slot k) 5 rest) rest s.next k v h
-      (store_puts c 5 2 (k * 4 + 64) v rest s.next (omega arith) (omega arith) (omega arith) (omega arith) (omega arith) (slot_word c s.next k framed h) s.value)))
+      (store_puts c 5 2 (k * 4 + 80) v rest s.next (omega arith) (omega arith) (omega arith) (omega arith) (omega arith) (slot_word c s.next k framed h) s.value)))

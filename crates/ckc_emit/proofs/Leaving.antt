@@ -112,7 +112,7 @@ module _ (functions : List PlacedFunc) (c : Code) where
       let high = i.high in
       k (register_of j) (omega arith) (omega arith) ∙ h
   far_has l m k e (place.Slot j) w p h =
-      ap (λ (f : ℕ → ℕ). f (m.x 2 + (j * 4 + 64))) e ∙ ap (λ b. l.words (b + (j * 4 + 64))) (k 2 (omega arith) (omega arith)) ∙ h
+      ap (λ (f : ℕ → ℕ). f (m.x 2 + (j * 4 + 80))) e ∙ ap (λ b. l.words (b + (j * 4 + 80))) (k 2 (omega arith) (omega arith)) ∙ h
 
   -- a far jump leads to the block
   comes_far : (l : Local) (pc index b : ℕ) → FarAt c pc 0 (block_label functions index b) → Comes 2 2 l pc index b
@@ -214,7 +214,7 @@ module _ (functions : List PlacedFunc) (c : Code) where
               (are_waiting_kept functions c l.words k.to.words (l.x 2) s.callers k.soft.keeps.above r.callers);
         }
 
-    comes_reach : (least most b : ℕ) (block : TacBlock) → most ≤ 63 → slice_get f.code.blocks b ≡ Some block → (k : Comes least most l pc index b)
+    comes_reach : (least most b : ℕ) (block : TacBlock) → most ≤ 59 → slice_get f.code.blocks b ≡ Some block → (k : Comes least most l pc index b)
         → (1 ≤ k.count) ⊎ (measure (at_block b block) < measure s) → Reaches functions c s l pc [] (at_block b block)
     comes_reach least most b block few e k on = record {
       to = k.to;

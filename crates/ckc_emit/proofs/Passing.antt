@@ -20,22 +20,22 @@ use Rattle.ckc_emit.proofs.Homes.{IsFramed, register_is, registers_apart, AreFra
 use Rattle.ckc_emit.proofs.Tests.{some_same}
 use Rattle.ckc_emit.proofs.Relation.{written_same, written_other}
 
--- the place has the value, in a register or in the frame at x8
+-- the place has the value, in a register or in the frame at x3
 abbrev pub HasBelow : Local → Place → ℕ → Type 0
 HasBelow l (Reg k) v = l.x (register_of k) ≡ v
-HasBelow l (Slot k) v = l.words (l.x 8 + (k * 4 + 64)) ≡ v
+HasBelow l (Slot k) v = l.words (l.x 3 + (k * 4 + 80)) ≡ v
 
--- x8 is the frame below that at x2
+-- x3 is the frame below that at x2
 pub record IsBelow (l : Local) : Type 0 where
   pub framed : IsFramed l
-  pub next : l.x 8 + 16384 ≡ l.x 2
-  pub low : stack_start ≤ l.x 8
+  pub next : l.x 3 + 16384 ≡ l.x 2
+  pub low : stack_start ≤ l.x 3
 
 -- what the passing of an argument keeps
 pub record KeepsBoth (l m : Local) : Type 0 where
   pub zero : m.x 0 ≡ l.x 0
   pub frame : m.x 2 ≡ l.x 2
-  pub below : m.x 8 ≡ l.x 8
+  pub below : m.x 3 ≡ l.x 3
   pub above : (a : ℕ) → l.x 2 ≤ a → m.words a ≡ l.words a
 
 pub both_then : (l m n : Local) → KeepsBoth l m → KeepsBoth m n → KeepsBoth l n
@@ -73,7 +73,7 @@ module _ (c : Code) where
       let d = f.framed.high in
       record { aligned = omega arith; low = omega arith; high = omega arith }
 
-  to_word : (l : Local) (k : ℕ) → IsBelow l → k < 4064 → IsStackWord c (l.x 8 + (k * 4 + 64))
+  to_word : (l : Local) (k : ℕ) → IsBelow l → k < 4064 → IsStackWord c (l.x 3 + (k * 4 + 80))
   to_word l k f h =
       let a = f.framed.aligned in
       let b = f.low in
@@ -86,32 +86,32 @@ module _ (c : Code) where
     pub next : Local
     pub events : List MachineEvent
     pub path : Path c least most xs ys events l next
-    pub stores : AreFrameStores (l.x 8) events
+    pub stores : AreFrameStores (l.x 3) events
     pub keeps : KeepsBoth l next
     pub value : HasBelow next t v
     pub other : (q : Place) (w : ℕ) → IsPlace q → number_of q ≢ number_of t → HasBelow l q w → HasBelow next q w
     pub bytes : next.bytes ≡ l.bytes
     pub input : next.input ≡ l.input
 
-  register_other : (a b : ℕ) (xs ys : List Line) (l : Local) (k v : ℕ) → k < 12 → (s : Sets c a b xs ys l (register_of k) v) → s.next.x 8 ≡ l.x 8
+  register_other : (a b : ℕ) (xs ys : List Line) (l : Local) (k v : ℕ) → k < 16 → (s : Sets c a b xs ys l (register_of k) v) → s.next.x 3 ≡ l.x 3
       → (q : Place) (w : ℕ) → IsPlace q → number_of q ≢ number_of (Reg k) → HasBelow l q w → HasBelow s.next q w
-  register_other a b xs ys l k v h s eight (Reg j) w p apart e =
+  register_other a b xs ys l k v h s three (Reg j) w p apart e =
       let i = register_is j p in
       let low = i.low in
       s.other (register_of j) (registers_apart k j h p apart) (omega arith) ∙ e
-  register_other a b xs ys l k v h s eight (Slot j) w p apart e =
-      ap (λ (f : ℕ → ℕ). f (s.next.x 8 + (j * 4 + 64))) s.words ∙ ap (λ b. l.words (b + (j * 4 + 64))) eight ∙ e
+  register_other a b xs ys l k v h s three (Slot j) w p apart e =
+      ap (λ (f : ℕ → ℕ). f (s.next.x 3 + (j * 4 + 80))) s.words ∙ ap (λ b. l.words (b + (j * 4 + 80))) three ∙ e
 
-  slot_other : (l m n : Local) (k v : ℕ) → m.x 8 ≡ l.x 8 → n.x 8 ≡ l.x 8 → m.words ≡ l.words → n.words ≡ changed m.words (m.x 8 + (k * 4 + 64)) v → ((r : ℕ) → 13 ≤ r → n.x r ≡ l.x r)
+  slot_other : (l m n : Local) (k v : ℕ) → m.x 3 ≡ l.x 3 → n.x 3 ≡ l.x 3 → m.words ≡ l.words → n.words ≡ changed m.words (m.x 3 + (k * 4 + 80)) v → ((r : ℕ) → 8 ≤ r → n.x r ≡ l.x r)
       → (q : Place) (w : ℕ) → IsPlace q → number_of q ≢ number_of (Slot k) → HasBelow l q w → HasBelow n q w
   slot_other l m n k v em en ew ec regs (Reg j) w p apart e =
       let i = register_is j p in
       regs (register_of j) i.low ∙ e
   slot_other l m n k v em en ew ec regs (Slot j) w p apart e =
-      let off : j ≢ k = λ same. apart (ap (λ x. 12 + x) same) in
-      ap (λ (f : ℕ → ℕ). f (n.x 8 + (j * 4 + 64))) ec
-      ∙ changed_other m.words (m.x 8 + (k * 4 + 64)) v (n.x 8 + (j * 4 + 64)) (λ same. off (let z : n.x 8 ≡ m.x 8 = en ∙ sym em in omega arith))
-      ∙ ap (λ (f : ℕ → ℕ). f (n.x 8 + (j * 4 + 64))) ew ∙ ap (λ b. l.words (b + (j * 4 + 64))) en ∙ e
+      let off : j ≢ k = λ same. apart (ap (λ x. 16 + x) same) in
+      ap (λ (f : ℕ → ℕ). f (n.x 3 + (j * 4 + 80))) ec
+      ∙ changed_other m.words (m.x 3 + (k * 4 + 80)) v (n.x 3 + (j * 4 + 80)) (λ same. off (let z : n.x 3 ≡ m.x 3 = en ∙ sym em in omega arith))
+      ∙ ap (λ (f : ℕ → ℕ). f (n.x 3 + (j * 4 + 80))) ew ∙ ap (λ b. l.words (b + (j * 4 + 80))) en ∙ e
 
   -- one argument
   pub passes : (from to : Place) (v : ℕ) (rest : List Line) (l : Local) → IsBelow l → IsPlace from → IsPlace to → l.words (l.x 2 + offset_of from) ≡ v → v < 2 ^ 32
@@ -123,7 +123,7 @@ module _ (c : Code) where
       let o = offset_low from hf in
       let small = o.0 in
       let s = load_sets c (register_of k) 2 (offset_of from) v rest l (omega arith) (omega arith) (omega arith) (omega arith) (omega arith) (from_word l from f hf) e fits in
-      let eight = s.other 8 (omega arith) (omega arith) in
+      let three = s.other 3 (omega arith) (omega arith) in
       record {
         next = s.next;
         events = [];
@@ -132,24 +132,24 @@ module _ (c : Code) where
         keeps = record {
           zero = s.other 0 (omega arith) (omega arith);
           frame = s.other 2 (omega arith) (omega arith);
-          below = eight;
+          below = three;
           above = λ a h. ap (λ (g : ℕ → ℕ). g a) s.words;
         };
         value = s.value;
-        other = register_other 1 3 (argument_lines from (Reg k) rest) rest l k v ht s eight;
+        other = register_other 1 3 (argument_lines from (Reg k) rest) rest l k v ht s three;
         bytes = s.bytes;
         input = s.input;
       }
   passes from (Slot k) v rest l f hf ht e fits =
       let o = offset_low from hf in
       let small = o.0 in
-      let mid = store_lines 5 8 (k * 4 + 64) rest in
+      let mid = store_lines 5 3 (k * 4 + 80) rest in
       let s = load_sets c 5 2 (offset_of from) v mid l (omega arith) (omega arith) (omega arith) (omega arith) (omega arith) (from_word l from f hf) e fits in
-      let kept : KeepsBoth l s.next = record { zero = s.other 0 (omega arith) (omega arith); frame = s.other 2 (omega arith) (omega arith); below = s.other 8 (omega arith) (omega arith); above = λ a h. ap (λ (g : ℕ → ℕ). g a) s.words } in
+      let kept : KeepsBoth l s.next = record { zero = s.other 0 (omega arith) (omega arith); frame = s.other 2 (omega arith) (omega arith); below = s.other 3 (omega arith) (omega arith); above = λ a h. ap (λ (g : ℕ → ℕ). g a) s.words } in
       let after = below_kept l s.next f kept in
-      let t = store_puts c 5 8 (k * 4 + 64) v rest s.next (omega arith) (omega arith) (omega arith) (omega arith) (omega arith) (to_word s.next k after ht) s.value in
-      let w = s.next.x 8 + (k * 4 + 64) in
-      let eight : t.next.x 8 ≡ s.next.x 8 = t.other 8 (omega arith) in
+      let t = store_puts c 5 3 (k * 4 + 80) v rest s.next (omega arith) (omega arith) (omega arith) (omega arith) (omega arith) (to_word s.next k after ht) s.value in
+      let w = s.next.x 3 + (k * 4 + 80) in
+      let three : t.next.x 3 ≡ s.next.x 3 = t.other 3 (omega arith) in
       let up = after.next in
       record {
         next = t.next;
@@ -160,11 +160,11 @@ module _ (c : Code) where
         keeps = both_then l s.next t.next kept (record {
           zero = t.other 0 (omega arith);
           frame = t.other 2 (omega arith);
-          below = eight;
+          below = three;
           above = λ a h. ap (λ (g : ℕ → ℕ). g a) t.words ∙ changed_other s.next.words w v a (omega arith);
         });
-        value = ap (λ (g : ℕ → ℕ). g (t.next.x 8 + (k * 4 + 64))) t.words ∙ changed_same s.next.words w v (t.next.x 8 + (k * 4 + 64)) (ap (λ b. b + (k * 4 + 64)) eight);
-        other = slot_other l s.next t.next k v kept.below (eight ∙ kept.below) s.words t.words (λ r h. t.other r (omega arith) ∙ s.other r (omega arith) (omega arith));
+        value = ap (λ (g : ℕ → ℕ). g (t.next.x 3 + (k * 4 + 80))) t.words ∙ changed_same s.next.words w v (t.next.x 3 + (k * 4 + 80)) (ap (λ b. b + (k * 4 + 80)) three);
+        other = slot_other l s.next t.next k v kept.below (three ∙ kept.below) s.words t.words (λ r h. t.other r (omega arith) ∙ s.other r (omega arith) (omega arith));
         bytes = t.bytes ∙ s.bytes;
         input = t.input ∙ s.input;
       }
@@ -184,7 +184,7 @@ module _ (c : Code) where
     pub next : Local
     pub events : List MachineEvent
     pub path : Path c 0 (count * 6) xs ys events l next
-    pub stores : AreFrameStores (l.x 8) events
+    pub stores : AreFrameStores (l.x 3) events
     pub keeps : KeepsBoth l next
     pub has : (q : Place) (w : ℕ) → IsPlace q → entry_places params k values (number_of q) ≡ Some w → HasBelow next q w
     pub word : (q : Place) (w : ℕ) → IsPlace q → entry_places params k values (number_of q) ≡ Some w → w < 2 ^ 32
@@ -253,7 +253,7 @@ module _ (c : Code) where
         events = t.events ++ s.events;
         path = loosened c (0 + 1) (length rs * 6 + 6) 0 (suc (length rs) * 6) (arguments_lines homes (r ∷ rs) k params rest) rest (t.events ++ s.events) l s.next (omega arith) (omega arith)
             (followed c 0 (length rs * 6) 1 6 (arguments_lines homes (r ∷ rs) k params rest) mid rest t.events s.events l t.next s.next t.path s.path);
-        stores = stores_join (l.x 8) t.events s.events t.stores (subst (λ b. AreFrameStores b s.events) t.keeps.below s.stores);
+        stores = stores_join (l.x 3) t.events s.events t.stores (subst (λ b. AreFrameStores b s.events) t.keeps.below s.stores);
         keeps = both_then l t.next s.next t.keeps s.keeps;
         has = λ q w i e.
             let g : with_written (entry_places params (k + 1) vs) (number_of to) v (number_of q) ≡ Some w =

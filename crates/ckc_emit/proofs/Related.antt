@@ -99,10 +99,10 @@ measure s = if is_passing_block s.frame.ops s.frame.end then 1 else 0
 
 -- how many instructions a step may take, beside those before its own
 abbrev pub most : State → ℕ
-most s = 63 + 80 * extra_steps s.frame.ops
+most s = 59 + 80 * extra_steps s.frame.ops
 
 abbrev pub near : ℕ
-near = 17
+near = 21
 
 abbrev pub Beside : State → machine.State → Type 0
 Beside s t = Unit {0}

@@ -111,7 +111,7 @@ module _ (c : Code) where
   pub record ComesBack (xs ys : List Line) (l : Local) (base : ℕ) (places : Values) : Type 0 where
     next : Local
     events : List MachineEvent
-    path : Path c 0 17 xs ys events l next
+    path : Path c 0 21 xs ys events l next
     stores : AreFrameStores base events
     framed : IsFramed next
     frame : next.x 2 ≡ base
@@ -123,7 +123,7 @@ module _ (c : Code) where
   -- registers restored, the result in x10
   record Restored (xs ys : List Line) (l : Local) (base v : ℕ) (places : Values) : Type 0 where
     next : Local
-    path : Path c 0 14 xs ys [] l next
+    path : Path c 0 18 xs ys [] l next
     framed : IsFramed next
     frame : next.x 2 ≡ base
     ten : next.x 10 ≡ v
@@ -136,43 +136,43 @@ module _ (c : Code) where
   record IsKept (words : ℕ → ℕ) (base : ℕ) (places : Values) (test : ℕ → Bool) : Type 0 where
     saved : (q : Place) (w : ℕ) → IsPlace q → places (number_of q) ≡ Some w → words (base + offset_of q) ≡ w
     word : (q : Place) (w : ℕ) → IsPlace q → places (number_of q) ≡ Some w → w < 2 ^ 32
-    tested : (k w : ℕ) → k < 12 → places k ≡ Some w → test k ≡ true
+    tested : (k w : ℕ) → k < 16 → places k ≡ Some w → test k ≡ true
 
-  restored_has : (l : Local) (base : ℕ) (places : Values) (test : ℕ → Bool) (xs ys : List Line) → l.x 2 ≡ base → IsKept l.words base places test → (t : Restores c test 12 0 xs ys l)
+  restored_has : (l : Local) (base : ℕ) (places : Values) (test : ℕ → Bool) (xs ys : List Line) → l.x 2 ≡ base → IsKept l.words base places test → (t : Restores c test 16 0 xs ys l)
       → (q : Place) (w : ℕ) → IsPlace q → places (number_of q) ≡ Some w → HasValue t.next q w
   restored_has l base places test xs ys e kept t (place.Reg k) w h v =
       t.value k (omega arith) (omega arith) (kept.tested k w h v) ∙ ap (λ x. x % 2 ^ 32) (ap (λ b. l.words (b + (k * 4 + 16))) e ∙ kept.saved (place.Reg k) w h v) ∙ small_part w (kept.word (place.Reg k) w h v)
   restored_has l base places test xs ys e kept t (place.Slot k) w h v =
-      ap (λ (f : ℕ → ℕ). f (t.next.x 2 + (k * 4 + 64))) t.words ∙ ap (λ b. l.words (b + (k * 4 + 64))) (t.other 2 (low_apart c 12 0 2 (omega arith) (omega arith)) (omega arith) ∙ e) ∙ kept.saved (place.Slot k) w h v
+      ap (λ (f : ℕ → ℕ). f (t.next.x 2 + (k * 4 + 80))) t.words ∙ ap (λ b. l.words (b + (k * 4 + 80))) (t.other 2 (low_apart c 16 0 2 (omega arith) (inl (omega arith))) (omega arith) ∙ e) ∙ kept.saved (place.Slot k) w h v
 
   restored_by : (xs ys zs : List Line) (l m : Local) (base v : ℕ) (places : Values) (test : ℕ → Bool) → Path c 2 2 xs ys [] l m → IsFramed m → m.x 2 ≡ base → m.x 10 ≡ v
-      → m.words ≡ l.words → m.bytes ≡ l.bytes → m.input ≡ l.input → IsKept l.words base places test → Restores c test 12 0 ys zs m → Restored xs zs l base v places
+      → m.words ≡ l.words → m.bytes ≡ l.bytes → m.input ≡ l.input → IsKept l.words base places test → Restores c test 16 0 ys zs m → Restored xs zs l base v places
   restored_by xs ys zs l m base v places test path f e ten words bytes input kept t =
       let kept_m : IsKept m.words base places test = subst (λ (w : ℕ → ℕ). IsKept w base places test) (sym words) kept in
-      let two : t.next.x 2 ≡ m.x 2 = t.other 2 (low_apart c 12 0 2 (omega arith) (omega arith)) (omega arith) in
+      let two : t.next.x 2 ≡ m.x 2 = t.other 2 (low_apart c 16 0 2 (omega arith) (inl (omega arith))) (omega arith) in
       record {
         next = t.next;
-        path = loosened c (2 + 0) (2 + 12) 0 14 xs zs [] l t.next (omega arith) (omega arith) (followed c 2 2 0 12 xs ys zs [] [] l m t.next path t.path);
-        framed = framed_same c m t.next (t.other 0 (low_apart c 12 0 0 (omega arith) (omega arith)) (omega arith)) two f;
+        path = loosened c (2 + 0) (2 + 16) 0 18 xs zs [] l t.next (omega arith) (omega arith) (followed c 2 2 0 16 xs ys zs [] [] l m t.next path t.path);
+        framed = framed_same c m t.next (t.other 0 (low_apart c 16 0 0 (omega arith) (inl (omega arith))) (omega arith)) two f;
         frame = two ∙ e;
-        ten = t.other 10 (low_apart c 12 0 10 (omega arith) (omega arith)) (omega arith) ∙ ten;
+        ten = t.other 10 (low_apart c 16 0 10 (omega arith) (inr refl)) (omega arith) ∙ ten;
         has = record { has = restored_has m base places test ys zs e kept_m t; word = kept.word };
         words = t.words ∙ words;
         bytes = t.bytes ∙ bytes;
         input = t.input ∙ input;
       }
 
-  raised : (l : Local) (below base : ℕ) (ys : List Line) → l.x 2 ≡ below → l.x 8 ≡ 4 * 2 ^ 12 → below + 16384 ≡ base → base < 2 ^ 32 → Sets c 1 1 (Plain (Reg Add 2 2 8) ∷ ys) ys l 2 base
+  raised : (l : Local) (below base : ℕ) (ys : List Line) → l.x 2 ≡ below → l.x 3 ≡ 4 * 2 ^ 12 → below + 16384 ≡ base → base < 2 ^ 32 → Sets c 1 1 (Plain (Reg Add 2 2 3) ∷ ys) ys l 2 base
   raised l below base ys e f under small =
-      sets_value c 1 1 (Plain (Reg Add 2 2 8) ∷ ys) ys l 2 ((l.x 2 + l.x 8) % 2 ^ 32) base (omega arith)
-      (set_by c (Reg Add 2 2 8) ys l 2 ((l.x 2 + l.x 8) % 2 ^ 32) (omega arith) (λ pc at. reg_step c.parts l pc Add 2 2 8 at (omega arith) (omega arith) (omega arith)))
+      sets_value c 1 1 (Plain (Reg Add 2 2 3) ∷ ys) ys l 2 ((l.x 2 + l.x 3) % 2 ^ 32) base (omega arith)
+      (set_by c (Reg Add 2 2 3) ys l 2 ((l.x 2 + l.x 3) % 2 ^ 32) (omega arith) (λ pc at. reg_step c.parts l pc Add 2 2 3 at (omega arith) (omega arith) (omega arith)))
 
   restored : (test : ℕ → Bool) (zs : List Line) (l : Local) (below base v : ℕ) (places : Values) → l.x 0 ≡ 0 → l.x 2 ≡ below → below + 16384 ≡ base → below % 4 ≡ 0 → stack_start ≤ below → base + 16384 ≤ memory_end → l.x 10 ≡ v
-      → IsKept l.words base places test → Restored (Plain (Lui 8 4) ∷ Plain (Reg Add 2 2 8) ∷ restores_lines test 12 0 zs) zs l base v places
+      → IsKept l.words base places test → Restored (Plain (Lui 3 4) ∷ Plain (Reg Add 2 2 3) ∷ restores_lines test 16 0 zs) zs l base v places
   restored test zs l below base v places z e under aligned low high ten kept =
-      let ys = restores_lines test 12 0 zs in
-      let y2 = Plain (Reg Add 2 2 8) ∷ ys in
-      let t1 = lui_sets c 8 4 y2 l (omega arith) (omega arith) in
+      let ys = restores_lines test 16 0 zs in
+      let y2 = Plain (Reg Add 2 2 3) ∷ ys in
+      let t1 = lui_sets c 3 4 y2 l (omega arith) (omega arith) in
       let t2 = raised t1.next below base ys (t1.other 2 (omega arith) (omega arith) ∙ e) t1.value under (omega arith) in
       let f : IsFramed t2.next = record {
         zero = t2.other 0 (omega arith) (omega arith) ∙ t1.other 0 (omega arith) (omega arith) ∙ z;
@@ -180,17 +180,17 @@ module _ (c : Code) where
         low = subst (λ b. stack_start ≤ b) (sym t2.value) (let a : stack_start ≤ base = omega arith in a);
         high = subst (λ b. b + 16384 ≤ memory_end) (sym t2.value) high;
       } in
-      restored_by (Plain (Lui 8 4) ∷ y2) ys zs l t2.next base v places test
-      (followed c 1 1 1 1 (Plain (Lui 8 4) ∷ y2) y2 ys [] [] l t1.next t2.next t1.path t2.path) f t2.value
+      restored_by (Plain (Lui 3 4) ∷ y2) ys zs l t2.next base v places test
+      (followed c 1 1 1 1 (Plain (Lui 3 4) ∷ y2) y2 ys [] [] l t1.next t2.next t1.path t2.path) f t2.value
       (t2.other 10 (omega arith) (omega arith) ∙ t1.other 10 (omega arith) (omega arith) ∙ ten) (t2.words ∙ t1.words) (t2.bytes ∙ t1.bytes) (t2.input ∙ t1.input) kept
-      (restores c test 12 0 zs t2.next (omega arith) f)
+      (restores c test 16 0 zs t2.next (omega arith) f)
 
   comes_back : (homes : List Place) (target : Option ℕ) (xs rest : List Line) (l : Local) (base v : ℕ) (places : Values) → All IsPlace homes → IfSome target (λ t. t < length homes) → v < 2 ^ 32
       → Restored xs (result_lines homes target rest) l base v places → ComesBack xs rest l base (with_result_at homes places target v)
   comes_back homes None xs rest l base v places good over fits s = record {
     next = s.next;
     events = [];
-    path = loosened c 0 14 0 17 xs rest [] l s.next (omega arith) (omega arith) s.path;
+    path = loosened c 0 18 0 21 xs rest [] l s.next (omega arith) (omega arith) s.path;
     stores = tt;
     framed = s.framed;
     frame = s.frame;
@@ -209,7 +209,7 @@ module _ (c : Code) where
       record {
         next = w.next;
         events = w.events;
-        path = loosened c (0 + 1) (14 + 3) 0 17 xs rest w.events l w.next (omega arith) (omega arith) (followed c 0 14 1 3 xs y rest [] w.events l s.next w.next s.path w.path);
+        path = loosened c (0 + 1) (18 + 3) 0 21 xs rest w.events l w.next (omega arith) (omega arith) (followed c 0 18 1 3 xs y rest [] w.events l s.next w.next s.path w.path);
         stores = subst (λ b. AreFrameStores b w.events) s.frame w.stores;
         framed = framed_kept s.next w.next s.framed w.keeps;
         frame = w.keeps.frame ∙ s.frame;
@@ -222,7 +222,7 @@ module _ (c : Code) where
 -- ---- the simulation
 
 module _ (c : Code) where
-  back_aligned : (link : ℕ) (rest : List Line) → LinesAt c link (Plain (Lui 8 4) ∷ rest) → link % 4 ≡ 0
+  back_aligned : (link : ℕ) (rest : List Line) → LinesAt c link (Plain (Lui 3 4) ∷ rest) → link % 4 ≡ 0
   back_aligned link rest at = at.0.aligned
 
   -- the end asks with constant_lines 17 0, one ADDI
@@ -347,7 +347,7 @@ module _ (functions : List PlacedFunc) (c : Code) (main : ℕ) (whole : IsWhole 
 
     returns_to : Simulated functions c s (state_of c.parts l pc) (Goes (Returned ∷ []) next)
     returns_to =
-        let k = leaves_for v link e refl w.short (back_aligned c link (Plain (Reg Add 2 2 8) ∷ restores_lines test 12 0 (result_lines g.homes caller.target rest)) w.back) in
+        let k = leaves_for v link e refl w.short (back_aligned c link (Plain (Reg Add 2 2 3) ∷ restores_lines test 16 0 (result_lines g.homes caller.target rest)) w.back) in
         let b = comes k.next k.zero_is k.two k.ten k.words in
         let lead = b.path.leads link w.back in
         let low = r.framed.low in

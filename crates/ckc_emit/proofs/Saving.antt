@@ -1,5 +1,5 @@
 -- Registers that are restored from the frame, and saved there.
-use Rattle.std.proofs.Common.{◌≡◌, ◌≢◌, inl, inr, ℕ, zero, suc, ◌+◌, ◌*◌, ◌%◌, ◌^◌, ◌≤◌, ◌<◌, if◌then◌else◌, Bool, true, false, List, [], ◌∷◌, refl, sym, ap, subst, ◌∙◌, arith}
+use Rattle.std.proofs.Common.{◌≡◌, ◌≢◌, ◌⊎◌, inl, inr, ℕ, zero, suc, ◌+◌, ◌*◌, ◌%◌, ◌^◌, ◌≤◌, ◌<◌, if◌then◌else◌, Bool, true, false, List, [], ◌∷◌, refl, sym, ap, subst, ◌∙◌, arith}
 use Rattle.std.proofs.lemmas.Bool.{cases_eq}
 use Rattle.ckc_rv.specs.Machine.{stack_start, memory_end}
 use Rattle.ckc_rv.specs.Detailed.{MachineEvent, Wrote}
@@ -16,7 +16,7 @@ abbrev pub register_word : Local → ℕ → ℕ
 register_word l k = l.x 2 + (k * 4 + 16)
 
 module _ (c : Code) where
-  stack_word : (l : Local) (k : ℕ) → IsFramed l → k < 12 → IsStackWord c (register_word l k)
+  stack_word : (l : Local) (k : ℕ) → IsFramed l → k < 16 → IsStackWord c (register_word l k)
   stack_word l k f h =
       let a = f.aligned in
       let b = f.low in
@@ -33,10 +33,14 @@ module _ (c : Code) where
     pub words : next.words ≡ l.words
     pub input : next.input ≡ l.input
 
-  pub low_apart : (count k r : ℕ) → k + count ≤ 12 → r < 13 → (j : ℕ) → k ≤ j → j < k + count → r ≢ register_of j
-  low_apart count k r few h j from below =
+  pub low_apart : (count k r : ℕ) → k + count ≤ 16 → (r < 8) ⊎ (r ≡ 10) → (j : ℕ) → k ≤ j → j < k + count → r ≢ register_of j
+  low_apart count k r few (inl h) j from below =
       let i = register_is j (omega arith) in
       let low = i.low in
+      omega arith
+  low_apart count k r few (inr h) j from below =
+      let i = register_is j (omega arith) in
+      let ten = i.ten in
       omega arith
 
   pub framed_same : (l m : Local) → m.x 0 ≡ l.x 0 → m.x 2 ≡ l.x 2 → IsFramed l → IsFramed m
@@ -51,7 +55,7 @@ module _ (c : Code) where
   abbrev Later : (ℕ → Bool) → ℕ → ℕ → List Line → Type 0
   Later test count k rest = (m : Local) → IsFramed m → Restores test count k (restores_lines test count k rest) rest m
 
-  restores_next : (test : ℕ → Bool) (count k : ℕ) (rest : List Line) (l : Local) → k + suc count ≤ 12 → IsFramed l
+  restores_next : (test : ℕ → Bool) (count k : ℕ) (rest : List Line) (l : Local) → k + suc count ≤ 16 → IsFramed l
       → (b : Bool) → test k ≡ b → Later test count (k + 1) rest
       → Restores test (suc count) k (if b then load_lines (register_of k) 2 (k * 4 + 16) (restores_lines test count (k + 1) rest) else restores_lines test count (k + 1) rest) rest l
   restores_next test count k rest l few f false e later =
@@ -95,7 +99,7 @@ module _ (c : Code) where
         input = t.input ∙ s.input;
       }
 
-  pub restores : (test : ℕ → Bool) (count k : ℕ) (rest : List Line) (l : Local) → k + count ≤ 12 → IsFramed l → Restores test count k (restores_lines test count k rest) rest l
+  pub restores : (test : ℕ → Bool) (count k : ℕ) (rest : List Line) (l : Local) → k + count ≤ 16 → IsFramed l → Restores test count k (restores_lines test count k rest) rest l
   unfolding each_lines
   restores test zero k rest l few f = record {
     next = l;
@@ -127,7 +131,7 @@ module _ (c : Code) where
   abbrev LaterSaves : (ℕ → Bool) → ℕ → ℕ → List Line → Type 0
   LaterSaves test count k rest = (m : Local) → IsFramed m → Saves test count k (saves_lines test count k rest) rest m
 
-  saves_next : (test : ℕ → Bool) (count k : ℕ) (rest : List Line) (l : Local) → k + suc count ≤ 12 → IsFramed l → (b : Bool) → test k ≡ b → LaterSaves test count (k + 1) rest
+  saves_next : (test : ℕ → Bool) (count k : ℕ) (rest : List Line) (l : Local) → k + suc count ≤ 16 → IsFramed l → (b : Bool) → test k ≡ b → LaterSaves test count (k + 1) rest
       → Saves test (suc count) k (if b then store_lines (register_of k) 2 (k * 4 + 16) (saves_lines test count (k + 1) rest) else saves_lines test count (k + 1) rest) rest l
   saves_next test count k rest l few f false e later =
       let t = later l f in
@@ -180,7 +184,7 @@ module _ (c : Code) where
         input = t.input ∙ s.input;
       }
 
-  pub saves : (test : ℕ → Bool) (count k : ℕ) (rest : List Line) (l : Local) → k + count ≤ 12 → IsFramed l → Saves test count k (saves_lines test count k rest) rest l
+  pub saves : (test : ℕ → Bool) (count k : ℕ) (rest : List Line) (l : Local) → k + count ≤ 16 → IsFramed l → Saves test count k (saves_lines test count k rest) rest l
   unfolding each_lines
   saves test zero k rest l few f = record {
     next = l;

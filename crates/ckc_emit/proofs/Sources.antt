@@ -49,10 +49,10 @@ module _ (c : Code) where
     input = refl;
   }
   read_place (Slot k) scratch v rest l f h e fits nonzero low =
-      let s = load_sets c scratch 2 (k * 4 + 64) v rest l nonzero low (omega arith) (omega arith) (omega arith) (slot_word c l k f h) e fits in
+      let s = load_sets c scratch 2 (k * 4 + 80) v rest l nonzero low (omega arith) (omega arith) (omega arith) (slot_word c l k f h) e fits in
       record {
         next = s.next;
-        path = loosened c 1 3 0 3 (load_lines scratch 2 (k * 4 + 64) rest) rest [] l s.next (omega arith) (omega arith) s.path;
+        path = loosened c 1 3 0 3 (load_lines scratch 2 (k * 4 + 80) rest) rest [] l s.next (omega arith) (omega arith) s.path;
         value = s.value;
         other = s.other;
         bytes = s.bytes;
@@ -60,17 +60,17 @@ module _ (c : Code) where
         input = s.input;
       }
 
-  pub read_keeps : (a b : ℕ) (xs ys : List Line) (l : Local) (scratch r v : ℕ) → scratch < 13 → scratch ≢ 0 → scratch ≢ 2 → (s : Reads a b xs ys l scratch r v) → Keeps l s.next
+  pub read_keeps : (a b : ℕ) (xs ys : List Line) (l : Local) (scratch r v : ℕ) → scratch < 8 → scratch ≢ 0 → scratch ≢ 2 → (s : Reads a b xs ys l scratch r v) → Keeps l s.next
   read_keeps a b xs ys l scratch r v h nonzero apart s = record {
     zero = s.other 0 (λ e. nonzero (sym e)) (omega arith);
     frame = s.other 2 (λ e. apart (sym e)) (omega arith);
     above = λ q o. ap (λ (f : ℕ → ℕ). f q) s.words;
   }
 
-  pub read_has : (a b : ℕ) (xs ys : List Line) (l : Local) (scratch r v : ℕ) → scratch < 13 → scratch ≢ 2 → (s : Reads a b xs ys l scratch r v) → (q : Place) (w : ℕ) → IsPlace q → HasValue l q w → HasValue s.next q w
+  pub read_has : (a b : ℕ) (xs ys : List Line) (l : Local) (scratch r v : ℕ) → scratch < 8 → scratch ≢ 2 → (s : Reads a b xs ys l scratch r v) → (q : Place) (w : ℕ) → IsPlace q → HasValue l q w → HasValue s.next q w
   read_has a b xs ys l scratch r v h apart s (Reg k) w p e =
       let i = register_is k p in
       let low = i.low in
       s.other (register_of k) (omega arith) (omega arith) ∙ e
   read_has a b xs ys l scratch r v h apart s (Slot k) w p e =
-      ap (λ (f : ℕ → ℕ). f (s.next.x 2 + (k * 4 + 64))) s.words ∙ ap (λ b. l.words (b + (k * 4 + 64))) (s.other 2 (λ q. apart (sym q)) (omega arith)) ∙ e
+      ap (λ (f : ℕ → ℕ). f (s.next.x 2 + (k * 4 + 80))) s.words ∙ ap (λ b. l.words (b + (k * 4 + 80))) (s.other 2 (λ q. apart (sym q)) (omega arith)) ∙ e

@@ -31,13 +31,13 @@ pub fn put_alloc(
     put_settle(out, t, 10)
 }
 
-/// Leads past the claim, with x10 zero, if x5 elements of x6 bytes do not fit; else x11 is the heap word.
+/// Leads past the claim, with x10 zero, if x5 elements of x6 bytes do not fit; else x4 is the heap word.
 fn put_room(out: &mut Vec<Line>) -> Result<(), AllocError>
     ensures { OnOk result (Emits out.old.items out.new.items room_lines) }
 {
-    put(out, Instr::Lui(8, 0x2000))?;
-    put(out, Instr::Load(LoadOp::Lw, 11, 8, 0))?;
-    put(out, Instr::Lui(12, 0x3000))?;
+    put(out, Instr::Lui(3, 0x2000))?;
+    put(out, Instr::Load(LoadOp::Lw, 4, 3, 0))?;
+    put(out, Instr::Lui(1, 0x3000))?;
     put_tests(out)
 }
 
@@ -46,20 +46,20 @@ fn put_tests(out: &mut Vec<Line>) -> Result<(), AllocError>
 {
     put(out, Instr::Imm(ImmOp::Addi, 10, 0, 0))?;
     put(out, Instr::Branch(BranchOp::Bge, 0, 5, 48))?;
-    put(out, Instr::Branch(BranchOp::Bltu, 12, 11, 44))?;
-    put(out, Instr::Reg(RegOp::Sub, 12, 12, 11))?;
-    put(out, Instr::Reg(RegOp::Divu, 12, 12, 6))?;
-    put(out, Instr::Branch(BranchOp::Bltu, 12, 5, 32))
+    put(out, Instr::Branch(BranchOp::Bltu, 1, 4, 44))?;
+    put(out, Instr::Reg(RegOp::Sub, 1, 1, 4))?;
+    put(out, Instr::Reg(RegOp::Divu, 1, 1, 6))?;
+    put(out, Instr::Branch(BranchOp::Bltu, 1, 5, 32))
 }
 
-/// The block at the heap word in x11: x10 is its place, and the heap word is moved to the least multiple of 8 that is
+/// The block at the heap word in x4: x10 is its place, and the heap word is moved to the least multiple of 8 that is
 /// at least 8 past its end.
 fn put_claim(out: &mut Vec<Line>) -> Result<(), AllocError>
     ensures { OnOk result (Emits out.old.items out.new.items claim_lines) }
 {
-    put(out, Instr::Imm(ImmOp::Addi, 10, 11, 0))?;
+    put(out, Instr::Imm(ImmOp::Addi, 10, 4, 0))?;
     put(out, Instr::Reg(RegOp::Mul, 5, 5, 6))?;
-    put(out, Instr::Reg(RegOp::Add, 5, 5, 11))?;
+    put(out, Instr::Reg(RegOp::Add, 5, 5, 4))?;
     put(out, Instr::Imm(ImmOp::Addi, 5, 5, 15))?;
     put_rounded(out)
 }
@@ -69,5 +69,5 @@ fn put_rounded(out: &mut Vec<Line>) -> Result<(), AllocError>
 {
     put(out, Instr::Imm(ImmOp::Srli, 5, 5, 3))?;
     put(out, Instr::Imm(ImmOp::Slli, 5, 5, 3))?;
-    put(out, Instr::Store(StoreOp::Sw, 8, 5, 0))
+    put(out, Instr::Store(StoreOp::Sw, 3, 5, 0))
 }

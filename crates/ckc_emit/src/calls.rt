@@ -14,12 +14,12 @@ use ckc_frame::Place;
 use ckc_rv::{BranchOp, Instr, RegOp};
 use std::alloc::AllocError;
 
-const FRAME: u8 = 8;
+const FRAME: u8 = 3;
 
 /// Marks the register of a place, if it is one.
-fn mark(found: &mut [bool; 12], place: Place)
+fn mark(found: &mut [bool; 16], place: Place)
     requires { IsPlace place }
-    ensures { (k : ℕ) → k < 12 → slice_index_or found.new k false
+    ensures { (k : ℕ) → k < 16 → slice_index_or found.new k false
         ≡ (slice_index_or found.old k false || number_of place == k) }
 {
     if let Place::Reg(k) = place {
@@ -27,12 +27,12 @@ fn mark(found: &mut [bool; 12], place: Place)
     }
 }
 
-/// Which of the twelve registers are homes of registers that a row marks.
-fn kept_homes(homes: &[Place], row: &[bool]) -> [bool; 12]
+/// Which of the sixteen registers are homes of registers that a row marks.
+fn kept_homes(homes: &[Place], row: &[bool]) -> [bool; 16]
     requires { All IsPlace homes.now }
-    ensures { (k : ℕ) → k < 12 → slice_index_or result k false ≡ is_kept_home k homes.now row.now }
+    ensures { (k : ℕ) → k < 16 → slice_index_or result k false ≡ is_kept_home k homes.now row.now }
 {
-    let mut found = [false; 12];
+    let mut found = [false; 16];
     for (place, marked) in homes.iter().zip(row) {
         if *marked {
             mark(&mut found, *place);
@@ -42,10 +42,10 @@ fn kept_homes(homes: &[Place], row: &[bool]) -> [bool; 12]
 }
 
 /// The same registers, and those that are homes of arguments.
-fn saved_homes(kept: &[bool; 12], homes: &[Place], args: &[u32]) -> [bool; 12]
+fn saved_homes(kept: &[bool; 16], homes: &[Place], args: &[u32]) -> [bool; 16]
     requires places { All IsPlace homes.now }
     requires within { All (λ r. r < length homes.now) args.now }
-    ensures { (k : ℕ) → k < 12 → slice_index_or result k false
+    ensures { (k : ℕ) → k < 16 → slice_index_or result k false
         ≡ (slice_index_or kept.now k false || is_argument_home k homes.now args.now) }
 {
     let mut found = *kept;
@@ -55,7 +55,7 @@ fn saved_homes(kept: &[bool; 12], homes: &[Place], args: &[u32]) -> [bool; 12]
     found
 }
 
-/// Stops unless a frame more fits, and sets x8 to it.
+/// Stops unless a frame more fits, and sets x3 to it.
 fn put_depth(out: &mut Vec<Line>, at: Pos) -> Result<(), AllocError>
     ensures { OnOk result (Emits out.old.items out.new.items (depth_lines at)) }
 {

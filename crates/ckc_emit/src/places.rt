@@ -38,7 +38,7 @@ pub fn offset(place: Place) -> u32
 {
     match place {
         Place::Reg(k) => u32::from(k) * 4 + 16,
-        Place::Slot(k) => u32::from(k) * 4 + 64,
+        Place::Slot(k) => u32::from(k) * 4 + 80,
     }
 }
 

@@ -7,22 +7,28 @@ use crate::templates::{SP, put_load, put_store};
 use ckc_asm_lines::Line;
 use std::alloc::AllocError;
 
-/// The register of the machine for a register of placed code: x13 to x25 without x17.
+/// The register of the machine for a register of placed code: x8 to x25 without x10 and x17.
 pub fn register(k: u8) -> u8
-    requires { k < 12 }
+    requires { k < 16 }
     ensures { result ≡ register_of k }
 {
-    if k < 4 { k + 13 } else { k + 14 }
+    if k < 2 {
+        k + 8
+    } else if k < 8 {
+        k + 9
+    } else {
+        k + 10
+    }
 }
 
 /// Saves a register in the frame if it is marked, or restores it from there.
 fn put_kept(
     out: &mut Vec<Line>,
     restores: bool,
-    marked: &[bool; 12],
+    marked: &[bool; 16],
     k: u8,
 ) -> Result<(), AllocError>
-    requires { k < 12 }
+    requires { k < 16 }
     ensures { OnOk result
         (Emits out.old.items out.new.items
         (kept_lines restores (slice_index_or marked.now k false) k)) }
@@ -37,31 +43,31 @@ fn put_kept(
 }
 
 /// Saves the registers that are marked in the frame, or restores them from there.
-fn put_each(out: &mut Vec<Line>, restores: bool, marked: &[bool; 12]) -> Result<(), AllocError>
+fn put_each(out: &mut Vec<Line>, restores: bool, marked: &[bool; 16]) -> Result<(), AllocError>
     ensures { OnOk result
         (Emits out.old.items out.new.items
-        (each_lines (kept_lines restores) (λ k. slice_index_or marked.now k false) 12 0)) }
+        (each_lines (kept_lines restores) (λ k. slice_index_or marked.now k false) 16 0)) }
 {
-    for k in 0..12u8 {
+    for k in 0..16u8 {
         put_kept(out, restores, marked, k)?;
     }
     Ok(())
 }
 
 /// Saves the registers that are marked in the frame.
-pub fn put_saves(out: &mut Vec<Line>, marked: &[bool; 12]) -> Result<(), AllocError>
+pub fn put_saves(out: &mut Vec<Line>, marked: &[bool; 16]) -> Result<(), AllocError>
     ensures { OnOk result
         (Emits out.old.items out.new.items
-        (saves_lines (λ k. slice_index_or marked.now k false) 12 0)) }
+        (saves_lines (λ k. slice_index_or marked.now k false) 16 0)) }
 {
     put_each(out, false, marked)
 }
 
 /// Restores the registers that are marked from the frame.
-pub fn put_restores(out: &mut Vec<Line>, marked: &[bool; 12]) -> Result<(), AllocError>
+pub fn put_restores(out: &mut Vec<Line>, marked: &[bool; 16]) -> Result<(), AllocError>
     ensures { OnOk result
         (Emits out.old.items out.new.items
-        (restores_lines (λ k. slice_index_or marked.now k false) 12 0)) }
+        (restores_lines (λ k. slice_index_or marked.now k false) 16 0)) }
 {
     put_each(out, true, marked)
 }

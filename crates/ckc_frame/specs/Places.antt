@@ -5,7 +5,7 @@ use Rattle.ckc_frame.specs.declared.code.Place.{Place}
 use Rattle.ckc_frame.specs.declared.code.Place.TheVariants.{Reg, Slot}
 
 abbrev pub register_count : ℕ
-register_count = 12
+register_count = 16
 
 abbrev pub slot_count : ℕ
 slot_count = 4064

@@ -1,7 +1,7 @@
 use ckc_base::{Bytes, Seq};
 use ckc_tac::TacFunc;
 
-/// A place of a frame: one of the registers 0 to 11, or one of the slots 0 to 4,063.
+/// A place of a frame: one of the registers 0 to 15, or one of the slots 0 to 4,063.
 #[derive(Clone, Copy)]
 pub enum Place {
     Reg(u8),

@@ -1,4 +1,4 @@
-//! Placed code: three-address code in which each register has a place, one of twelve machine registers or a slot of
+//! Placed code: three-address code in which each register has a place, one of sixteen machine registers or a slot of
 //! the frame. Its meaning stands in `specs/`.
 #![tactic(auto)]
 

@@ -77,7 +77,7 @@ fn home_of(old: Place, register: usize, moves: &[Move]) -> Place
     ensures { IsPlace result }
 {
     match wanted_home(register, moves).unwrap_or(old) {
-        Place::Reg(r) if r < 12 => Place::Reg(r),
+        Place::Reg(r) if r < 16 => Place::Reg(r),
         Place::Slot(s) if s < 4064 => Place::Slot(s),
         _ => Place::Slot(0),
     }
@@ -183,7 +183,7 @@ fn next_mark(words: &mut Words, keeps: bool) -> Option<Move> {
 fn place_of(word: &str) -> Option<Place> {
     if let Some(digits) = word.strip_prefix('r') {
         return match digits.parse::<u8>() {
-            Ok(r) if r < 12 => Some(Place::Reg(r)),
+            Ok(r) if r < 16 => Some(Place::Reg(r)),
             _ => None,
         };
     }

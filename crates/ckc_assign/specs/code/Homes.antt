@@ -22,16 +22,24 @@ pub record AreFirst (ranges : List Range) (count : ℕ) (homes : List Place) : T
   pub long : length homes ≡ count
   pub first : (r : ℕ) → r < count → home_of homes r ≡ first_home (range_of ranges r) r
 
+-- the register that a machine register was given to last; a number that no register has, if it was given to none
+abbrev pub holder_of : List ℕ → ℕ → ℕ
+holder_of holders h = get_or holders h 0
+
 -- Each place is one of a frame. A register in a slot has a range, and the slot is its own. Of two registers with a range
--- at one machine register one has ended before the other begins, and the register is busy up to the end of each.
-pub record IsScan (ranges : List Range) (busy : List ℕ) (homes : List Place) : Type 0 where
+-- at one machine register one has ended before the other begins. A machine register is the home of the register that
+-- holds it, and the ranges of the others that have it as their home ended before.
+pub record IsScan (ranges : List Range) (holders : List ℕ) (homes : List Place) : Type 0 where
   pub few : length ranges ≤ 4064
   pub long : length homes ≡ length ranges
-  pub wide : length busy ≡ 12
+  pub wide : length holders ≡ 16
   pub places : (r : ℕ) → r < length ranges → IsPlace (home_of homes r)
   pub slots : (r s : ℕ) → r < length ranges → home_of homes r ≡ Slot s → s ≡ r
   pub needed : (r s : ℕ) → r < length ranges → home_of homes r ≡ Slot s → HasRange ranges r
-  pub ended : (r h : ℕ) → r < length ranges → HasRange ranges r → home_of homes r ≡ Reg h → (range_of ranges r).last ≤ get_or busy h 0
+  pub used : (h : ℕ) → h < 16 → holder_of holders h < length ranges → HasRange ranges (holder_of holders h)
+  pub here : (h : ℕ) → h < 16 → holder_of holders h < length ranges → home_of homes (holder_of holders h) ≡ Reg h
+  pub ended : (r h : ℕ) → r < length ranges → HasRange ranges r → home_of homes r ≡ Reg h
+      → (r ≡ holder_of holders h) ⊎ ((range_of ranges r).last < (range_of ranges (holder_of holders h)).first)
   pub apart : (r q h : ℕ) → r < length ranges → q < length ranges → r ≢ q → HasRange ranges r → HasRange ranges q → home_of homes r ≡ Reg h → home_of homes q ≡ Reg h
       → ((range_of ranges r).last < (range_of ranges q).first) ⊎ ((range_of ranges q).last < (range_of ranges r).first)
 
@@ -59,29 +67,21 @@ pub record IsOrder (ranges : List Range) (order : List Start) : Type 0 where
 abbrev pub BeginLate : List Range → Type 0
 BeginLate ranges = (r : ℕ) → HasRange ranges r → 1 ≤ (range_of ranges r).first
 
--- A register at a machine register has a range that begins at a place at the latest and ends at another.
-pub record IsHeld (ranges : List Range) (homes : List Place) (begin h end : ℕ) : Type 0 where
-  pub register : ℕ
-  pub there : register < length ranges
-  pub here : home_of homes register ≡ Reg h
-  pub first : (range_of ranges register).first ≤ begin
-  pub last : (range_of ranges register).last ≡ end
-
--- each machine register is free, or held by a range that begins at a place at the latest
-abbrev pub AreHeld : List Range → List ℕ → List Place → ℕ → Type 0
-AreHeld ranges busy homes begin =
-    (h : ℕ) → h < 12 → (get_or busy h 0 ≡ 0) ⊎ IsHeld ranges homes begin h (get_or busy h 0)
+-- the ranges that hold machine registers begin at a place at the latest
+abbrev pub HaveBegun : List Range → List ℕ → ℕ → Type 0
+HaveBegun ranges holders begin =
+    (h : ℕ) → h < 16 → holder_of holders h < length ranges → (range_of ranges (holder_of holders h)).first ≤ begin
 
 -- no machine register is free at a place
-abbrev pub AreBusy : List ℕ → ℕ → Type 0
-AreBusy busy place = (h : ℕ) → h < length busy → place ≤ get_or busy h 0
+abbrev pub AreBusy : List Range → List ℕ → ℕ → Type 0
+AreBusy ranges holders place = (h : ℕ) → h < length holders → place ≤ (range_of ranges (holder_of holders h)).last
 
--- At some place of the range of a register more than twelve ranges meet.
+-- At some place of the range of a register more than sixteen ranges meet.
 pub record MeetsMany (ranges : List Range) (r : ℕ) : Type 0 where
   pub place : ℕ
   pub here : Covers ranges r place
   pub others : List ℕ
-  pub many : length others ≡ 12
+  pub many : length others ≡ 16
   pub distinct : AreDistinct (r ∷ others)
   pub meet : All (λ q. Covers ranges q place) others
 
@@ -89,19 +89,19 @@ pub record MeetsMany (ranges : List Range) (r : ℕ) : Type 0 where
 abbrev pub IsFair : List Range → List Place → ℕ → Type 0
 IsFair ranges homes r = (s : ℕ) → r < length ranges → home_of homes r ≡ Slot s → MeetsMany ranges r
 
--- A register has been given a home: only ranges that have begun hold machine registers, and the home is fair.
-pub record IsGiven (ranges : List Range) (r : ℕ) (busy : List ℕ) (homes : List Place)
-    (busy' : List ℕ) (homes' : List Place) : Type 0 where
-  pub held : (p : ℕ) → (range_of ranges r).first ≤ p → AreHeld ranges busy homes p → AreHeld ranges busy' homes' p
+-- A register has been given a home: only ranges that have begun hold machine registers, and homes stay fair.
+pub record IsGiven (ranges : List Range) (r : ℕ) (holders : List ℕ) (homes : List Place)
+    (holders' : List ℕ) (homes' : List Place) : Type 0 where
+  pub begun : (p : ℕ) → (range_of ranges r).first ≤ p → HaveBegun ranges holders p → HaveBegun ranges holders' p
   pub kept : (q : ℕ) → IsFair ranges homes q → IsFair ranges homes' q
-  pub fair : AreHeld ranges busy homes (range_of ranges r).first → IsFair ranges homes' r
+  pub fair : IsFair ranges homes' r
 
 abbrev pub no_start : Start
 no_start = record { first = 0; register = 0 }
 
 -- The first registers of an order have their homes.
-pub record HasGiven (ranges : List Range) (order : List Start) (count : ℕ) (busy : List ℕ) (homes : List Place)
+pub record HasGiven (ranges : List Range) (order : List Start) (count : ℕ) (holders : List ℕ) (homes : List Place)
     : Type 0 where
-  pub scan : IsScan ranges busy homes
-  pub held : (k : ℕ) → count ≤ k → k < length order → AreHeld ranges busy homes (get_or order k no_start).first
+  pub scan : IsScan ranges holders homes
+  pub begun : (k : ℕ) → count ≤ k → k < length order → HaveBegun ranges holders (get_or order k no_start).first
   pub fair : (k : ℕ) → k < count → IsFair ranges homes (get_or order k no_start).register

@@ -28,17 +28,17 @@ abbrev pub is_argument_home : ℕ → List Place → List ℕ → Bool
 is_argument_home k homes [] = false
 is_argument_home k homes (r ∷ rs) = home homes r == k || is_argument_home k homes rs
 
--- stops unless a frame more fits, and sets x8 to it
+-- stops unless a frame more fits, and sets x3 to it
 abbrev pub depth_lines : Pos → List Line → List Line
 depth_lines at rest =
     Plain (Lui 5 0x3000) ∷
-    check_lines Bne 2 5 Depth at (Plain (Lui 8 0xFFFFC) ∷ Plain (Reg Add 8 8 2) ∷ rest)
+    check_lines Bne 2 5 Depth at (Plain (Lui 3 0xFFFFC) ∷ Plain (Reg Add 3 3 2) ∷ rest)
 
--- an argument goes from its place in the frame to the place of a parameter, in the frame at x8
+-- an argument goes from its place in the frame to the place of a parameter, in the frame at x3
 abbrev pub argument_lines : Place → Place → List Line → List Line
 argument_lines from (place.Reg k) rest = load_lines (register_of k) 2 (offset_of from) rest
 argument_lines from (place.Slot k) rest =
-    load_lines 5 2 (offset_of from) (store_lines 5 8 (k * 4 + 64) rest)
+    load_lines 5 2 (offset_of from) (store_lines 5 3 (k * 4 + 80) rest)
 
 -- the arguments for the parameters from one on, the last first
 abbrev pub arguments_lines : List Place → List ℕ → ℕ → List Place → List Line → List Line
@@ -50,7 +50,7 @@ arguments_lines homes (r ∷ rs) k params rest =
 -- from the frame of the caller to that below, to the function, and back
 abbrev pub visit_lines : ℕ → List Line → List Line
 visit_lines label rest =
-    move_lines 2 8 (Far 1 label ∷ Plain (Lui 8 4) ∷ Plain (Reg Add 2 2 8) ∷ rest)
+    move_lines 2 3 (Far 1 label ∷ Plain (Lui 3 4) ∷ Plain (Reg Add 2 2 3) ∷ rest)
 
 -- the kept registers and those of the arguments
 abbrev pub is_saved : List Place → List Bool → List ℕ → ℕ → Bool
@@ -59,9 +59,9 @@ is_saved homes marks arguments k = is_kept_home k homes marks || is_argument_hom
 abbrev pub call_lines : List Place → List Bool → List Place → ℕ → List ℕ → Pos → List Line
     → List Line
 call_lines homes marks params label arguments at rest =
-    saves_lines (is_saved homes marks arguments) 12 0
+    saves_lines (is_saved homes marks arguments) 16 0
     (depth_lines at (arguments_lines homes arguments 0 params
-    (visit_lines label (restores_lines (λ k. is_kept_home k homes marks) 12 0 rest))))
+    (visit_lines label (restores_lines (λ k. is_kept_home k homes marks) 16 0 rest))))
 
 -- the result of a call comes in x10
 abbrev pub result_lines : List Place → Option ℕ → List Line → List Line
@@ -71,5 +71,5 @@ result_lines homes (Some t) rest = settle_lines (place_at homes t) 10 rest
 -- what a caller does after its call, before the operations after it
 abbrev pub back_lines : List Place → List Bool → Option ℕ → List Line → List Line
 back_lines homes marks target rest =
-    Plain (Lui 8 4) ∷ Plain (Reg Add 2 2 8) ∷
-    restores_lines (λ k. is_kept_home k homes marks) 12 0 (result_lines homes target rest)
+    Plain (Lui 3 4) ∷ Plain (Reg Add 2 2 3) ∷
+    restores_lines (λ k. is_kept_home k homes marks) 16 0 (result_lines homes target rest)

@@ -68,7 +68,7 @@ check_lines op rs1 rs2 check at rest =
 -- where the frame keeps a place
 abbrev pub offset_of : Place → ℕ
 offset_of (place.Reg k) = k * 4 + 16
-offset_of (place.Slot k) = k * 4 + 64
+offset_of (place.Slot k) = k * 4 + 80
 
 -- the register that has the value of a place, if a scratch register has that of a slot
 abbrev pub source_of : Place → ℕ → ℕ
@@ -77,21 +77,21 @@ source_of (place.Slot k) scratch = scratch
 
 abbrev pub read_lines : Place → ℕ → List Line → List Line
 read_lines (place.Reg k) scratch rest = rest
-read_lines (place.Slot k) scratch rest = load_lines scratch 2 (k * 4 + 64) rest
+read_lines (place.Slot k) scratch rest = load_lines scratch 2 (k * 4 + 80) rest
 
 abbrev pub write_lines : Place → ℕ → List Line → List Line
 write_lines (place.Reg k) scratch rest = rest
-write_lines (place.Slot k) scratch rest = store_lines scratch 2 (k * 4 + 64) rest
+write_lines (place.Slot k) scratch rest = store_lines scratch 2 (k * 4 + 80) rest
 
 -- a place gets the value of a register
 abbrev pub settle_lines : Place → ℕ → List Line → List Line
 settle_lines (place.Reg k) rs rest = move_lines (register_of k) rs rest
-settle_lines (place.Slot k) rs rest = store_lines rs 2 (k * 4 + 64) rest
+settle_lines (place.Slot k) rs rest = store_lines rs 2 (k * 4 + 80) rest
 
 -- a register gets the value of a place
 abbrev pub fetch_lines : ℕ → Place → List Line → List Line
 fetch_lines rd (place.Reg k) rest = move_lines rd (register_of k) rest
-fetch_lines rd (place.Slot k) rest = load_lines rd 2 (k * 4 + 64) rest
+fetch_lines rd (place.Slot k) rest = load_lines rd 2 (k * 4 + 80) rest
 
 -- ---- operands
 
@@ -116,7 +116,7 @@ const_lines t v rest = constant_lines (source_of t 5) v (write_lines t 5 rest)
 
 abbrev pub copy_lines : Place → Place → List Line → List Line
 copy_lines t (place.Reg k) rest = settle_lines t (register_of k) rest
-copy_lines t (place.Slot k) rest = load_lines (source_of t 5) 2 (k * 4 + 64) (write_lines t 5 rest)
+copy_lines t (place.Slot k) rest = load_lines (source_of t 5) 2 (k * 4 + 80) (write_lines t 5 rest)
 
 -- a place gets the value of an operand
 abbrev pub value_lines : Place → PlacedOperand → List Line → List Line
@@ -318,21 +318,21 @@ put_lines a rest = take_lines 10 a (ask_lines 1 rest)
 abbrev pub tests_lines : List Line → List Line
 tests_lines rest =
     Plain (Imm Addi 10 0 (pos 0)) ∷ Plain (Branch Bge 0 5 (pos 48)) ∷
-    Plain (Branch Bltu 12 11 (pos 44))
-    ∷ Plain (Reg Sub 12 12 11) ∷ Plain (Reg Divu 12 12 6) ∷ Plain (Branch Bltu 12 5 (pos 32)) ∷ rest
+    Plain (Branch Bltu 1 4 (pos 44))
+    ∷ Plain (Reg Sub 1 1 4) ∷ Plain (Reg Divu 1 1 6) ∷ Plain (Branch Bltu 1 5 (pos 32)) ∷ rest
 
 abbrev pub room_lines : List Line → List Line
 room_lines rest =
-    Plain (Lui 8 0x2000) ∷ Plain (Load Lw 11 8 (pos 0)) ∷ Plain (Lui 12 0x3000) ∷ tests_lines rest
+    Plain (Lui 3 0x2000) ∷ Plain (Load Lw 4 3 (pos 0)) ∷ Plain (Lui 1 0x3000) ∷ tests_lines rest
 
 abbrev pub rounded_lines : List Line → List Line
 rounded_lines rest =
     Plain (Imm Srli 5 5 (pos 3)) ∷ Plain (Imm Slli 5 5 (pos 3)) ∷
-    Plain (Store Sw 8 5 (pos 0)) ∷ rest
+    Plain (Store Sw 3 5 (pos 0)) ∷ rest
 
 abbrev pub claim_lines : List Line → List Line
 claim_lines rest =
-    Plain (Imm Addi 10 11 (pos 0)) ∷ Plain (Reg Mul 5 5 6) ∷ Plain (Reg Add 5 5 11) ∷
+    Plain (Imm Addi 10 4 (pos 0)) ∷ Plain (Reg Mul 5 5 6) ∷ Plain (Reg Add 5 5 4) ∷
     Plain (Imm Addi 5 5 (pos 15)) ∷ rounded_lines rest
 
 abbrev pub alloc_lines : Place → PlacedOperand → ℕ → List Line → List Line

@@ -3,9 +3,9 @@ use Rattle.std.specs.Prelude.{ℕ, zero, suc, ◌+◌, ◌*◌, nat_lt, Bool, if
 use Rattle.ckc_asm_lines.specs.declared.lines.Line.{Line}
 use Rattle.ckc_emit_templates.specs.code.Templates.{load_lines, store_lines}
 
--- the register of the machine for a register of placed code: x13 to x25 without x17
+-- the register of the machine for a register of placed code: x8 to x25 without x10 and x17
 abbrev pub register_of : ℕ → ℕ
-register_of k = if nat_lt k 4 then k + 13 else k + 14
+register_of k = if nat_lt k 2 then k + 8 else if nat_lt k 8 then k + 9 else k + 10
 
 -- a register is saved in the frame, or not
 abbrev pub save_lines : Bool → ℕ → List Line → List Line

@@ -6,4 +6,4 @@ use Rattle.ckc_emit_templates.proofs.saved.put_each.Given as goal
 -- with the lines of the registers that are left, the lines are whole
 abbrev pub invariant-loop-k : goal.invariant-loop-k
 invariant-loop-k l =
-    (rest : List Line) → l.out.items ++ each_lines (kept_lines l.restores) (λ j. slice_index_or l.marked j false) (12 - l.k) l.k rest ≡ l.initial.out.items ++ each_lines (kept_lines l.restores) (λ j. slice_index_or l.marked j false) 12 0 rest
+    (rest : List Line) → l.out.items ++ each_lines (kept_lines l.restores) (λ j. slice_index_or l.marked j false) (16 - l.k) l.k rest ≡ l.initial.out.items ++ each_lines (kept_lines l.restores) (λ j. slice_index_or l.marked j false) 16 0 rest
