@@ -2,8 +2,7 @@
 use Rattle.std.proofs.Common.{◌≡◌, ◌⊎◌, inl, inr, ⊎_elim, ℕ, zero, suc, ◌+◌, ◌<◌, Bool, true, false, not, ◌&&◌, if◌then◌else◌, List, [], ◌∷◌, length, get_or, set, slice_get, replicate, Some, refl, sym, ap, subst, ◌∙◌, arith}
 use Rattle.std.specs.Bool.{OnFalse, MatchBool}
 use Rattle.std.proofs.lemmas.Bool.{cases_eq, or_cases, or_left, or_right, not-true, not_from_false, both_ways}
-use Rattle.std.specs.Prelude.{◌↔◌}
-use Rattle.std.proofs.lemmas.List.{get_or_read, length-set, length-replicate, get_or-set_same, get_or-set_other}
+use Rattle.std.proofs.lemmas.List.{length-set, length-replicate, get_or-set_same, get_or-set_other}
 use Rattle.std.proofs.lemmas.Option.{slice_get_within}
 use Rattle.ckc_tac.specs.declared.code.TacBlock.{TacBlock}
 use Rattle.ckc_tac.specs.declared.code.TacOp.{TacOp}
@@ -13,7 +12,7 @@ use Rattle.ckc_flow.specs.Live.{target_of}
 use Rattle.ckc_passes.specs.Rewrites.{all_done}
 use Rattle.ckc_passes_known.specs.declared.facts.Fact.{Fact}
 use Rattle.ckc_passes_known.specs.Known.{fact_of, changes, LeadsUntold, IsLost, at_entry, along, written, untold}
-use Rattle.ckc_passes_known.specs.code.Marks.{same_fact, tells, past, past_all, marked_unless, spread, visited, unset_in, AreSound, AreClosed, IsUnderway, AreExact}
+use Rattle.ckc_passes_known.specs.code.Marks.{same_fact, tells, past, past_all, marked_unless, spread, visited, unset_in, AreSound, AreClosed, IsUnderway}
 use Rattle.ckc_passes_known.proofs.Same.{both, both_left, both_right, fact_not, not_fact, tells_not, not_tells}
 
 abbrev pub Has : List Bool → ℕ → Type 0
@@ -180,11 +179,8 @@ module _ (blocks : List TacBlock) (fact : Fact) (lost : List Bool) (s : AreSound
       or_right (changes (target_of op) fact) (not (tells op fact) && past_done fact done (get_or lost b false))
       (both (not (tells op fact)) (past_done fact done (get_or lost b false)) (not_from_false (tells op fact) (not_tells op fact n)) (all_marks b done h is))
 
-  pub exact_marks : AreExact blocks fact lost
-  exact_marks = record {
-    long = s.long;
-    exact = λ b h. (λ e. s.sound b e, λ is. all_marks b [] h is);
-  }
+  pub unmarked_is_kept : (b : ℕ) → b < length blocks → get_or lost b false ≡ false → IsLost blocks fact b [] → ⊥
+  unmarked_is_kept b h e is = both_ways (get_or lost b false) e (all_marks b [] h is)
 
 -- ---- closed marks, one visit on
 
@@ -247,15 +243,13 @@ module _ (blocks : List TacBlock) (fact : Fact) (b : ℕ) (before : List TacOp) 
   through true f t = t
   through false f t = f
 
-  known_if : (lost : Bool) → ((lost ≡ true) ↔ IsLost blocks fact b []) → past_all fact before lost ≡ lost
-      → MatchBool (not lost) (IsLost blocks fact b (all_done [] before) → ⊥) (IsLost blocks fact b (all_done [] before))
-  known_if true exact same = done_shows blocks fact b (all_done [] before) true exact.0 (sym (past_forward fact before [] true) ∙ same)
-  known_if false exact same = λ is.
-      both_ways (past_all fact before false) same (past_forward fact before [] false ∙ done_marks blocks fact b (all_done [] before) false exact.1 is)
-
   -- they do neither: it is as at the beginning of the block
-  pub known_by : (marks : List Bool) (mark : Bool) → b < length blocks → AreExact blocks fact marks → past_all fact before false ≡ false → past_all fact before true ≡ true
-      → mark ≡ get_or marks b mark → MatchBool (not mark) (IsLost blocks fact b (all_done [] before) → ⊥) (IsLost blocks fact b (all_done [] before))
-  known_by marks mark h x f t e =
-      let same : mark ≡ get_or marks b false = get_or_read marks b mark (omega (arith, h, x.long)) e false in
-      known_if mark (subst (λ (m : Bool). (m ≡ true) ↔ IsLost blocks fact b []) (sym same) (x.exact b h)) (through mark f t)
+  known_if : (lost : Bool) → MatchBool lost (IsLost blocks fact b []) (IsLost blocks fact b [] → ⊥) → past_all fact before lost ≡ lost
+      → MatchBool (not lost) (IsLost blocks fact b (all_done [] before) → ⊥) (IsLost blocks fact b (all_done [] before))
+  known_if true is same = done_shows blocks fact b (all_done [] before) true (λ k. is) (sym (past_forward fact before [] true) ∙ same)
+  known_if false kept same = λ is.
+      both_ways (past_all fact before false) same (past_forward fact before [] false ∙ done_marks blocks fact b (all_done [] before) false (λ k. absurd (kept k)) is)
+
+  pub known_by : (lost : Bool) → MatchBool lost (IsLost blocks fact b []) (IsLost blocks fact b [] → ⊥) → past_all fact before false ≡ false → past_all fact before true ≡ true
+      → MatchBool (not lost) (IsLost blocks fact b (all_done [] before) → ⊥) (IsLost blocks fact b (all_done [] before))
+  known_by lost h f t = known_if lost h (through lost f t)

@@ -6,7 +6,7 @@ ghost use Rattle.ckc_passes_known.specs.Known.{always as always_of, BlockAfter, 
 ghost use Rattle.ckc_passes_known.specs.code.Left.{IsPut};
 
 use crate::facts::{Fact, after_all, always, claim};
-use crate::marks::lost_at;
+use crate::marks::is_lost_at;
 use ckc_base::Seq;
 use ckc_passes::copy_of;
 use ckc_tac::{TacBlock, TacEnd, TacFunc, TacOp};
@@ -189,6 +189,6 @@ fn is_known(
     if !after_all(before, fact, true) {
         return Ok(true);
     }
-    let lost = lost_at(alloc, blocks, fact)?;
-    Ok(!lost[b])
+    let lost = is_lost_at(alloc, blocks, fact, b)?;
+    Ok(!lost)
 }

@@ -1,31 +1,44 @@
 //! Marks of blocks, one for each: whether a fact is lost at the beginning of the block.
-ghost use Rattle.std.specs.Prelude.{◌≡◌, ◌<◌, false, get_or, length, replicate, set, true, IfOk};
+ghost use Rattle.std.specs.Prelude.{◌≡◌, ◌<◌, [], false, length, replicate, set, true, IfOk};
 ghost use Rattle.std.specs.Bool.{MatchBool};
-ghost use Rattle.ckc_passes_known.specs.code.Marks.{AreClosed, AreExact, AreSound, marked_unless, spread as spread_of, unset_in, visited};
+ghost use Rattle.ckc_passes_known.specs.Known.{IsLost};
+ghost use Rattle.ckc_passes_known.specs.code.Marks.{AreClosed, AreSound, marked_unless, spread as spread_of, unset_in, visited};
 
 use crate::facts::{Fact, after_all, claim, is_same};
 use ckc_tac::{TacBlock, TacEnd};
 use std::alloc::{AllocError, Global};
 
-/// Marks the blocks at whose beginning a fact is lost.
-pub fn lost_at(alloc: Global, blocks: &[TacBlock], fact: Fact) -> Result<Vec<bool>, AllocError>
-    ensures { IfOk result (λ lost. AreExact blocks.now fact lost.items) }
+/// Whether a fact is lost at the beginning of a block.
+pub fn is_lost_at(
+    alloc: Global,
+    blocks: &[TacBlock],
+    fact: Fact,
+    b: usize,
+) -> Result<bool, AllocError>
+    requires { b < length blocks.now }
+    ensures { IfOk result (λ lost. MatchBool lost
+        (IsLost blocks.now fact b [])
+        (IsLost blocks.now fact b [] → ⊥)) }
 {
     let mut lost = vec![in alloc; false; blocks.len()]?;
-    settle(blocks, fact, lost.as_mut_slice());
-    Ok(lost)
+    let is_lost = settle(blocks, fact, b, lost.as_mut_slice());
+    Ok(is_lost)
 }
 
-/// Marks them where none is marked.
-fn settle(blocks: &[TacBlock], fact: Fact, lost: &mut [bool])
-    requires { lost.old ≡ replicate (length blocks.now) false }
-    ensures { AreExact blocks.now fact lost.new }
+/// Marks blocks, where none is marked, until this one is or no mark is new, and says whether it is.
+fn settle(blocks: &[TacBlock], fact: Fact, b: usize, lost: &mut [bool]) -> bool
+    requires there { b < length blocks.now }
+    requires none { lost.old ≡ replicate (length blocks.now) false }
+    ensures { MatchBool result (IsLost blocks.now fact b []) (IsLost blocks.now fact b [] → ⊥) }
 {
     mark(0, lost);
     'rounds: loop {
         let grown = round(blocks, fact, lost);
+        if lost[b] {
+            return true;
+        }
         if !grown {
-            break;
+            return false;
         }
     }
 }

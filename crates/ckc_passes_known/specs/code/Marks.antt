@@ -1,5 +1,5 @@
 -- Marks of blocks, one for each: whether a fact may be lost at the beginning of the block.
-use Rattle.std.specs.Prelude.{◌≡◌, ◌↔◌, ◌+◌, ◌≤◌, ◌<◌, ℕ, ◌==◌, Bool, true, false, not, ◌&&◌, ◌||◌, if◌then◌else◌, List, [], ◌∷◌, length, get_or, set, slice_get, sum_by, Some}
+use Rattle.std.specs.Prelude.{◌≡◌, ◌+◌, ◌≤◌, ◌<◌, ℕ, ◌==◌, Bool, true, false, not, ◌&&◌, ◌||◌, if◌then◌else◌, List, [], ◌∷◌, length, get_or, set, slice_get, sum_by, Some}
 use Rattle.std.specs.Bool.{OnFalse}
 use Rattle.ckc_tac.specs.declared.code.TacBlock.{TacBlock}
 use Rattle.ckc_tac.specs.declared.code.Comparison.{Comparison}
@@ -91,8 +91,3 @@ pub record IsUnderway (blocks : List TacBlock) (fact : Fact) (first : List Bool)
   pub sound : AreSound blocks fact lost
   pub still : OnFalse grown (AreClosed blocks fact b lost)
   pub fewer : unset_in lost + (if grown then 1 else 0) ≤ unset_in first
-
--- each block has a mark, and it is set exactly where the fact is lost
-pub record AreExact (blocks : List TacBlock) (fact : Fact) (lost : List Bool) : Type 0 where
-  pub long : length lost ≡ length blocks
-  pub exact : (b : ℕ) → b < length blocks → (get_or lost b false ≡ true) ↔ IsLost blocks fact b []

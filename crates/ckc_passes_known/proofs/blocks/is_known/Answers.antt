@@ -10,5 +10,5 @@ returns-then-not-after_all c = never_lost c.args.blocks.now c.args.fact c.args.b
 
 pub returns : goal.returns
 returns c =
-    known_by c.args.blocks.now c.args.fact c.args.b c.args.before.now c.in_ok-lost.lost.items c.index.result.now c.requires c.in_ok-lost.ensures
-    (sym c.after_all.ensures ∙ c.if-after_all.false) (sym c.after_all-2.ensures ∙ c.if-not-after_all.false) c.index.ensures
+    known_by c.args.blocks.now c.args.fact c.args.b c.args.before.now c.in_ok-lost.lost c.in_ok-lost.ensures
+    (sym c.after_all.ensures ∙ c.if-after_all.false) (sym c.after_all-2.ensures ∙ c.if-not-after_all.false)
