@@ -1,5 +1,5 @@
 -- In each state of a run of a well formed program, a step that is stuck is stuck for a cause.
-use Rattle.std.proofs.Common.{◌≡◌, ◌⊎◌, inl, inr, refl, sym, subst, ℕ, zero, suc, ◌+◌, ◌^◌, Bool, true, false, List, [], ◌∷◌, ◌++◌}
+use Rattle.std.proofs.Common.{◌≡◌, ◌⊎◌, inl, inr, refl, sym, subst, ℕ, zero, suc, ◌^◌, Bool, true, false, List, [], ◌∷◌, ◌++◌}
 use Rattle.std.specs.Prelude.{All, ◌==◌, ◌%◌, ◌-◌, if◌then◌else◌, Option, Some, None, Result, Ok, Err, slice_get}
 use Rattle.std.proofs.lemmas.List.Elements.{All-head, All-tail}
 use Rattle.ckc_base.specs.declared.places.Pos.{Pos}
