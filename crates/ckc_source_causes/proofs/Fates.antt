@@ -1,8 +1,7 @@
 -- What becomes of the parts of a step: each has a value, stops at a check, or is stuck for a cause.
-use Rattle.std.proofs.Common.{◌≡◌, ◌⊎◌, ◌∙◌, inl, inr, refl, sym, ap, subst, ℕ, ◌+◌, Bool, true, false, List, [], ◌∷◌, ◌++◌, map}
-use Rattle.std.specs.Prelude.{◌==◌, if◌then◌else◌, Option, Some, None, Result, Ok, Err, slice_index, slice_set}
+use Rattle.std.proofs.Common.{◌≡◌, ◌⊎◌, ◌∙◌, inl, inr, refl, ap, ℕ, Bool, true, false, List, [], ◌∷◌, ◌++◌, map}
+use Rattle.std.specs.Prelude.{◌==◌, if◌then◌else◌, Option, Some, None, Result, Ok, Err, slice_index}
 use Rattle.ckc_base.specs.declared.arithmetic.Width.{Width}
-use Rattle.ckc_base.specs.declared.places.Pos.{Pos}
 use Rattle.ckc_base.specs.declared.runtime_checks.Check.TheVariants as check
 use Rattle.ckc_base.specs.Memory.{heap_has_room, kept_part, next_place}
 use Rattle.ckc_source.specs.declared.expr.Access.{Access}
@@ -17,15 +16,15 @@ use Rattle.ckc_source.specs.declared.program.Interface.{Interface}
 use Rattle.ckc_source.specs.declared.program.Shape.{Shape}
 use Rattle.ckc_source.specs.declared.stmt.Kept.{Kept}
 use Rattle.ckc_source.specs.declared.stmt.Kept.TheVariants as kept
-use Rattle.ckc_source.specs.Blocks.{Block, changed, fresh, lies_in, stored}
+use Rattle.ckc_source.specs.Blocks.{Block, changed, fresh, lies_in}
 use Rattle.ckc_source.specs.Code.{Expr, Target, Nothing, Variable, Memory, Right, Fresh, Program}
 use Rattle.ckc_source.specs.Code as code
-use Rattle.ckc_source.specs.Eval.{Store, given, given_both, stops, element, place_in, reads_limited, evaluated, all_evaluated}
-use Rattle.ckc_source.specs.States.{Caller, State}
-use Rattle.ckc_source.specs.Steps.{store_of, terminator_at, aims_at, aimed, refuses, allowed, with_blocks, writes, Write, all_written, Drawn, allocated, drawn, Planned, and_then_written, planned, bundled, writes_allowed, reads_interfaces, kept_place, reads_result, hands}
+use Rattle.ckc_source.specs.Eval.{Store, given, stops, element, place_in, reads_limited, evaluated, all_evaluated}
+use Rattle.ckc_source.specs.States.{State}
+use Rattle.ckc_source.specs.Steps.{store_of, terminator_at, aims_at, aimed, allowed, with_blocks, writes, Write, all_written, Drawn, allocated, drawn, Planned, and_then_written, planned, bundled, writes_allowed, reads_interfaces, kept_place, reads_result, hands}
 use Rattle.ckc_source_causes.specs.WellFormed.{AreWellFormed, AreWellFormedAssigns, IsWellFormedExpr, IsWellFormedRight, IsWellFormedTarget}
-use Rattle.ckc_source_causes.specs.Causes.{IsNowhere, HasUntrueLimits, Then, OfBoth, AtElement, HasCause, OneHasCause, TargetHasCause, RightHasCause, AssignHasCause, InterfaceHasCause, ResultHasCause, IsKeptNowhere, HandingHasCause}
-use Rattle.ckc_source_causes.proofs.Stuck.{IsStuck, no_stuck, has_cause, one_has_cause, untrue_limits}
+use Rattle.ckc_source_causes.specs.Causes.{IsNowhere, HasUntrueLimits, Then, AtElement, HasCause, OneHasCause, TargetHasCause, RightHasCause, AssignHasCause, InterfaceHasCause, ResultHasCause, IsKeptNowhere, HandingHasCause}
+use Rattle.ckc_source_causes.proofs.Stuck.{IsStuck, has_cause, one_has_cause, untrue_limits}
 use Rattle.ckc_source_causes.proofs.Given.{judged}
 use Rattle.ckc_source_causes.proofs.Later.{AreKept, kept_itself, kept_again, kept_behind, kept_changed, lies_kept}
 

@@ -1,11 +1,11 @@
 -- Blocks stay where they are: a step changes their bytes alone, and adds blocks behind them.
-use Rattle.std.proofs.Common.{◌≡◌, ◌∙◌, refl, sym, ap, subst, ℕ, ◌+◌, Bool, true, false, List, [], ◌∷◌, ◌++◌, map, length}
+use Rattle.std.proofs.Common.{◌≡◌, ◌∙◌, refl, ap, ℕ, ◌+◌, Bool, true, false, List, [], ◌∷◌, ◌++◌, map, length}
 use Rattle.std.specs.Prelude.{◌-◌, ◌&&◌, ◌||◌, if◌then◌else◌, nat_le}
 use Rattle.std.specs.List.{list_any}
 use Rattle.std.proofs.lemmas.Bool.{and_parts}
 use Rattle.ckc_base.specs.declared.arithmetic.Width.{Width}
 use Rattle.ckc_base.specs.Memory.{width_bytes}
-use Rattle.ckc_source.specs.Blocks.{Block, changed, end_of, has, is_aligned, lies_in, with_number}
+use Rattle.ckc_source.specs.Blocks.{Block, changed, has, is_aligned, lies_in, with_number}
 use Rattle.ckc_source.proofs.Keeping.{length_with}
 
 -- a block with other bytes, as many

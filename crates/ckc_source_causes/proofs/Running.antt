@@ -1,5 +1,5 @@
 -- In each state of a run of a well formed program, a step that is stuck is stuck for a cause.
-use Rattle.std.proofs.Common.{◌≡◌, ◌⊎◌, ◌∙◌, inl, inr, refl, sym, ap, subst, ℕ, zero, suc, ◌+◌, ◌^◌, Bool, true, false, List, [], ◌∷◌, ◌++◌}
+use Rattle.std.proofs.Common.{◌≡◌, ◌⊎◌, inl, inr, refl, sym, subst, ℕ, zero, suc, ◌^◌, Bool, true, false, List, [], ◌∷◌, ◌++◌}
 use Rattle.std.specs.Prelude.{All, ◌==◌, ◌%◌, ◌-◌, if◌then◌else◌, Option, Some, None, Result, Ok, Err, slice_get}
 use Rattle.std.proofs.lemmas.List.Elements.{All-head, All-tail}
 use Rattle.ckc_base.specs.declared.places.Pos.{Pos}
@@ -7,24 +7,20 @@ use Rattle.ckc_base.specs.declared.runtime_checks.Check.TheVariants as check
 use Rattle.ckc_base.specs.Activations.{has_room}
 use Rattle.ckc_base.specs.States.{moved_on, state_after, state_at}
 use Rattle.ckc_base.specs.Steps.{Move, Goes, Halts, after, shown}
-use Rattle.ckc_base.specs.Traces.{Event, Got, Put as Puts, Showing, Standing, Going}
+use Rattle.ckc_base.specs.Traces.{Event, Got, Put as Puts, Going}
 use Rattle.ckc_base.specs.Traces as standing
-use Rattle.ckc_source.specs.declared.expr.Limits.{Limits}
 use Rattle.ckc_source.specs.declared.outcome.Halt.{Halt}
 use Rattle.ckc_source.specs.declared.outcome.Halt.TheVariants as halt
 use Rattle.ckc_source.specs.declared.outcome.Place.{Place}
 use Rattle.ckc_source.specs.declared.outcome.Value.{Value}
-use Rattle.ckc_source.specs.declared.program.Shape.{Shape}
 use Rattle.ckc_source.specs.declared.stmt.Kept.{Kept}
-use Rattle.ckc_source.specs.declared.stmt.Spot.{Spot}
 use Rattle.ckc_source.specs.Code.{Expr, Target, Right, Code, End, Assign, Bundle, Get, Put, Call, If, Loop, Break, Continue, Return, Check, Function, Program}
 use Rattle.ckc_source.specs.Eval.{Store, evaluated, all_evaluated}
-use Rattle.ckc_source.specs.Source.{first_state, function_at, no_function, source, source_system}
+use Rattle.ckc_source.specs.Source.{first_state, function_at, source, source_system}
 use Rattle.ckc_source.specs.States.{Caller, State, Work, Rest, Turn, active, entered, settled}
-use Rattle.ckc_source.specs.Steps.{store_of, aimed, bundled, halts, comes_to, and_moves, at_work, writes_allowed, gets, puts, in_call, reads_interfaces, enters, calls, hands, returns, acts, works, source_step}
-use Rattle.ckc_source_causes.specs.WellFormed.{AreWellFormedAssigns, HasParams, HasSteps, HasStepsInBody, HasWellFormedBody, IsWellFormed, IsWellFormedCode, IsWellFormedExpr}
+use Rattle.ckc_source.specs.Steps.{store_of, aimed, bundled, comes_to, and_moves, at_work, writes_allowed, gets, puts, in_call, reads_interfaces, enters, calls, hands, returns, acts, works, source_step}
+use Rattle.ckc_source_causes.specs.WellFormed.{AreWellFormedAssigns, HasParams, HasStepsInBody, HasWellFormedBody, IsWellFormed, IsWellFormedExpr}
 use Rattle.ckc_source_causes.specs.Causes.{Then, HasCause, OneHasCause, TargetHasCause, AssignHasCause, InterfaceHasCause, EntryHasCause, HandingHasCause, ReturnHasCause, StatementHasCause, WorkHasCause, IsStuckForCause}
-use Rattle.ckc_source_causes.proofs.Later.{AreKept, kept_itself}
 use Rattle.ckc_source_causes.proofs.Fates.{Any, Fate, fate_map, IsLater, IsPlaced, aimed_fate, arguments_fate, bundled_fate, evaluated_fate, hands_fate, interfaces_fate, writes_allowed_fate}
 use Rattle.ckc_source_causes.proofs.Settled.{AreFormed, AreReady, IsActing, IsFormed, settled_ready}
 

@@ -1,5 +1,5 @@
 -- What comes next in a run is a statement with a step, or the end of a function.
-use Rattle.std.proofs.Common.{◌≡◌, ◌⊎◌, inl, inr, refl, List, [], ◌∷◌}
+use Rattle.std.proofs.Common.{List, [], ◌∷◌}
 use Rattle.ckc_source.specs.Code.{Code, End, Assign, Bundle, Get, Put, Call, If, Loop, Break, Continue, Return, Check, Program}
 use Rattle.ckc_source.specs.States.{Leaving, Ended, Broken, Continued, Work, Rest, Turn, begun, behind, resumed, settled, stepped, turned}
 use Rattle.ckc_source_causes.specs.WellFormed.{HasSteps, IsStep, IsWellFormedCode}

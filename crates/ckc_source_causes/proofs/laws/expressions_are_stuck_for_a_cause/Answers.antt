@@ -1,5 +1,4 @@
 use Rattle.ckc_source_causes.proofs.Stuck.{has_cause}
-use Rattle.ckc_source_causes.proofs.Fates.{bundled_fate}
 use Rattle.ckc_source_causes.proofs.laws.expressions_are_stuck_for_a_cause.Goals as goal
 
 pub returns : goal.returns
