@@ -12,8 +12,11 @@ copies-requires c = record { whole = c.in_ok-folded.ensures.whole }
 pub redundant-requires : goal.redundant-requires
 redundant-requires c = c.in_ok-copied.ensures.whole
 
+pub known-requires : goal.known-requires
+known-requires c = c.in_ok-checked.ensures.whole
+
 pub dead-requires : goal.dead-requires
-dead-requires c = c.in_ok-checked.ensures.whole
+dead-requires c = c.in_ok-decided.ensures.whole
 
 pub returns : goal.returns
 returns c =
@@ -21,14 +24,16 @@ returns c =
     let f = c.in_ok-folded.ensures in
     let k = c.in_ok-copied.ensures in
     let r = c.in_ok-checked.ensures in
+    let w = c.in_ok-decided.ensures in
     let d = c.in_ok-last.ensures in
     record {
       whole = d.whole;
-      few = few_kept t c.in_ok-last.last (d.registers ∙ r.registers ∙ k.registers ∙ f.registers);
-      size = omega (arith, f.size, k.size, r.size, d.size);
-      initial = d.exact.initial ∙ r.exact.initial ∙ ap (λ (t : Tac). t.initial) k.exact ∙ ap (λ (t : Tac). t.initial) f.exact;
+      few = few_kept t c.in_ok-last.last (d.registers ∙ w.registers ∙ r.registers ∙ k.registers ∙ f.registers);
+      size = omega (arith, f.size, k.size, r.size, w.size, d.size);
+      initial = d.exact.initial ∙ w.exact.initial ∙ r.exact.initial ∙ ap (λ (t : Tac). t.initial) k.exact ∙ ap (λ (t : Tac). t.initial) f.exact;
       follows =
-          pass_more t c.in_ok-checked.checked c.in_ok-last.last 3
+          pass_more t c.in_ok-decided.decided c.in_ok-last.last 4
+          (pass_more t c.in_ok-checked.checked c.in_ok-decided.decided 3
           (pass_more t c.in_ok-copied.copied c.in_ok-checked.checked 2
-          (pass_more t c.in_ok-folded.folded c.in_ok-copied.copied 1 (one_pass t c.in_ok-folded.folded f.follows) k.follows) r.follows) d.follows;
+          (pass_more t c.in_ok-folded.folded c.in_ok-copied.copied 1 (one_pass t c.in_ok-folded.folded f.follows) k.follows) r.follows) w.follows) d.follows;
     }
