@@ -40,7 +40,8 @@ fn add_end(
     first: &mut Vec<usize>,
     all: &mut Vec<Edge>,
 ) -> Result<(), AllocError>
-    ensures { OnOk result (IsAdded from end.now first.old.items all.old.items first.new.items all.new.items) }
+    ensures { OnOk result
+        (IsAdded from end.now first.old.items all.old.items first.new.items all.new.items) }
 {
     match end {
         TacEnd::Jump(to) => add(from, *to, first, all),
@@ -53,7 +54,8 @@ fn add_end(
 }
 
 fn add(from: usize, to: u32, first: &mut Vec<usize>, all: &mut Vec<Edge>) -> Result<(), AllocError>
-    ensures { OnOk result (IsAdded from (Jump to) first.old.items all.old.items first.new.items all.new.items) }
+    ensures { OnOk result
+        (IsAdded from (Jump to) first.old.items all.old.items first.new.items all.new.items) }
 {
     let to = to as usize;
     if to >= first.len() {
