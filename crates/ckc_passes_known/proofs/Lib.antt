@@ -1,5 +1,7 @@
 pub mod Same
 pub mod Paths
+pub mod Added
+pub mod Search
 pub mod Left
 pub mod Holding
 pub mod Followed

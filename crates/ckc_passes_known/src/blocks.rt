@@ -3,8 +3,10 @@ ghost use Rattle.std.specs.Prelude.{◌≡◌, ◌≢◌, ◌<◌, [], IfOk, OnO
 ghost use Rattle.std.specs.Bool.{MatchBool};
 ghost use Rattle.ckc_passes.specs.Rewrites.{all_done};
 ghost use Rattle.ckc_passes_known.specs.Known.{always as always_of, BlockAfter, EndBecomes, FunctionAfter, IsDecided, IsLost, IsNeedless};
+ghost use Rattle.ckc_passes_known.specs.code.Edges.{AreEdges};
 ghost use Rattle.ckc_passes_known.specs.code.Left.{IsPut};
 
+use crate::edges::{Edges, edges_of};
 use crate::facts::{Fact, after_all, always, claim};
 use crate::marks::is_lost_at;
 use ckc_base::Seq;
@@ -17,9 +19,10 @@ pub fn left_of_function(alloc: Global, f: &TacFunc) -> Result<TacFunc, AllocErro
     ensures { IfOk result (FunctionAfter f.now) }
 {
     let blocks = f.blocks.as_slice();
+    let edges = edges_of(alloc, blocks)?;
     let mut left = Vec::new(alloc);
     for b in 0..blocks.len() {
-        let one = left_of_block(alloc, blocks, &blocks[b], b)?;
+        let one = left_of_block(alloc, blocks, &edges, &blocks[b], b)?;
         left.push(one)?;
     }
     Ok(TacFunc {
@@ -33,18 +36,20 @@ pub fn left_of_function(alloc: Global, f: &TacFunc) -> Result<TacFunc, AllocErro
 fn left_of_block(
     alloc: Global,
     blocks: &[TacBlock],
+    edges: &Edges,
     block: &TacBlock,
     b: usize,
 ) -> Result<TacBlock, AllocError>
-    requires { b < length blocks.now }
+    requires there { b < length blocks.now }
+    requires edges { AreEdges blocks.now edges.now }
     ensures { IfOk result (BlockAfter blocks.now b block.now) }
 {
     let ops = block.ops.as_slice();
     let mut left = Vec::new(alloc);
     for i in 0..ops.len() {
-        pass(alloc, blocks, b, &ops[..i], &ops[i], &mut left)?;
+        pass(alloc, blocks, edges, b, &ops[..i], &ops[i], &mut left)?;
     }
-    let end = left_of_end(alloc, blocks, b, ops, &block.end)?;
+    let end = left_of_end(alloc, blocks, edges, b, ops, &block.end)?;
     Ok(TacBlock {
         ops: Seq::from_vec(left),
         end,
@@ -55,16 +60,18 @@ fn left_of_block(
 fn pass(
     alloc: Global,
     blocks: &[TacBlock],
+    edges: &Edges,
     b: usize,
     before: &[TacOp],
     op: &TacOp,
     left: &mut Vec<TacOp>,
 ) -> Result<(), AllocError>
-    requires { b < length blocks.now }
+    requires there { b < length blocks.now }
+    requires edges { AreEdges blocks.now edges.now }
     ensures { OnOk result
         (IsPut blocks.now b (all_done [] before.now) op.now left.old.items left.new.items) }
 {
-    let needless = is_needless(alloc, blocks, b, before, op)?;
+    let needless = is_needless(alloc, blocks, edges, b, before, op)?;
     if needless {
         return Ok(());
     }
@@ -76,11 +83,13 @@ fn pass(
 fn is_needless(
     alloc: Global,
     blocks: &[TacBlock],
+    edges: &Edges,
     b: usize,
     before: &[TacOp],
     op: &TacOp,
 ) -> Result<bool, AllocError>
-    requires { b < length blocks.now }
+    requires there { b < length blocks.now }
+    requires edges { AreEdges blocks.now edges.now }
     ensures { IfOk result (λ needless. MatchBool needless
         (IsNeedless blocks.now b (all_done [] before.now) op.now)
         (IsNeedless blocks.now b (all_done [] before.now) op.now → ⊥)) }
@@ -93,7 +102,7 @@ fn is_needless(
                 b: *y,
                 holds: true,
             };
-            is_decided(alloc, blocks, b, before, test)
+            is_decided(alloc, blocks, edges, b, before, test)
         }
         _ => Ok(false),
     }
@@ -102,11 +111,13 @@ fn is_needless(
 fn left_of_end(
     alloc: Global,
     blocks: &[TacBlock],
+    edges: &Edges,
     b: usize,
     before: &[TacOp],
     end: &TacEnd,
 ) -> Result<TacEnd, AllocError>
-    requires { b < length blocks.now }
+    requires there { b < length blocks.now }
+    requires edges { AreEdges blocks.now edges.now }
     ensures { IfOk result (EndBecomes blocks.now b (all_done [] before.now) end.now) }
 {
     match end {
@@ -118,7 +129,7 @@ fn left_of_end(
                 b: *y,
                 holds: true,
             };
-            let holds = is_decided(alloc, blocks, b, before, test)?;
+            let holds = is_decided(alloc, blocks, edges, b, before, test)?;
             if holds {
                 return Ok(TacEnd::Jump(*one));
             }
@@ -128,7 +139,7 @@ fn left_of_end(
                 b: *y,
                 holds: false,
             };
-            let fails = is_decided(alloc, blocks, b, before, denied)?;
+            let fails = is_decided(alloc, blocks, edges, b, before, denied)?;
             if fails {
                 return Ok(TacEnd::Jump(*two));
             }
@@ -142,11 +153,13 @@ fn left_of_end(
 fn is_decided(
     alloc: Global,
     blocks: &[TacBlock],
+    edges: &Edges,
     b: usize,
     before: &[TacOp],
     test: Fact,
 ) -> Result<bool, AllocError>
-    requires { b < length blocks.now }
+    requires there { b < length blocks.now }
+    requires edges { AreEdges blocks.now edges.now }
     ensures { IfOk result (λ decided. MatchBool decided
         (IsDecided blocks.now b (all_done [] before.now) test.comparison test.a test.b test.holds)
         (IsDecided blocks.now b (all_done [] before.now) test.comparison test.a test.b test.holds
@@ -156,7 +169,7 @@ fn is_decided(
         return Ok(true);
     }
     let fact = claim(test.comparison, test.a, test.b, test.holds);
-    is_known(alloc, blocks, b, before, fact)
+    is_known(alloc, blocks, edges, b, before, fact)
 }
 
 /// Whether a comparison always comes out so.
@@ -174,11 +187,13 @@ fn is_always(test: Fact) -> bool
 fn is_known(
     alloc: Global,
     blocks: &[TacBlock],
+    edges: &Edges,
     b: usize,
     before: &[TacOp],
     fact: Fact,
 ) -> Result<bool, AllocError>
-    requires { b < length blocks.now }
+    requires there { b < length blocks.now }
+    requires edges { AreEdges blocks.now edges.now }
     ensures { IfOk result (λ known. MatchBool known
         (IsLost blocks.now fact b (all_done [] before.now) → ⊥)
         (IsLost blocks.now fact b (all_done [] before.now))) }
@@ -189,6 +204,6 @@ fn is_known(
     if !after_all(before, fact, true) {
         return Ok(true);
     }
-    let lost = is_lost_at(alloc, blocks, fact, b)?;
+    let lost = is_lost_at(alloc, blocks, edges, fact, b)?;
     Ok(!lost)
 }

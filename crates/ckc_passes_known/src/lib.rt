@@ -2,6 +2,7 @@
 #![tactic(auto)]
 
 mod blocks;
+mod edges;
 mod facts;
 pub mod laws;
 mod marks;

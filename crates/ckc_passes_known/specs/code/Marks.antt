@@ -1,6 +1,5 @@
--- Marks of blocks, one for each: whether a fact may be lost at the beginning of the block.
-use Rattle.std.specs.Prelude.{◌≡◌, ◌+◌, ◌≤◌, ◌<◌, ℕ, ◌==◌, Bool, true, false, not, ◌&&◌, ◌||◌, if◌then◌else◌, List, [], ◌∷◌, length, get_or, set, slice_get, sum_by, Some}
-use Rattle.std.specs.Bool.{OnFalse}
+-- Marks of blocks, one for each: whether it is asked if a fact is lost at the beginning of the block.
+use Rattle.std.specs.Prelude.{◌≡◌, ◌⊎◌, ◌+◌, ◌≤◌, ℕ, ◌==◌, Bool, true, false, not, ◌&&◌, ◌||◌, if◌then◌else◌, List, [], ◌∷◌, ◌++◌, length, get_or, set, slice_get, sum_by, Some}
 use Rattle.ckc_tac.specs.declared.code.TacBlock.{TacBlock}
 use Rattle.ckc_tac.specs.declared.code.Comparison.{Comparison}
 use Rattle.ckc_tac.specs.declared.code.Comparison.TheVariants.{LtS, LtU, Eq, Ne}
@@ -12,7 +11,9 @@ use Rattle.ckc_tac.specs.declared.code.TacEnd.{TacEnd}
 use Rattle.ckc_tac.specs.declared.code.TacEnd.TheVariants.{Jump, Branch, Return}
 use Rattle.ckc_flow.specs.Live.{target_of}
 use Rattle.ckc_passes_known.specs.declared.facts.Fact.{Fact}
-use Rattle.ckc_passes_known.specs.Known.{fact_of, changes, IsLost}
+use Rattle.ckc_passes_known.specs.declared.edges.Edge.{Edge}
+use Rattle.ckc_passes_known.specs.Known.{fact_of, changes, LeadsUntold, IsLost}
+use Rattle.ckc_passes_known.specs.code.Edges.{ComesFrom}
 
 -- ---- facts
 
@@ -51,43 +52,85 @@ abbrev pub past_all : Fact → List TacOp → Bool → Bool
 past_all fact [] lost = lost
 past_all fact (op ∷ ops) lost = past_all fact ops (past fact op lost)
 
-abbrev pub marked_unless : Bool → ℕ → List Bool → List Bool
-marked_unless told b lost = if told then lost else set lost b true
+-- whether control may go from the end of a block to the block with this number, and that does not tell the fact
+abbrev pub leads : Fact → TacEnd → ℕ → Bool
+leads fact (Jump to) b = to == b
+leads fact (Branch comparison x y one two) b =
+    (one == b && not (same_fact (fact_of comparison x y true) fact))
+    || (two == b && not (same_fact (fact_of comparison x y false) fact))
+leads fact (Return x) b = false
 
--- the marks with those of the blocks that an end leads to without telling the fact
-abbrev pub spread : Fact → TacEnd → List Bool → List Bool
-spread fact (Jump to) lost = set lost to true
-spread fact (Branch comparison x y one two) lost =
-    marked_unless (same_fact (fact_of comparison x y false) fact) two
-    (marked_unless (same_fact (fact_of comparison x y true) fact) one lost)
-spread fact (Return x) lost = lost
+-- whether the operations of a block that leads to this one lose the fact
+abbrev pub loses : Fact → TacBlock → ℕ → Bool
+loses fact block b = leads fact block.end b && past_all fact block.ops false
 
--- the marks after a visit of a block
-abbrev pub visited : Fact → TacBlock → ℕ → List Bool → List Bool
-visited fact block b lost = if past_all fact block.ops (get_or lost b false) then spread fact block.end lost else lost
+-- whether they leave it as it is at the beginning of the block, if they do not lose it
+abbrev pub leaves : Fact → TacBlock → ℕ → Bool
+leaves fact block b = leads fact block.end b && past_all fact block.ops true
 
--- ---- rounds
+-- ---- marks
+
+-- this one is set
+abbrev pub Has : List Bool → ℕ → Type 0
+Has marks b = get_or marks b false ≡ true
 
 abbrev pub unset : Bool → ℕ
 unset b = if b then 0 else 1
 
 -- how many blocks have no mark
 abbrev pub unset_in : List Bool → ℕ
-unset_in lost = sum_by unset lost
+unset_in marks = sum_by unset marks
 
--- each block has a mark, and a fact is lost where it is set
-pub record AreSound (blocks : List TacBlock) (fact : Fact) (lost : List Bool) : Type 0 where
-  pub long : length lost ≡ length blocks
-  pub entry : 0 < length blocks → get_or lost 0 false ≡ true
-  pub sound : (b : ℕ) → get_or lost b false ≡ true → IsLost blocks fact b []
+-- A block is put behind those that are to be asked and gets its mark, if it has none.
+abbrev pub IsPut : (b : ℕ) (marks : List Bool) (order : List ℕ) (marks' : List Bool) (order' : List ℕ) → Type 0
+IsPut b marks order marks' order' =
+    (Has marks b × (marks' ≡ marks) × (order' ≡ order))
+    ⊎ ((get_or marks b false ≡ false) × (marks' ≡ set marks b true) × (order' ≡ order ++ b ∷ []))
 
--- a visit of one of the first blocks, so many, changes nothing
-abbrev pub AreClosed : List TacBlock → Fact → ℕ → List Bool → Type 0
-AreClosed blocks fact below lost =
-    (b : ℕ) (block : TacBlock) → b < below → slice_get blocks b ≡ Some block → visited fact block b lost ≡ lost
+-- ---- the search
 
--- The first blocks, so many, were visited in a round that began with other marks. If none is new, these are closed.
-pub record IsUnderway (blocks : List TacBlock) (fact : Fact) (first : List Bool) (b : ℕ) (grown : Bool) (lost : List Bool) : Type 0 where
-  pub sound : AreSound blocks fact lost
-  pub still : OnFalse grown (AreClosed blocks fact b lost)
-  pub fewer : unset_in lost + (if grown then 1 else 0) ≤ unset_in first
+-- The fact is told in a block, or nothing of it happens there and the block has a mark.
+abbrev pub IsClosed : Fact → TacBlock → (p : ℕ) → (marks : List Bool) → Type 0
+IsClosed fact block p marks =
+    (past_all fact block.ops true ≡ false) ⊎ ((past_all fact block.ops false ≡ false) × Has marks p)
+
+-- Each block that leads to this one is closed, and this is not the entry.
+pub record IsAnswered (blocks : List TacBlock) (fact : Fact) (b : ℕ) (marks : List Bool) : Type 0 where
+  pub inner : b ≡ 0 → ⊥
+  pub closed : (p : ℕ) (block : TacBlock) → slice_get blocks p ≡ Some block → LeadsUntold fact block.end b
+      → IsClosed fact block p marks
+
+-- A block is to be asked: it stands in the order, not among the first ones, so many.
+abbrev pub Waits : List ℕ → (i : ℕ) → (b : ℕ) → Type 0
+Waits order i b = (k : ℕ) × (i ≤ k) × (slice_get order k ≡ Some b)
+
+-- If the fact is lost at a block with a mark, it is lost at the goal. So many blocks of the order were asked.
+pub record IsSearch (blocks : List TacBlock) (fact : Fact) (goal i : ℕ) (marks : List Bool) (order : List ℕ) : Type 0 where
+  pub long : length marks ≡ length blocks
+  pub counts : length order + unset_in marks ≡ length blocks
+  pub begun : Has marks goal
+  pub sound : (b : ℕ) → Has marks b → IsLost blocks fact b [] → IsLost blocks fact goal []
+  pub marked : (k b : ℕ) → slice_get order k ≡ Some b → Has marks b
+  pub all : (b : ℕ) → Has marks b → IsAnswered blocks fact b marks ⊎ Waits order i b
+
+-- The search goes on with more marks, if the goal depends on this block.
+abbrev pub GoesOn : List TacBlock → Fact → (b : ℕ) (marks : List Bool) (order : List ℕ) (marks' : List Bool) (order' : List ℕ) → Type 0
+GoesOn blocks fact b marks order marks' order' = (goal i : ℕ) → i ≤ length order
+    → (IsLost blocks fact b [] → IsLost blocks fact goal []) → IsSearch blocks fact goal i marks order
+    → IsSearch blocks fact goal i marks' order'
+
+-- The fact is not lost at a block unless it is lost at blocks with a mark.
+pub record IsAsked (blocks : List TacBlock) (fact : Fact) (b : ℕ) (marks : List Bool) (order : List ℕ) (marks' : List Bool) (order' : List ℕ) : Type 0 where
+  pub goes : GoesOn blocks fact b marks order marks' order'
+  pub stays : (k r : ℕ) → slice_get order k ≡ Some r → slice_get order' k ≡ Some r
+  pub answered : IsAnswered blocks fact b marks'
+
+-- The edges to a block are passed up to this one.
+pub record IsAsking (blocks : List TacBlock) (all : List Edge) (fact : Fact) (b head e : ℕ) (marks : List Bool) (order : List ℕ) (marks' : List Bool) (order' : List ℕ) : Type 0 where
+  pub long : length marks' ≡ length blocks
+  pub within : e ≤ length all
+  pub longer : length order ≤ length order'
+  pub stays : (k r : ℕ) → slice_get order k ≡ Some r → slice_get order' k ≡ Some r
+  pub goes : GoesOn blocks fact b marks order marks' order'
+  pub closed : (p : ℕ) (block : TacBlock) → slice_get blocks p ≡ Some block → LeadsUntold fact block.end b
+      → ComesFrom all p head → IsClosed fact block p marks' ⊎ ComesFrom all p e
