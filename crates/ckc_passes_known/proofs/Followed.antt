@@ -15,6 +15,7 @@ use Rattle.ckc_base.specs.LongEvents.{LongEvent, Entered, Returned}
 use Rattle.ckc_base.specs.Actions.{World, Outcome, Gives, Done, Stops, Lost, with_value, checks}
 use Rattle.ckc_base.specs.Activations.{Values, with_written, with_result, has_room, first_values, none_written}
 use Rattle.ckc_base.specs.Memory.{first_memory}
+use Rattle.ckc_base.specs.Words.{applied}
 use Rattle.ckc_base.proofs.Runs.{Matched, one_step, one_halt, no_step, follows_by_steps}
 use Rattle.ckc_tac.specs.declared.code.Tac.{Tac}
 use Rattle.ckc_tac.specs.declared.code.TacFunc.{TacFunc}
@@ -35,8 +36,9 @@ use Rattle.ckc_passes.proofs.Followed.{zip_get, all_at}
 use Rattle.ckc_passes.proofs.Forwarded.{gives_target}
 use Rattle.ckc_passes_known.specs.declared.facts.Fact.{Fact}
 use Rattle.ckc_passes_known.specs.Known.{fact_of, told, LeadsUntold, IsDecided, IsNeedless, EndBecomes, known_pass, ZipFrom, BlockAfter, FunctionAfter, ProgramAfter}
+use Rattle.ckc_passes_known.specs.code.Marks.{adds_one}
 use Rattle.ckc_passes_known.proofs.Left.{zip_at}
-use Rattle.ckc_passes_known.proofs.Holding.{Comes, AllHold, decided_comes, all_written, all_same, all_checked, all_result, all_branched, all_jumped, all_at_entry}
+use Rattle.ckc_passes_known.proofs.Holding.{AllHold, decided_comes, all_written, all_number, all_computed, all_same, all_checked, all_result, all_branched, all_jumped, all_at_entry}
 
 -- A place of a function: in the block with this number, these operations are done, and these and this end come next.
 pub record IsPlace (blocks : List TacBlock) (b : ℕ) (done ops : List TacOp) (end : TacEnd) : Type 0 where
@@ -154,14 +156,11 @@ module _ (functions lowers : List TacFunc) (become : AllZip FunctionAfter functi
 
     module _ (done : List TacOp) (comparison : Comparison) (p q : Operand) (one two : ℕ) (low_end : TacEnd) (place : IsPlace blocks b done [] (Branch comparison p q one two))
         (hold : AllHold blocks b done x) (v : ℕ) (e : compared comparison (value_in x p) (value_in x q) ≡ Some v) where
-      comes : (h : Bool) → (v == 0) ≡ not h → Comes x comparison p q h
-      comes h z w f = subst (λ (n : ℕ). (n == 0) ≡ not h) (let g : Some v ≡ Some w = sym e ∙ f in cc) z
-
       hold_after : (to : ℕ) (h : Bool) → (v == 0) ≡ not h → ((fact : Fact) → fact_of comparison p q h ≢ fact → LeadsUntold fact (Branch comparison p q one two) to)
           → AllHold blocks to [] x
       hold_after to h z leads =
           all_branched blocks b done x hold place.block to comparison p q h place.there place.all
-          (λ fact n. subst (λ (end : TacEnd). LeadsUntold fact end to) (sym place.ending) (leads fact n)) (comes h z)
+          (λ fact n. subst (λ (end : TacEnd). LeadsUntold fact end to) (sym place.ending) (leads fact n)) (v, e, z)
 
       as_it_is : low_end ≡ Branch comparison p q one two → tac_step lowers (low [] low_end)
           ≡ (if v == 0 then goes_to (low [] low_end) (slice_get low_blocks two) else goes_to (low [] low_end) (slice_get low_blocks one))
@@ -169,7 +168,7 @@ module _ (functions lowers : List TacFunc) (become : AllZip FunctionAfter functi
 
       step_fails : EndBecomes blocks b done (Branch comparison p q one two) low_end → (v == 0) ≡ true
           → tac_step lowers (low [] low_end) ≡ goes_to (low [] low_end) (slice_get low_blocks two)
-      step_fails (inl (decided, is)) z = absurd (both_ways (v == 0) (decided_comes blocks b done x comparison p q true hold decided v e) z)
+      step_fails (inl (decided, is)) z = absurd (both_ways (v == 0) (decided_comes blocks b done x hold comparison p q true decided v e) z)
       step_fails (inr (n, inl (decided, is))) z = at_end low_end ∙ ap (ends (low [] low_end)) is
       step_fails (inr (n, inr (m, is))) z =
           as_it_is is ∙ ap (λ (t : Bool). if t then goes_to (low [] low_end) (slice_get low_blocks two) else goes_to (low [] low_end) (slice_get low_blocks one)) z
@@ -177,7 +176,7 @@ module _ (functions lowers : List TacFunc) (become : AllZip FunctionAfter functi
       step_holds : EndBecomes blocks b done (Branch comparison p q one two) low_end → (v == 0) ≡ false
           → tac_step lowers (low [] low_end) ≡ goes_to (low [] low_end) (slice_get low_blocks one)
       step_holds (inl (decided, is)) z = at_end low_end ∙ ap (ends (low [] low_end)) is
-      step_holds (inr (n, inl (decided, is))) z = absurd (both_ways (v == 0) z (decided_comes blocks b done x comparison p q false hold decided v e))
+      step_holds (inr (n, inl (decided, is))) z = absurd (both_ways (v == 0) z (decided_comes blocks b done x hold comparison p q false decided v e))
       step_holds (inr (n, inr (m, is))) z =
           as_it_is is ∙ ap (λ (t : Bool). if t then goes_to (low [] low_end) (slice_get low_blocks two) else goes_to (low [] low_end) (slice_get low_blocks one)) z
 
@@ -253,15 +252,26 @@ module _ (functions lowers : List TacFunc) (become : AllZip FunctionAfter functi
           } in
           record { frame = inner; callers = beside; world = refl }
 
-      -- an operation that tells nothing
-      act : (out : Outcome) → told op ≡ None → extra_of op ≡ 0 → AllHold blocks b done x → GivesTarget x op out
+      -- an operation after whose outcome the facts hold
+      abbrev AllHoldAfter : Outcome → Type 0
+      AllHoldAfter (Gives events t value after) = AllHold blocks b (op ∷ done) (with_written x t value)
+      AllHoldAfter (Done events after) = AllHold blocks b (op ∷ done) x
+      AllHoldAfter (Stops check at) = Unit {0}
+      AllHoldAfter Lost = Unit {0}
+
+      act : (out : Outcome) → extra_of op ≡ 0 → AllHoldAfter out
           → tac_step lowers (low (op ∷ lower) low_end) ≡ goes_by (low (op ∷ lower) low_end) lower out → Matches s (low (op ∷ lower) low_end) (goes_by s ops out)
-      act (Gives events t value after) none same hold to step =
-          go s (low (op ∷ lower) low_end) _ _ events refl step (next_beside (with_written x t value) after (all_written blocks b done x hold op t value to.0 none))
-      act (Done events after) none same hold to step =
-          go s (low (op ∷ lower) low_end) _ _ events refl step (next_beside x after (all_same blocks b done x hold op none))
-      act (Stops check at) none same hold to step = halt s (low (op ∷ lower) low_end) (Stopped check at) tt refl step
-      act Lost none same hold to step = inl refl
+      act (Gives events t value after) same hold step = go s (low (op ∷ lower) low_end) _ _ events refl step (next_beside (with_written x t value) after hold)
+      act (Done events after) same hold step = go s (low (op ∷ lower) low_end) _ _ events refl step (next_beside x after hold)
+      act (Stops check at) same hold step = halt s (low (op ∷ lower) low_end) (Stopped check at) tt refl step
+      act Lost same hold step = inl refl
+
+      -- one that tells nothing and adds no 1
+      plain : (out : Outcome) → told op ≡ None → ((r : ℕ) → adds_one op r ≡ false) → AllHold blocks b done x → GivesTarget x op out → AllHoldAfter out
+      plain (Gives events t value after) none apart hold to = all_written blocks b done x hold op t value to.0 none apart
+      plain (Done events after) none apart hold to = all_same blocks b done x hold op to none
+      plain (Stops check at) none apart hold to = tt
+      plain Lost none apart hold to = tt
 
     -- ---- checks
 
@@ -274,9 +284,8 @@ module _ (functions lowers : List TacFunc) (become : AllZip FunctionAfter functi
       passes : (v : ℕ) → compared comparison (value_in x p) (value_in x q) ≡ Some v → (v == 0) ≡ false
           → Beside (record checking { frame = record checking.frame { ops = ops } }) (low lower low_end)
       passes v e z =
-          let comes : Comes x comparison p q true = λ w f. subst (λ (n : ℕ). (n == 0) ≡ false) (let g : Some v ≡ Some w = sym e ∙ f in cc) z in
           next_beside done ops lower end low_end (Check check at comparison p q) place rest x world
-          (all_checked blocks b done x hold (Check check at comparison p q) comparison p q refl comes)
+          (all_checked blocks b done x hold (Check check at comparison p q) comparison p q refl (v, e, z))
 
       -- one that is kept
       check_by : (v : ℕ) → compared comparison (value_in x p) (value_in x q) ≡ Some v → (z : Bool) → (v == 0) ≡ z
@@ -302,7 +311,7 @@ module _ (functions lowers : List TacFunc) (become : AllZip FunctionAfter functi
 
       pass : IsDecided blocks b done comparison p q true → (o : Option ℕ) → compared comparison (value_in x p) (value_in x q) ≡ o
           → Matches checking (low lower low_end) (goes_by checking ops (with_value o (checks world check at)))
-      pass decided (Some v) e = pass_by v e (v == 0) refl (decided_comes blocks b done x comparison p q true hold decided v e)
+      pass decided (Some v) e = pass_by v e (v == 0) refl (decided_comes blocks b done x hold comparison p q true decided v e)
       pass decided None e = inl refl
 
     -- ---- calls
@@ -331,7 +340,7 @@ module _ (functions lowers : List TacFunc) (become : AllZip FunctionAfter functi
             rest = rest;
             same = refl;
             target = refl;
-            hold = λ v. all_result blocks b done x hold (Call target callee arguments at) target v refl refl;
+            hold = λ v. all_result blocks b done x hold (Call target callee arguments at) target v refl refl (λ r. refl);
           } in
           go upper under (record { frame = begins f.blocks (first_values values) block; callers = outer ∷ callers; world = world })
           (record { frame = begins g.blocks (first_values values) other; callers = low_outer ∷ low_callers; world = world }) (Entered ∷ []) refl
@@ -372,23 +381,37 @@ module _ (functions lowers : List TacFunc) (become : AllZip FunctionAfter functi
     keep done ops lower end low_end (Check check at comparison p q) place rest hold =
         checked done ops lower end low_end check at comparison p q place rest hold (compared comparison (value_in x p) (value_in x q)) refl
     keep done ops lower end low_end (Const t n) place rest hold =
-        act done ops lower end low_end (Const t n) place rest (outcome_of x world (Const t n)) refl refl hold (gives_target x world (Const t n)) (at_op (Const t n) lower low_end)
-    keep done ops lower end low_end (Copy t a) place rest hold =
-        act done ops lower end low_end (Copy t a) place rest (outcome_of x world (Copy t a)) refl refl hold (gives_target x world (Copy t a)) (at_op (Copy t a) lower low_end)
+        act done ops lower end low_end (Const t n) place rest (outcome_of x world (Const t n)) refl (all_number blocks b done x hold t n) (at_op (Const t n) lower low_end)
     keep done ops lower end low_end (Bin op t a c) place rest hold =
-        act done ops lower end low_end (Bin op t a c) place rest (outcome_of x world (Bin op t a c)) refl refl hold (gives_target x world (Bin op t a c)) (at_op (Bin op t a c) lower low_end)
+        act done ops lower end low_end (Bin op t a c) place rest (outcome_of x world (Bin op t a c)) refl
+        (computed (value_in x a) (value_in x c) refl refl) (at_op (Bin op t a c) lower low_end)
+      where
+        computed : (o p : Option ℕ) → value_in x a ≡ o → value_in x c ≡ p
+            → AllHoldAfter done ops lower end low_end (Bin op t a c) place rest (with_value o (λ m. with_value p (λ n. Gives [] t (applied op m n) world)))
+        computed (Some m) (Some n) e f = all_computed blocks b done x hold op t a c m n e f
+        computed (Some m) None e f = tt
+        computed None p e f = tt
+    keep done ops lower end low_end (Copy t a) place rest hold =
+        act done ops lower end low_end (Copy t a) place rest (outcome_of x world (Copy t a)) refl
+        (plain done ops lower end low_end (Copy t a) place rest (outcome_of x world (Copy t a)) refl (λ r. refl) hold (gives_target x world (Copy t a))) (at_op (Copy t a) lower low_end)
     keep done ops lower end low_end (High is_signed t a c) place rest hold =
-        act done ops lower end low_end (High is_signed t a c) place rest (outcome_of x world (High is_signed t a c)) refl refl hold (gives_target x world (High is_signed t a c)) (at_op (High is_signed t a c) lower low_end)
+        act done ops lower end low_end (High is_signed t a c) place rest (outcome_of x world (High is_signed t a c)) refl
+        (plain done ops lower end low_end (High is_signed t a c) place rest (outcome_of x world (High is_signed t a c)) refl (λ r. refl) hold (gives_target x world (High is_signed t a c))) (at_op (High is_signed t a c) lower low_end)
     keep done ops lower end low_end (Load width t a n) place rest hold =
-        act done ops lower end low_end (Load width t a n) place rest (outcome_of x world (Load width t a n)) refl refl hold (gives_target x world (Load width t a n)) (at_op (Load width t a n) lower low_end)
+        act done ops lower end low_end (Load width t a n) place rest (outcome_of x world (Load width t a n)) refl
+        (plain done ops lower end low_end (Load width t a n) place rest (outcome_of x world (Load width t a n)) refl (λ r. refl) hold (gives_target x world (Load width t a n))) (at_op (Load width t a n) lower low_end)
     keep done ops lower end low_end (Store width a n c) place rest hold =
-        act done ops lower end low_end (Store width a n c) place rest (outcome_of x world (Store width a n c)) refl refl hold (gives_target x world (Store width a n c)) (at_op (Store width a n c) lower low_end)
+        act done ops lower end low_end (Store width a n c) place rest (outcome_of x world (Store width a n c)) refl
+        (plain done ops lower end low_end (Store width a n c) place rest (outcome_of x world (Store width a n c)) refl (λ r. refl) hold (gives_target x world (Store width a n c))) (at_op (Store width a n c) lower low_end)
     keep done ops lower end low_end (Get t) place rest hold =
-        act done ops lower end low_end (Get t) place rest (outcome_of x world (Get t)) refl refl hold (gives_target x world (Get t)) (at_op (Get t) lower low_end)
+        act done ops lower end low_end (Get t) place rest (outcome_of x world (Get t)) refl
+        (plain done ops lower end low_end (Get t) place rest (outcome_of x world (Get t)) refl (λ r. refl) hold (gives_target x world (Get t))) (at_op (Get t) lower low_end)
     keep done ops lower end low_end (Put a) place rest hold =
-        act done ops lower end low_end (Put a) place rest (outcome_of x world (Put a)) refl refl hold (gives_target x world (Put a)) (at_op (Put a) lower low_end)
+        act done ops lower end low_end (Put a) place rest (outcome_of x world (Put a)) refl
+        (plain done ops lower end low_end (Put a) place rest (outcome_of x world (Put a)) refl (λ r. refl) hold (gives_target x world (Put a))) (at_op (Put a) lower low_end)
     keep done ops lower end low_end (Alloc t a size) place rest hold =
-        act done ops lower end low_end (Alloc t a size) place rest (outcome_of x world (Alloc t a size)) refl refl hold (gives_target x world (Alloc t a size)) (at_op (Alloc t a size) lower low_end)
+        act done ops lower end low_end (Alloc t a size) place rest (outcome_of x world (Alloc t a size)) refl
+        (plain done ops lower end low_end (Alloc t a size) place rest (outcome_of x world (Alloc t a size)) refl (λ r. refl) hold (gives_target x world (Alloc t a size))) (at_op (Alloc t a size) lower low_end)
 
     drop_op : (done ops lower : List TacOp) (end low_end : TacEnd) (op : TacOp) → IsPlace blocks b done (op ∷ ops) end
         → Becomes (known_pass b) blocks (op ∷ done) ops end lower low_end → AllHold blocks b done x → IsNeedless blocks b done op

@@ -16,7 +16,7 @@ done_one done [] i op h e = absurd (omega (arith, h))
 done_one done (o ∷ ops) zero op h e = ap (λ (p : TacOp). p ∷ done) (sym e)
 done_one done (o ∷ ops) (suc i) op h e = done_one (o ∷ done) ops i op (omega (arith, h)) e
 
-done_more : (ops : List TacOp) (i : ℕ) (op : TacOp) → i < length ops → op ≡ get_or ops i op → all_done [] (take (i + 1) ops) ≡ op ∷ all_done [] (take i ops)
+pub done_more : (ops : List TacOp) (i : ℕ) (op : TacOp) → i < length ops → op ≡ get_or ops i op → all_done [] (take (i + 1) ops) ≡ op ∷ all_done [] (take i ops)
 done_more ops i op h e = let n : i + 1 ≡ suc i = omega arith in ap (λ m. all_done [] (take m ops)) n ∙ done_one [] ops i op h e
 
 module _ (blocks : List TacBlock) (b : ℕ) (ops : List TacOp) where

@@ -1,8 +1,10 @@
 pub mod Same
-pub mod Paths
+pub mod Ways
 pub mod Added
 pub mod Search
 pub mod Left
+pub mod Decided
+pub mod Counting
 pub mod Holding
 pub mod Followed
 pub mod Once

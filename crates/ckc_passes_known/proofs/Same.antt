@@ -1,7 +1,8 @@
 -- Tests of facts answer what they are asked.
-use Rattle.std.proofs.Common.{◌≡◌, ◌≢◌, ⊎_elim, ℕ, ◌==◌, Bool, true, false, ◌&&◌, Some, refl, ap, subst, ◌∙◌, arith}
+use Rattle.std.proofs.Common.{◌≡◌, ◌≢◌, ⊎_elim, ℕ, ◌==◌, ◌^◌, nat_lt, Bool, true, false, ◌&&◌, if◌then◌else◌, Some, None, refl, sym, ap, subst, ◌∙◌, arith}
 use Rattle.std.proofs.lemmas.Bool.{both_ways, cases_Bool}
 use Rattle.std.proofs.lemmas.Bool.Decides.{nat_tests}
+use Rattle.ckc_base.specs.declared.arithmetic.BinOp.TheVariants.{Add, Sub, Mul, DivS, DivU, RemS, RemU, And, Or, Xor, Shl, ShrS, ShrU, LtS as less_signed, LtU as less, Eq as equal, Ne as unequal}
 use Rattle.ckc_tac.specs.declared.code.Comparison.{Comparison}
 use Rattle.ckc_tac.specs.declared.code.Comparison.TheVariants.{LtS, LtU, Eq, Ne}
 use Rattle.ckc_tac.specs.declared.code.Operand.{Operand}
@@ -9,8 +10,8 @@ use Rattle.ckc_tac.specs.declared.code.Operand.TheVariants.{Register, Number}
 use Rattle.ckc_tac.specs.declared.code.TacOp.{TacOp}
 use Rattle.ckc_tac.specs.declared.code.TacOp.TheVariants.{Const, Copy, Bin, High, Load, Store, Check, Call, Get, Put, Alloc}
 use Rattle.ckc_passes_known.specs.declared.facts.Fact.{Fact}
-use Rattle.ckc_passes_known.specs.Known.{fact_of, told}
-use Rattle.ckc_passes_known.specs.code.Marks.{same_comparison, same_operand, same_outcome, same_fact, tells}
+use Rattle.ckc_passes_known.specs.Known.{fact_of, not_negative, told, one_more}
+use Rattle.ckc_passes_known.specs.code.Marks.{same_comparison, same_operand, same_outcome, same_fact, tells, adds_one}
 
 pub both_left : (a b : Bool) → (a && b) ≡ true → a ≡ true
 both_left true b e = refl
@@ -108,9 +109,17 @@ not_fact f g apart = ⊎_elim (λ (t : same_fact f g ≡ true). absurd (apart (f
 same_some : (f g : Fact) → Some f ≡ Some g → f ≡ g
 same_some f g e = cc
 
+const_told : (small : Bool) (f fact : Fact) → (small && same_fact f fact) ≡ true → (if small then Some f else None) ≡ Some fact
+const_told true f fact e = ap Some (fact_is f fact e)
+const_told false f fact e = absurd cc
+
+told_const : (small : Bool) (f fact : Fact) → (if small then Some f else None) ≡ Some fact → (small && same_fact f fact) ≡ true
+told_const true f fact e = subst (λ g. same_fact f g ≡ true) (same_some f fact e) (fact_self f)
+told_const false f fact e = absurd (let g : None ≡ Some fact = e in cc)
+
 pub tells_told : (op : TacOp) (fact : Fact) → tells op fact ≡ true → told op ≡ Some fact
 tells_told (Check check at comparison a b) fact e = ap Some (fact_is (fact_of comparison a b true) fact e)
-tells_told (Const t n) fact e = absurd cc
+tells_told (Const t n) fact e = const_told (nat_lt n (2 ^ 31)) (not_negative t) fact e
 tells_told (Copy t a) fact e = absurd cc
 tells_told (Bin op t a b) fact e = absurd cc
 tells_told (High is_signed t a b) fact e = absurd cc
@@ -124,7 +133,7 @@ tells_told (Alloc t a size) fact e = absurd cc
 told_tells : (op : TacOp) (fact : Fact) → told op ≡ Some fact → tells op fact ≡ true
 told_tells (Check check at comparison a b) fact e =
     subst (λ g. same_fact (fact_of comparison a b true) g ≡ true) (same_some (fact_of comparison a b true) fact e) (fact_self (fact_of comparison a b true))
-told_tells (Const t n) fact e = absurd cc
+told_tells (Const t n) fact e = told_const (nat_lt n (2 ^ 31)) (not_negative t) fact e
 told_tells (Copy t a) fact e = absurd cc
 told_tells (Bin op t a b) fact e = absurd cc
 told_tells (High is_signed t a b) fact e = absurd cc
@@ -140,3 +149,46 @@ tells_not op fact e same = both_ways (tells op fact) e (told_tells op fact same)
 
 pub not_tells : (op : TacOp) (fact : Fact) → told op ≢ Some fact → tells op fact ≡ false
 not_tells op fact apart = ⊎_elim (λ (t : tells op fact ≡ true). absurd (apart (tells_told op fact t))) (λ (e : tells op fact ≡ false). e) (cases_Bool (tells op fact))
+
+-- ---- the operation that adds 1
+
+adds_self : (r : ℕ) → adds_one (one_more r) r ≡ true
+adds_self r = both (r == r && r == r) (1 == 1) (both (r == r) (r == r) (same_test r) (same_test r)) refl
+
+pub is_adding : (op : TacOp) (r : ℕ) → op ≡ one_more r → adds_one op r ≡ true
+is_adding op r e = subst (λ o. adds_one o r ≡ true) (sym e) (adds_self r)
+
+pub adding_is : (op : TacOp) (r : ℕ) → adds_one op r ≡ true → op ≡ one_more r
+adding_is (Bin Add t (Register q) (Number n)) r e =
+    let two = both_left (t == r && q == r) (n == 1) e in
+    ap (λ (t : ℕ). Bin Add t (Register q) (Number n)) (test_same t r (both_left (t == r) (q == r) two))
+    ∙ ap (λ (q : ℕ). Bin Add r (Register q) (Number n)) (test_same q r (both_right (t == r) (q == r) two))
+    ∙ ap (λ (n : ℕ). Bin Add r (Register r) (Number n)) (test_same n 1 (both_right (t == r && q == r) (n == 1) e))
+adding_is (Bin Add t (Register q) (Register p)) r e = absurd cc
+adding_is (Bin Add t (Number m) b) r e = absurd cc
+adding_is (Bin Sub t a b) r e = absurd cc
+adding_is (Bin Mul t a b) r e = absurd cc
+adding_is (Bin DivS t a b) r e = absurd cc
+adding_is (Bin DivU t a b) r e = absurd cc
+adding_is (Bin RemS t a b) r e = absurd cc
+adding_is (Bin RemU t a b) r e = absurd cc
+adding_is (Bin And t a b) r e = absurd cc
+adding_is (Bin Or t a b) r e = absurd cc
+adding_is (Bin Xor t a b) r e = absurd cc
+adding_is (Bin Shl t a b) r e = absurd cc
+adding_is (Bin ShrS t a b) r e = absurd cc
+adding_is (Bin ShrU t a b) r e = absurd cc
+adding_is (Bin less_signed t a b) r e = absurd cc
+adding_is (Bin less t a b) r e = absurd cc
+adding_is (Bin equal t a b) r e = absurd cc
+adding_is (Bin unequal t a b) r e = absurd cc
+adding_is (Const t n) r e = absurd cc
+adding_is (Copy t a) r e = absurd cc
+adding_is (High is_signed t a b) r e = absurd cc
+adding_is (Load width t a n) r e = absurd cc
+adding_is (Store width a n b) r e = absurd cc
+adding_is (Check check at comparison a b) r e = absurd cc
+adding_is (Call target callee arguments at) r e = absurd cc
+adding_is (Get t) r e = absurd cc
+adding_is (Put a) r e = absurd cc
+adding_is (Alloc t a size) r e = absurd cc

@@ -8,15 +8,15 @@ use Rattle.ckc_tac.specs.declared.code.TacBlock.{TacBlock}
 use Rattle.ckc_tac.specs.declared.code.TacOp.{TacOp}
 use Rattle.ckc_tac.specs.declared.code.TacEnd.{TacEnd}
 use Rattle.ckc_tac.specs.declared.code.TacEnd.TheVariants.{Jump, Branch, Return}
-use Rattle.ckc_flow.specs.Live.{target_of}
 use Rattle.ckc_passes.specs.Rewrites.{all_done}
 use Rattle.ckc_passes_known.specs.declared.facts.Fact.{Fact}
 use Rattle.ckc_passes_known.specs.declared.edges.Edge.{Edge}
-use Rattle.ckc_passes_known.specs.Known.{fact_of, changes, LeadsUntold, IsLost, at_entry, along, written, untold}
+use Rattle.ckc_passes_known.specs.declared.marks.Question.{Question}
+use Rattle.ckc_passes_known.specs.declared.marks.Way.TheVariants.{Open}
+use Rattle.ckc_passes_known.specs.Known.{fact_of, LeadsUntold, at_entry, along, ended, untold}
 use Rattle.ckc_passes_known.specs.code.Edges.{LeadsTo, ComesFrom, here, later, AreLinked, AreFrom}
-use Rattle.ckc_passes_known.specs.code.Marks.{same_fact, tells, past_all, leads, loses, leaves, Has, unset, unset_in, IsPut, IsClosed, IsAnswered, Waits, IsSearch, GoesOn, IsAsked, IsAsking}
-use Rattle.ckc_passes_known.proofs.Same.{both, both_left, both_right, test_same, same_test, fact_not, not_fact, not_tells}
-use Rattle.ckc_passes_known.proofs.Paths.{past_done, past_forward, done_shows, lost_anyway, never_lost}
+use Rattle.ckc_passes_known.specs.code.Marks.{same_fact, leads, fact_in, Ends, IsGone, Passes, Goes, Has, unset, unset_in, IsPut, IsClosed, IsAnswered, Waits, IsSearch, GoesOn, IsAsked, IsAsking}
+use Rattle.ckc_passes_known.proofs.Same.{both, both_left, both_right, test_same, same_test, fact_not, not_fact}
 use Rattle.ckc_passes_known.proofs.Added.{slice_get_keeps, slice_get_last, slice_get_push}
 
 -- ---- edges that do not tell the fact
@@ -53,10 +53,6 @@ module _ (fact : Fact) where
   untold_leads (Branch comparison x y one two) b (inl (e, n)) = inl e
   untold_leads (Branch comparison x y one two) b (inr (e, n)) = inr e
   untold_leads (Return x) b e = e
-
-  pub not_both : (a b : Bool) → (a && b) ≡ false → a ≡ true → b ≡ false
-  not_both true b e f = e
-  not_both false b e f = absurd cc
 
 -- ---- marks
 
@@ -104,29 +100,29 @@ set_counts marks b h e = (let s = sum_by-set unset marks b true false h in let u
 
 -- ---- one block more
 
-closed_keeps : (fact : Fact) (block : TacBlock) (p : ℕ) (marks marks' : List Bool) → ((r : ℕ) → Has marks r → Has marks' r) → IsClosed fact block p marks → IsClosed fact block p marks'
-closed_keeps fact block p marks marks' keeps (inl e) = inl e
-closed_keeps fact block p marks marks' keeps (inr (e, h)) = inr (e, keeps p h)
+closed_keeps : (blocks : List TacBlock) (question : Question) (block : TacBlock) (p : ℕ) (marks marks' : List Bool) → ((r : ℕ) → Has marks r → Has marks' r) → IsClosed blocks question block p marks → IsClosed blocks question block p marks'
+closed_keeps blocks question block p marks marks' keeps (inl e) = inl e
+closed_keeps blocks question block p marks marks' keeps (inr (e, h)) = inr (e, keeps p h)
 
-module _ (blocks : List TacBlock) (fact : Fact) where
-  answered_keeps : (b : ℕ) (marks marks' : List Bool) → ((r : ℕ) → Has marks r → Has marks' r) → IsAnswered blocks fact b marks → IsAnswered blocks fact b marks'
+module _ (blocks : List TacBlock) (question : Question) where
+  answered_keeps : (b : ℕ) (marks marks' : List Bool) → ((r : ℕ) → Has marks r → Has marks' r) → IsAnswered blocks question b marks → IsAnswered blocks question b marks'
   answered_keeps b marks marks' keeps a = record {
     inner = a.inner;
-    closed = λ p block at leads. closed_keeps fact block p marks marks' keeps (a.closed p block at leads);
+    closed = λ p block at leads. closed_keeps blocks question block p marks marks' keeps (a.closed p block at leads);
   }
 
   waits_keeps : (order more : List ℕ) (i b : ℕ) → Waits order i b → Waits (order ++ more) i b
   waits_keeps order more i b (k, h, at) = (k, h, slice_get_keeps order more k b at)
 
-  module _ (goal i : ℕ) (marks : List Bool) (order : List ℕ) (p : ℕ) (short : i ≤ length order) (depends : IsLost blocks fact p [] → IsLost blocks fact goal [])
-      (s : IsSearch blocks fact goal i marks order) where
-    search_more : p < length marks → get_or marks p false ≡ false → IsSearch blocks fact goal i (set marks p true) (order ++ p ∷ [])
+  module _ (goal i : ℕ) (marks : List Bool) (order : List ℕ) (p : ℕ) (short : i ≤ length order) (depends : IsGone blocks question p [] → IsGone blocks question goal [])
+      (s : IsSearch blocks question goal i marks order) where
+    search_more : p < length marks → get_or marks p false ≡ false → IsSearch blocks question goal i (set marks p true) (order ++ p ∷ [])
     search_more within new = record {
       long = length-set marks p true ∙ s.long;
       counts = omega (arith, s.counts, set_counts marks p within new, length_push order p);
       begun = set_keeps marks p goal s.begun;
       sound = λ b h is. ⊎_elim
-          (λ (e : p ≡ b). depends (subst (λ q. IsLost blocks fact q []) (sym e) is))
+          (λ (e : p ≡ b). depends (subst (λ q. IsGone blocks question q []) (sym e) is))
           (λ (k : Has marks b). s.sound b k is) (set_from marks p b h);
       marked = λ k b at. ⊎_elim
           (λ (h : slice_get order k ≡ Some b). set_keeps marks p b (s.marked k b h))
@@ -139,12 +135,12 @@ module _ (blocks : List TacBlock) (fact : Fact) where
           (λ w. inr (waits_keeps order (p ∷ []) i b w)) (s.all b k)) (set_from marks p b h);
     }
 
-    pub search_put : (marks' : List Bool) (order' : List ℕ) → p < length marks → IsPut p marks order marks' order' → IsSearch blocks fact goal i marks' order'
+    pub search_put : (marks' : List Bool) (order' : List ℕ) → p < length marks → IsPut p marks order marks' order' → IsSearch blocks question goal i marks' order'
     search_put marks' order' within (inl (is, e, f)) =
-        subst (λ (m : List Bool). IsSearch blocks fact goal i m order') (sym e) (subst (λ (o : List ℕ). IsSearch blocks fact goal i marks o) (sym f) s)
+        subst (λ (m : List Bool). IsSearch blocks question goal i m order') (sym e) (subst (λ (o : List ℕ). IsSearch blocks question goal i marks o) (sym f) s)
     search_put marks' order' within (inr (is, e, f)) =
-        subst (λ (m : List Bool). IsSearch blocks fact goal i m order') (sym e)
-        (subst (λ (o : List ℕ). IsSearch blocks fact goal i (set marks p true) o) (sym f) (search_more within is))
+        subst (λ (m : List Bool). IsSearch blocks question goal i m order') (sym e)
+        (subst (λ (o : List ℕ). IsSearch blocks question goal i (set marks p true) o) (sym f) (search_more within is))
 
   -- ---- the beginning
 
@@ -170,13 +166,13 @@ module _ (blocks : List TacBlock) (fact : Fact) where
     within : goal < length none
     within = omega (arith, there, length-replicate (length blocks) false)
 
-    search_first : IsSearch blocks fact goal 0 (set none goal true) (goal ∷ [])
+    search_first : IsSearch blocks question goal 0 (set none goal true) (goal ∷ [])
     search_first = record {
       long = length-set none goal true ∙ length-replicate (length blocks) false;
       counts = omega (arith, set_counts none goal within (none_has (length blocks) goal), none_counts (length blocks));
       begun = get_or-set_same none goal true false within;
       sound = λ b h is. ⊎_elim
-          (λ (e : goal ≡ b). subst (λ q. IsLost blocks fact q []) (sym e) is)
+          (λ (e : goal ≡ b). subst (λ q. IsGone blocks question q []) (sym e) is)
           (λ (k : Has none b). absurd (both_ways (get_or none b false) (none_has (length blocks) b) k)) (set_from none goal b h);
       marked = λ k b at. subst (λ q. Has (set none goal true) q) (slice_get_one goal k b at) (get_or-set_same none goal true false within);
       all = λ b h. ⊎_elim
@@ -184,12 +180,12 @@ module _ (blocks : List TacBlock) (fact : Fact) where
           (λ (k : Has none b). absurd (both_ways (get_or none b false) (none_has (length blocks) b) k)) (set_from none goal b h);
     }
 
-    pub search_begins : (old marks : List Bool) (order order' : List ℕ) → old ≡ none → order ≡ [] → IsPut goal old order marks order' → IsSearch blocks fact goal 0 marks order'
+    pub search_begins : (old marks : List Bool) (order order' : List ℕ) → old ≡ none → order ≡ [] → IsPut goal old order marks order' → IsSearch blocks question goal 0 marks order'
     search_begins old marks order order' e o (inl (is, f, g)) =
         absurd (both_ways (get_or none goal false) (none_has (length blocks) goal) (subst (λ (m : List Bool). Has m goal) e is))
     search_begins old marks order order' e o (inr (is, f, g)) =
-        subst (λ (m : List Bool). IsSearch blocks fact goal 0 m order') (sym (f ∙ ap (λ (m : List Bool). set m goal true) e))
-        (subst (λ (l : List ℕ). IsSearch blocks fact goal 0 (set none goal true) l) (sym (g ∙ ap (λ (l : List ℕ). l ++ goal ∷ []) o)) search_first)
+        subst (λ (m : List Bool). IsSearch blocks question goal 0 m order') (sym (f ∙ ap (λ (m : List Bool). set m goal true) e))
+        (subst (λ (l : List ℕ). IsSearch blocks question goal 0 (set none goal true) l) (sym (g ∙ ap (λ (l : List ℕ). l ++ goal ∷ []) o)) search_first)
 
   -- ---- a block of the order
 
@@ -198,15 +194,15 @@ module _ (blocks : List TacBlock) (fact : Fact) where
       (λ (same : k ≡ i). inl (let g : slice_get order i ≡ Some b = subst (λ q. slice_get order q ≡ Some b) same there in cc))
       (λ (apart : k ≡ i → ⊥). inr (k, omega arith, there)) (cases_eq k i)
 
-  module _ (goal i v : ℕ) (marks : List Bool) (order : List ℕ) (marks' : List Bool) (order' : List ℕ) (s : IsSearch blocks fact goal i marks order) (h : i < length order)
+  module _ (goal i v : ℕ) (marks : List Bool) (order : List ℕ) (marks' : List Bool) (order' : List ℕ) (s : IsSearch blocks question goal i marks order) (h : i < length order)
       (at : slice_get order i ≡ Some v) where
     pub there_of : v < length blocks
     there_of = omega (arith, s.long, has_within marks v (s.marked i v at))
 
-    pub lost_at : IsLost blocks fact v [] → IsLost blocks fact goal []
+    pub lost_at : IsGone blocks question v [] → IsGone blocks question goal []
     lost_at is = s.sound v (s.marked i v at) is
 
-    pub search_answered : slice_get order' i ≡ Some v → IsAnswered blocks fact v marks' → IsSearch blocks fact goal i marks' order' → IsSearch blocks fact goal (i + 1) marks' order'
+    pub search_answered : slice_get order' i ≡ Some v → IsAnswered blocks question v marks' → IsSearch blocks question goal i marks' order' → IsSearch blocks question goal (i + 1) marks' order'
     search_answered still a t = record {
       long = t.long;
       counts = t.counts;
@@ -214,43 +210,33 @@ module _ (blocks : List TacBlock) (fact : Fact) where
       sound = t.sound;
       marked = t.marked;
       all = λ b k. ⊎_elim (λ done. inl done)
-          (λ w. ⊎_elim (λ (e : v ≡ b). inl (subst (λ q. IsAnswered blocks fact q marks') e a)) (λ x. inr x) (waits_next order' i b v still w)) (t.all b k);
+          (λ w. ⊎_elim (λ (e : v ≡ b). inl (subst (λ q. IsAnswered blocks question q marks') e a)) (λ x. inr x) (waits_next order' i b v still w)) (t.all b k);
     }
 
   -- ---- the edges to a block
 
-  module _ (b : ℕ) (block : TacBlock) (from : ℕ) (at : slice_get blocks from ≡ Some block) where
-    pub lost_by : loses fact block b ≡ true → IsLost blocks fact b []
-    lost_by e =
-        along from block at (leads_is fact block.end b (both_left (leads fact block.end b) (past_all fact block.ops false) e))
-        (lost_anyway blocks fact from block.ops (both_right (leads fact block.end b) (past_all fact block.ops false) e))
+  module _ (b : ℕ) (block : TacBlock) (from : ℕ) (at : slice_get blocks from ≡ Some block) (led : leads (fact_in question) block.end b ≡ true) where
+    pub lost_by : IsGone blocks question from (all_done [] block.ops) → IsGone blocks question b []
+    lost_by is = along from block at (leads_is (fact_in question) block.end b led) is
 
-    pub goal_by : (goal : ℕ) → leaves fact block b ≡ true → (IsLost blocks fact b [] → IsLost blocks fact goal []) → IsLost blocks fact from [] → IsLost blocks fact goal []
-    goal_by goal e depends is =
-        depends (along from block at (leads_is fact block.end b (both_left (leads fact block.end b) (past_all fact block.ops true) e))
-        (done_shows blocks fact from (all_done [] block.ops) true (λ k. is)
-        (sym (past_forward fact block.ops [] true) ∙ both_right (leads fact block.end b) (past_all fact block.ops true) e)))
+    pub goal_by : (goal : ℕ) → (IsGone blocks question from [] → IsGone blocks question from (all_done [] block.ops)) → (IsGone blocks question b [] → IsGone blocks question goal [])
+        → IsGone blocks question from [] → IsGone blocks question goal []
+    goal_by goal same depends is = depends (lost_by (same is))
 
-    same_block : (other : TacBlock) → slice_get blocks from ≡ Some other → block ≡ other
-    same_block other there = (let g : Some block ≡ Some other = sym at ∙ there in cc)
+  module _ (block : TacBlock) (from : ℕ) (at : slice_get blocks from ≡ Some block) (marks : List Bool) (other : TacBlock) (there : slice_get blocks from ≡ Some other) where
+    same_block : block ≡ other
+    same_block = (let g : Some block ≡ Some other = sym at ∙ there in cc)
 
     -- a block that leaves the fact as it is has its mark now
-    pub closed_put : (marks : List Bool) (other : TacBlock) → slice_get blocks from ≡ Some other → LeadsUntold fact other.end b
-        → loses fact block b ≡ false → Has marks from → IsClosed fact other from marks
-    closed_put marks other there leads_there e h =
-        subst (λ (o : TacBlock). IsClosed fact o from marks) (same_block other there)
-        (inr (
-          not_both fact (leads fact block.end b) (past_all fact block.ops false) e
-              (is_leads fact block.end b (subst (λ (o : TacBlock). LeadsUntold fact o.end b) (sym (same_block other there)) leads_there)),
-          h,
-        ))
+    pub closed_put : Passes (Ends blocks question) from (all_done [] block.ops) → Has marks from → IsClosed blocks question other from marks
+    closed_put passes h = subst (λ (o : TacBlock). IsClosed blocks question o from marks) same_block (inr (passes, h))
 
-    pub closed_told : (marks : List Bool) (other : TacBlock) → slice_get blocks from ≡ Some other → LeadsUntold fact other.end b
-        → leaves fact block b ≡ false → IsClosed fact other from marks
-    closed_told marks other there leads_there e =
-        subst (λ (o : TacBlock). IsClosed fact o from marks) (same_block other there)
-        (inl (not_both fact (leads fact block.end b) (past_all fact block.ops true) e
-        (is_leads fact block.end b (subst (λ (o : TacBlock). LeadsUntold fact o.end b) (sym (same_block other there)) leads_there))))
+    pub closed_told : (IsGone blocks question from (all_done [] block.ops) → ⊥) → IsClosed blocks question other from marks
+    closed_told kept = subst (λ (o : TacBlock). IsClosed blocks question o from marks) same_block (inl kept)
+
+    pub closed_apart : (b : ℕ) → LeadsUntold (fact_in question) other.end b → leads (fact_in question) block.end b ≡ false → IsClosed blocks question other from marks
+    closed_apart b leads_there e = absurd (both_ways (leads (fact_in question) block.end b) e
+        (is_leads (fact_in question) block.end b (subst (λ (o : TacBlock). LeadsUntold (fact_in question) o.end b) (sym same_block) leads_there)))
 
   module _ (all : List Edge) (first : List ℕ) (linked : AreLinked first all) (b head e : ℕ) (edge : Edge) (some : 0 < e) (at : slice_get all (e - 1) ≡ Some edge) where
     pub smaller : edge.next < e
@@ -267,11 +253,11 @@ module _ (blocks : List TacBlock) (fact : Fact) where
         let h : other ≡ edge = (let i : Some other ≡ Some edge = sym there ∙ g in cc) in
         inr (subst (λ (o : Edge). ComesFrom all p o.next) h c)
 
-    module _ (marks : List Bool) (order : List ℕ) (marks' : List Bool) (order' : List ℕ) (u : IsAsking blocks all fact b head e marks order marks' order') where
+    module _ (marks : List Bool) (order : List ℕ) (marks' : List Bool) (order' : List ℕ) (u : IsAsking blocks all question b head e marks order marks' order') where
       pub asking_next : (marks'' : List Bool) (order'' : List ℕ) → length marks'' ≡ length marks' → length order' ≤ length order''
-          → ((k r : ℕ) → slice_get order' k ≡ Some r → slice_get order'' k ≡ Some r) → ((r : ℕ) → Has marks' r → Has marks'' r) → GoesOn blocks fact b marks' order' marks'' order''
-          → ((block : TacBlock) → slice_get blocks edge.from ≡ Some block → LeadsUntold fact block.end b → IsClosed fact block edge.from marks'')
-          → IsAsking blocks all fact b head edge.next marks order marks'' order''
+          → ((k r : ℕ) → slice_get order' k ≡ Some r → slice_get order'' k ≡ Some r) → ((r : ℕ) → Has marks' r → Has marks'' r) → GoesOn blocks question b marks' order' marks'' order''
+          → ((block : TacBlock) → slice_get blocks edge.from ≡ Some block → LeadsUntold (fact_in question) block.end b → IsClosed blocks question block edge.from marks'')
+          → IsAsking blocks all question b head edge.next marks order marks'' order''
       asking_next marks'' order'' long longer stays keeps goes handled = record {
         long = long ∙ u.long;
         within = omega (arith, smaller, u.within);
@@ -279,28 +265,28 @@ module _ (blocks : List TacBlock) (fact : Fact) where
         stays = λ k r h. stays k r (u.stays k r h);
         goes = λ goal i short depends s. goes goal i (omega (arith, short, u.longer)) depends (u.goes goal i short depends s);
         closed = λ p block there untold_there c. ⊎_elim
-            (λ k. inl (closed_keeps fact block p marks' marks'' keeps k))
+            (λ k. inl (closed_keeps blocks question block p marks' marks'' keeps k))
             (λ (f : ComesFrom all p e). ⊎_elim
-            (λ (h : p ≡ edge.from). inl (subst (λ q. IsClosed fact block q marks'') (sym h) (handled block (subst (λ q. slice_get blocks q ≡ Some block) h there) untold_there)))
+            (λ (h : p ≡ edge.from). inl (subst (λ q. IsClosed blocks question block q marks'') (sym h) (handled block (subst (λ q. slice_get blocks q ≡ Some block) h there) untold_there)))
             (λ d. inr d) (one_edge p e refl f)) (u.closed p block there untold_there c);
       }
 
-      pub asking_stays : ((block : TacBlock) → slice_get blocks edge.from ≡ Some block → LeadsUntold fact block.end b → IsClosed fact block edge.from marks')
-          → IsAsking blocks all fact b head edge.next marks order marks' order'
+      pub asking_stays : ((block : TacBlock) → slice_get blocks edge.from ≡ Some block → LeadsUntold (fact_in question) block.end b → IsClosed blocks question block edge.from marks')
+          → IsAsking blocks all question b head edge.next marks order marks' order'
       asking_stays handled = asking_next marks' order' refl (omega arith) (λ k r h. h) (λ r h. h) (λ goal i short depends s. s) handled
 
       pub asking_put : (marks'' : List Bool) (order'' : List ℕ) (block : TacBlock) → slice_get blocks edge.from ≡ Some block
-          → loses fact block b ≡ false → leaves fact block b ≡ true → IsPut edge.from marks' order' marks'' order''
-          → IsAsking blocks all fact b head edge.next marks order marks'' order''
-      asking_put marks'' order'' block there not_lost left put =
+          → leads (fact_in question) block.end b ≡ true → Goes blocks question edge.from (all_done [] block.ops) Open → IsPut edge.from marks' order' marks'' order''
+          → IsAsking blocks all question b head edge.next marks order marks'' order''
+      asking_put marks'' order'' block there led goes put =
           let within : edge.from < length marks' = (let h = slice_get_within blocks edge.from block there in omega (arith, h, u.long)) in
           asking_next marks'' order'' (put_long edge.from marks' order' marks'' order'' put) (put_longer edge.from marks' order' marks'' order'' put)
           (put_stays edge.from marks' order' marks'' order'' put) (put_keeps edge.from marks' order' marks'' order'' put)
-          (λ goal i short depends s. search_put goal i marks' order' edge.from short (goal_by b block edge.from there goal left depends) s marks'' order'' within put)
-          (λ other again untold_there. closed_put b block edge.from there marks'' other again untold_there not_lost (put_has edge.from marks' order' marks'' order'' within put))
+          (λ goal i short depends s. search_put goal i marks' order' edge.from short (goal_by b block edge.from there led goal goes.1 depends) s marks'' order'' within put)
+          (λ other again untold_there. closed_put block edge.from there marks'' other again goes.0 (put_has edge.from marks' order' marks'' order'' within put))
 
   pub asking_first : (all : List Edge) (first : List ℕ) (b : ℕ) (marks : List Bool) (order : List ℕ) → AreFrom blocks (length blocks) first all → length marks ≡ length blocks
-      → IsAsking blocks all fact b (get_or first b 0) (get_or first b 0) marks order marks order
+      → IsAsking blocks all question b (get_or first b 0) (get_or first b 0) marks order marks order
   asking_first all first b marks order edges long = record {
     long = long;
     within = edges.linked.heads b;
@@ -315,7 +301,7 @@ module _ (blocks : List TacBlock) (fact : Fact) where
 
   pub asking_ended : (all : List Edge) (first : List ℕ) (b e : ℕ) (marks : List Bool) (order : List ℕ) (marks' : List Bool) (order' : List ℕ)
       → AreFrom blocks (length blocks) first all → b < length blocks → (b ≡ 0 → ⊥) → e ≡ 0
-      → IsAsking blocks all fact b (get_or first b 0) e marks order marks' order' → IsAsked blocks fact b marks order marks' order'
+      → IsAsking blocks all question b (get_or first b 0) e marks order marks' order' → IsAsked blocks question b marks order marks' order'
   asking_ended all first b e marks order marks' order' edges within inner none u = record {
     goes = u.goes;
     stays = u.stays;
@@ -323,32 +309,28 @@ module _ (blocks : List TacBlock) (fact : Fact) where
       inner = inner;
       closed = λ p block at leads_there. ⊎_elim (λ c. c)
           (λ (f : ComesFrom all p e). absurd (no_edge all p (subst (ComesFrom all p) none f)))
-          (u.closed p block at leads_there (edges.there p block b (slice_get_within blocks p block at) at (untold_leads fact block.end b leads_there) within));
+          (u.closed p block at leads_there (edges.there p block b (slice_get_within blocks p block at) at (untold_leads (fact_in question) block.end b leads_there) within));
     };
   }
 
   -- ---- the end
 
-  module _ (goal i : ℕ) (marks : List Bool) (order : List ℕ) (s : IsSearch blocks fact goal i marks order) (ended : length order ≤ i) where
-    answered_all : (b : ℕ) → Has marks b → IsAnswered blocks fact b marks
+  module _ (goal i : ℕ) (marks : List Bool) (order : List ℕ) (s : IsSearch blocks question goal i marks order) (over : length order ≤ i) where
+    answered_all : (b : ℕ) → Has marks b → IsAnswered blocks question b marks
     answered_all b h = ⊎_elim (λ a. a)
-        (λ (w : Waits order i b). absurd (let k = slice_get_within order w.0 b w.2 in omega (arith, k, w.1, ended))) (s.all b h)
+        (λ (w : Waits order i b). absurd (let k = slice_get_within order w.0 b w.2 in omega (arith, k, w.1, over))) (s.all b h)
 
-    not_past : (block : TacBlock) → past_all fact block.ops false ≡ false → past_done fact (all_done [] block.ops) false ≡ true → ⊥
-    not_past block e f = both_ways (past_all fact block.ops false) e (past_forward fact block.ops [] false ∙ f)
+    kept_from : (from : ℕ) (block : TacBlock) → IsClosed blocks question block from marks → IsGone blocks question from (all_done [] block.ops)
+        → (Passes (Ends blocks question) from (all_done [] block.ops) → Has marks from → ⊥) → ⊥
+    kept_from from block (inl kept) is h = kept is
+    kept_from from block (inr (passes, k)) is h = h passes k
 
-    kept_from : (from : ℕ) (block : TacBlock) → IsClosed fact block from marks → IsLost blocks fact from (all_done [] block.ops)
-        → (Has marks from → past_done fact (all_done [] block.ops) false ≡ true) → ⊥
-    kept_from from block (inl told) is h = never_lost blocks fact from block.ops told is
-    kept_from from block (inr (e, k)) is h = not_past block e (h k)
+    kept_all : (b : ℕ) (done : List TacOp) → Has marks b → Passes (Ends blocks question) b done → IsGone blocks question b done → ⊥
+    kept_all b [] h passes at_entry = (answered_all 0 h).inner refl
+    kept_all b [] h passes (along from block at way is) =
+        kept_from from block ((answered_all b h).closed from block at way) is (λ ps k. kept_all from (all_done [] block.ops) k ps is)
+    kept_all b (op ∷ done) h passes (ended n e) = passes.0 e
+    kept_all b (op ∷ done) h passes (untold n is) = kept_all b done h passes.1 is
 
-    kept_all : (b : ℕ) (done : List TacOp) → Has marks b → IsLost blocks fact b done → past_done fact done false ≡ true
-    kept_all b [] h at_entry = absurd ((answered_all 0 h).inner refl)
-    kept_all b [] h (along from block at leads is) = absurd (kept_from from block ((answered_all b h).closed from block at leads) is (λ k. kept_all from (all_done [] block.ops) k is))
-    kept_all b (op ∷ done) h (written c) = or_left (changes (target_of op) fact) (not (tells op fact) && past_done fact done false) c
-    kept_all b (op ∷ done) h (untold n is) =
-        or_right (changes (target_of op) fact) (not (tells op fact) && past_done fact done false)
-        (both (not (tells op fact)) (past_done fact done false) (not_from_false (tells op fact) (not_tells op fact n)) (kept_all b done h is))
-
-    pub search_ended : IsLost blocks fact goal [] → ⊥
-    search_ended is = (let e : false ≡ true = kept_all goal [] s.begun is in absurd cc)
+    pub search_ended : IsGone blocks question goal [] → ⊥
+    search_ended is = kept_all goal [] s.begun tt is

@@ -1,17 +1,19 @@
 //! What is left of the blocks of a function.
-ghost use Rattle.std.specs.Prelude.{◌≡◌, ◌≢◌, ◌<◌, [], IfOk, OnOk, Some, length};
+ghost use Rattle.std.specs.Prelude.{◌≡◌, ◌≢◌, ◌<◌, [], IfOk, OnOk, Some, length, true};
 ghost use Rattle.std.specs.Bool.{MatchBool};
+ghost use Rattle.ckc_tac.specs.declared.code.Comparison.TheVariants.{LtU};
+ghost use Rattle.ckc_tac.specs.declared.code.Operand.TheVariants.{Register};
 ghost use Rattle.ckc_passes.specs.Rewrites.{all_done};
-ghost use Rattle.ckc_passes_known.specs.Known.{always as always_of, BlockAfter, EndBecomes, FunctionAfter, IsDecided, IsLost, IsNeedless};
+ghost use Rattle.ckc_passes_known.specs.Known.{always as always_of, BlockAfter, EndBecomes, FunctionAfter, IsDecided, IsNeedless, IsWithin};
 ghost use Rattle.ckc_passes_known.specs.code.Edges.{AreEdges};
 ghost use Rattle.ckc_passes_known.specs.code.Left.{IsPut};
 
 use crate::edges::{Edges, edges_of};
-use crate::facts::{Fact, after_all, always, claim};
-use crate::marks::is_lost_at;
+use crate::facts::{Fact, always, claim};
+use crate::marks::{Question, is_known, less};
 use ckc_base::Seq;
 use ckc_passes::copy_of;
-use ckc_tac::{TacBlock, TacEnd, TacFunc, TacOp};
+use ckc_tac::{Comparison, Operand, TacBlock, TacEnd, TacFunc, TacOp};
 use std::alloc::{AllocError, Global};
 
 /// The function with what is left of each block.
@@ -169,7 +171,65 @@ fn is_decided(
         return Ok(true);
     }
     let fact = claim(test.comparison, test.a, test.b, test.holds);
-    is_known(alloc, blocks, edges, b, before, fact)
+    let known = is_known(alloc, blocks, edges, Question::Stated(fact), b, before)?;
+    if known {
+        return Ok(true);
+    }
+    is_within(alloc, blocks, edges, b, before, test)
+}
+
+/// Whether a comparison is that a register is within a limit, and it is so in a block after the first of its operations.
+fn is_within(
+    alloc: Global,
+    blocks: &[TacBlock],
+    edges: &Edges,
+    b: usize,
+    before: &[TacOp],
+    test: Fact,
+) -> Result<bool, AllocError>
+    requires there { b < length blocks.now }
+    requires edges { AreEdges blocks.now edges.now }
+    ensures { IfOk result (λ within. MatchBool within
+        (IsWithin blocks.now b (all_done [] before.now) test.comparison test.a test.b test.holds)
+        (IsWithin blocks.now b (all_done [] before.now) test.comparison test.a test.b test.holds
+        → ⊥)) }
+{
+    match (test.comparison, test.a, test.holds) {
+        (Comparison::LtU, Operand::Register(r), true) => is_below(
+            alloc, blocks, edges, b, before, r, test.b,
+        ),
+        _ => Ok(false),
+    }
+}
+
+/// Whether a register is below a limit there, and not negative.
+fn is_below(
+    alloc: Global,
+    blocks: &[TacBlock],
+    edges: &Edges,
+    b: usize,
+    before: &[TacOp],
+    r: u32,
+    limit: Operand,
+) -> Result<bool, AllocError>
+    requires there { b < length blocks.now }
+    requires edges { AreEdges blocks.now edges.now }
+    ensures { IfOk result (λ within. MatchBool within
+        (IsWithin blocks.now b (all_done [] before.now) LtU (Register r) limit true)
+        (IsWithin blocks.now b (all_done [] before.now) LtU (Register r) limit true → ⊥)) }
+{
+    let below = is_known(
+        alloc,
+        blocks,
+        edges,
+        Question::Stated(less(r, limit)),
+        b,
+        before,
+    )?;
+    if !below {
+        return Ok(false);
+    }
+    is_known(alloc, blocks, edges, Question::Counted(r, limit), b, before)
 }
 
 /// Whether a comparison always comes out so.
@@ -181,29 +241,4 @@ fn is_always(test: Fact) -> bool
         Some(value) => value == test.holds,
         None => false,
     }
-}
-
-/// Whether a fact is not lost in a block, after the first of its operations.
-fn is_known(
-    alloc: Global,
-    blocks: &[TacBlock],
-    edges: &Edges,
-    b: usize,
-    before: &[TacOp],
-    fact: Fact,
-) -> Result<bool, AllocError>
-    requires there { b < length blocks.now }
-    requires edges { AreEdges blocks.now edges.now }
-    ensures { IfOk result (λ known. MatchBool known
-        (IsLost blocks.now fact b (all_done [] before.now) → ⊥)
-        (IsLost blocks.now fact b (all_done [] before.now))) }
-{
-    if after_all(before, fact, false) {
-        return Ok(false);
-    }
-    if !after_all(before, fact, true) {
-        return Ok(true);
-    }
-    let lost = is_lost_at(alloc, blocks, edges, fact, b)?;
-    Ok(!lost)
 }

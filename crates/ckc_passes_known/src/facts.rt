@@ -3,11 +3,10 @@ ghost use Rattle.std.specs.Prelude.{◌≡◌, ◌==◌, not};
 ghost use Rattle.ckc_base.specs.Words.{applied};
 ghost use Rattle.ckc_tac.specs.Operations.{operation_of};
 ghost use Rattle.ckc_flow.specs.Live.{is_register as is_register_of};
-ghost use Rattle.ckc_passes_known.specs.Known.{always as always_of, changes as changes_of, fact_of};
-ghost use Rattle.ckc_passes_known.specs.code.Marks.{past, past_all, same_comparison, same_fact, same_operand, tells as tells_of};
+ghost use Rattle.ckc_passes_known.specs.Known.{always as always_of, changes as changes_of, fact_of, not_negative as not_negative_of};
+ghost use Rattle.ckc_passes_known.specs.code.Marks.{same_comparison, same_fact, same_operand, tells as tells_of};
 
 use ckc_base::{BinOp, apply};
-use ckc_passes::target;
 use ckc_tac::{Comparison, Operand, TacOp};
 
 /// That a comparison of two operands holds, or that it does not.
@@ -111,25 +110,8 @@ fn operation(comparison: Comparison) -> BinOp
     }
 }
 
-/// Whether a fact is lost after operations, if it was in front of them or was not.
-pub fn after_all(ops: &[TacOp], fact: Fact, lost: bool) -> bool
-    ensures { result ≡ past_all fact ops.now lost }
-{
-    let mut lost = lost;
-    for op in ops {
-        lost = after(op, fact, lost);
-    }
-    lost
-}
-
-fn after(op: &TacOp, fact: Fact, lost: bool) -> bool
-    ensures { result ≡ past fact op.now lost }
-{
-    is_changed(target(op), fact) || (!is_told(op, fact) && lost)
-}
-
 /// Whether the register that is written, if there is one, is an operand of a fact.
-fn is_changed(target: Option<u32>, fact: Fact) -> bool
+pub fn is_changed(target: Option<u32>, fact: Fact) -> bool
     ensures { result ≡ changes_of target fact }
 {
     match target {
@@ -148,11 +130,24 @@ fn is_register(r: u32, a: Operand) -> bool
 }
 
 /// Whether an operation tells a fact.
-fn is_told(op: &TacOp, fact: Fact) -> bool
+pub fn is_told(op: &TacOp, fact: Fact) -> bool
     ensures { result ≡ tells_of op.now fact }
 {
     match op {
         TacOp::Check(_, _, comparison, a, b) => is_same(claim(*comparison, *a, *b, true), fact),
+        TacOp::Const(t, n) => *n < 0x8000_0000 && is_same(not_negative(*t), fact),
         _ => false,
     }
+}
+
+/// That a register is not negative as a signed word.
+pub fn not_negative(r: u32) -> Fact
+    ensures { result ≡ not_negative_of r }
+{
+    stated(
+        Comparison::LtS,
+        Operand::Register(r),
+        Operand::Number(0),
+        false,
+    )
 }

@@ -13,9 +13,10 @@ use ckc_tac::{Tac, TacFunc};
 use std::alloc::{AllocError, Global};
 
 /// The program without the tests that are decided: exactly those checks are dropped whose comparison holds on every way
-/// to them, since it was made there and no register of it was written since, and exactly those branches become jumps
-/// whose comparison holds so, or does not hold. All else stays as it was, and the result does what the program does,
-/// calls, returns and stores to the data region included, in no more steps.
+/// to them, since it was made there and no register of it was written since, or since a register is below a limit as a
+/// signed word and is not negative there; and exactly those branches become jumps whose comparison holds so, or does not
+/// hold. All else stays as it was, and the result does what the program does, calls, returns and stores to the data
+/// region included, in no more steps.
 pub fn known(alloc: Global, t: &Tac) -> Result<Tac, AllocError>
     requires { IsWellFormed t.now }
     ensures exact { IfOk result (ProgramAfter t.now) }

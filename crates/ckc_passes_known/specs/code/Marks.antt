@@ -1,18 +1,24 @@
--- Marks of blocks, one for each: whether it is asked if a fact is lost at the beginning of the block.
-use Rattle.std.specs.Prelude.{◌≡◌, ◌⊎◌, ◌+◌, ◌≤◌, ℕ, ◌==◌, Bool, true, false, not, ◌&&◌, ◌||◌, if◌then◌else◌, List, [], ◌∷◌, ◌++◌, length, get_or, set, slice_get, sum_by, Some}
+-- Tests of facts and of operations, ways backwards through operations, and marks of blocks, one for each: whether it is
+-- asked if a fact is lost at the beginning of the block.
+use Rattle.std.specs.Prelude.{◌≡◌, ◌⊎◌, ◌+◌, ◌^◌, ◌≤◌, nat_lt, ℕ, ◌==◌, Bool, true, false, not, ◌&&◌, ◌||◌, if◌then◌else◌, List, [], ◌∷◌, ◌++◌, length, get_or, set, slice_get, sum_by, Some}
+use Rattle.ckc_base.specs.declared.arithmetic.BinOp.TheVariants.{Add}
 use Rattle.ckc_tac.specs.declared.code.TacBlock.{TacBlock}
 use Rattle.ckc_tac.specs.declared.code.Comparison.{Comparison}
 use Rattle.ckc_tac.specs.declared.code.Comparison.TheVariants.{LtS, LtU, Eq, Ne}
 use Rattle.ckc_tac.specs.declared.code.Operand.{Operand}
 use Rattle.ckc_tac.specs.declared.code.Operand.TheVariants.{Register, Number}
 use Rattle.ckc_tac.specs.declared.code.TacOp.{TacOp}
-use Rattle.ckc_tac.specs.declared.code.TacOp.TheVariants.{Check}
+use Rattle.ckc_tac.specs.declared.code.TacOp.TheVariants.{Const, Bin, Check}
 use Rattle.ckc_tac.specs.declared.code.TacEnd.{TacEnd}
 use Rattle.ckc_tac.specs.declared.code.TacEnd.TheVariants.{Jump, Branch, Return}
-use Rattle.ckc_flow.specs.Live.{target_of}
+use Rattle.ckc_passes.specs.Rewrites.{all_done}
 use Rattle.ckc_passes_known.specs.declared.facts.Fact.{Fact}
 use Rattle.ckc_passes_known.specs.declared.edges.Edge.{Edge}
-use Rattle.ckc_passes_known.specs.Known.{fact_of, changes, LeadsUntold, IsLost}
+use Rattle.ckc_passes_known.specs.declared.marks.Question.{Question}
+use Rattle.ckc_passes_known.specs.declared.marks.Question.TheVariants.{Stated, Counted}
+use Rattle.ckc_passes_known.specs.declared.marks.Way.{Way}
+use Rattle.ckc_passes_known.specs.declared.marks.Way.TheVariants.{Told, Ended, Open}
+use Rattle.ckc_passes_known.specs.Known.{fact_of, not_negative, LeadsUntold, IsLost, Writes, EndsCount}
 use Rattle.ckc_passes_known.specs.code.Edges.{ComesFrom}
 
 -- ---- facts
@@ -39,18 +45,45 @@ same_fact f g =
 
 abbrev pub tells : TacOp → Fact → Bool
 tells (Check check at comparison a b) fact = same_fact (fact_of comparison a b true) fact
+tells (Const t n) fact = nat_lt n (2 ^ 31) && same_fact (not_negative t) fact
 tells op fact = false
+
+-- whether an operation adds 1 to the register
+abbrev pub adds_one : TacOp → ℕ → Bool
+adds_one (Bin Add t (Register q) (Number n)) r = t == r && q == r && n == 1
+adds_one op r = false
+
+-- ---- what is asked
+
+abbrev pub fact_in : Question → Fact
+fact_in (Stated fact) = fact
+fact_in (Counted r limit) = not_negative r
+
+-- an operation ends what is asked
+abbrev pub Ends : List TacBlock → Question → ℕ → List TacOp → TacOp → Type 0
+Ends blocks (Stated fact) = Writes fact
+Ends blocks (Counted r limit) = EndsCount blocks r limit
+
+abbrev pub IsGone : List TacBlock → Question → (b : ℕ) (done : List TacOp) → Type 0
+IsGone blocks question = IsLost blocks (fact_in question) (Ends blocks question)
+
+-- one question may lead to others that have a lower rank
+abbrev pub rank : Question → ℕ
+rank (Stated fact) = 0
+rank (Counted r limit) = 8
 
 -- ---- paths
 
--- whether the fact is lost after an operation, if it was in front of it or was not
-abbrev pub past : Fact → TacOp → Bool → Bool
-past fact op lost = changes (target_of op) fact || (not (tells op fact) && lost)
+-- none of these operations ends what is asked
+abbrev pub Passes : (Ends : ℕ → List TacOp → TacOp → Type 0) → ℕ → List TacOp → Type 0
+Passes Ends b [] = Unit {0}
+Passes Ends b (op ∷ done) = (Ends b done op → ⊥) × Passes Ends b done
 
--- and after these that come next
-abbrev pub past_all : Fact → List TacOp → Bool → Bool
-past_all fact [] lost = lost
-past_all fact (op ∷ ops) lost = past_all fact ops (past fact op lost)
+-- what operations do with the fact: it is not lost behind them, or lost, or as it is in front of them
+abbrev pub Goes : List TacBlock → Question → ℕ → List TacOp → Way → Type 0
+Goes blocks question b done Told = IsGone blocks question b done → ⊥
+Goes blocks question b done Ended = IsGone blocks question b done
+Goes blocks question b done Open = Passes (Ends blocks question) b done × (IsGone blocks question b [] → IsGone blocks question b done)
 
 -- whether control may go from the end of a block to the block with this number, and that does not tell the fact
 abbrev pub leads : Fact → TacEnd → ℕ → Bool
@@ -59,14 +92,6 @@ leads fact (Branch comparison x y one two) b =
     (one == b && not (same_fact (fact_of comparison x y true) fact))
     || (two == b && not (same_fact (fact_of comparison x y false) fact))
 leads fact (Return x) b = false
-
--- whether the operations of a block that leads to this one lose the fact
-abbrev pub loses : Fact → TacBlock → ℕ → Bool
-loses fact block b = leads fact block.end b && past_all fact block.ops false
-
--- whether they leave it as it is at the beginning of the block, if they do not lose it
-abbrev pub leaves : Fact → TacBlock → ℕ → Bool
-leaves fact block b = leads fact block.end b && past_all fact block.ops true
 
 -- ---- marks
 
@@ -89,48 +114,48 @@ IsPut b marks order marks' order' =
 
 -- ---- the search
 
--- The fact is told in a block, or nothing of it happens there and the block has a mark.
-abbrev pub IsClosed : Fact → TacBlock → (p : ℕ) → (marks : List Bool) → Type 0
-IsClosed fact block p marks =
-    (past_all fact block.ops true ≡ false) ⊎ ((past_all fact block.ops false ≡ false) × Has marks p)
+-- The fact is not lost behind a block, or the block does not end it and has a mark.
+abbrev pub IsClosed : List TacBlock → Question → TacBlock → (p : ℕ) → (marks : List Bool) → Type 0
+IsClosed blocks question block p marks =
+    (IsGone blocks question p (all_done [] block.ops) → ⊥) ⊎ (Passes (Ends blocks question) p (all_done [] block.ops) × Has marks p)
 
 -- Each block that leads to this one is closed, and this is not the entry.
-pub record IsAnswered (blocks : List TacBlock) (fact : Fact) (b : ℕ) (marks : List Bool) : Type 0 where
+pub record IsAnswered (blocks : List TacBlock) (question : Question) (b : ℕ) (marks : List Bool) : Type 0 where
   pub inner : b ≡ 0 → ⊥
-  pub closed : (p : ℕ) (block : TacBlock) → slice_get blocks p ≡ Some block → LeadsUntold fact block.end b
-      → IsClosed fact block p marks
+  pub closed : (p : ℕ) (block : TacBlock) → slice_get blocks p ≡ Some block → LeadsUntold (fact_in question) block.end b
+      → IsClosed blocks question block p marks
 
 -- A block is to be asked: it stands in the order, not among the first ones, so many.
 abbrev pub Waits : List ℕ → (i : ℕ) → (b : ℕ) → Type 0
 Waits order i b = (k : ℕ) × (i ≤ k) × (slice_get order k ≡ Some b)
 
 -- If the fact is lost at a block with a mark, it is lost at the goal. So many blocks of the order were asked.
-pub record IsSearch (blocks : List TacBlock) (fact : Fact) (goal i : ℕ) (marks : List Bool) (order : List ℕ) : Type 0 where
+pub record IsSearch (blocks : List TacBlock) (question : Question) (goal i : ℕ) (marks : List Bool) (order : List ℕ) : Type 0 where
   pub long : length marks ≡ length blocks
   pub counts : length order + unset_in marks ≡ length blocks
   pub begun : Has marks goal
-  pub sound : (b : ℕ) → Has marks b → IsLost blocks fact b [] → IsLost blocks fact goal []
+  pub sound : (b : ℕ) → Has marks b → IsGone blocks question b [] → IsGone blocks question goal []
   pub marked : (k b : ℕ) → slice_get order k ≡ Some b → Has marks b
-  pub all : (b : ℕ) → Has marks b → IsAnswered blocks fact b marks ⊎ Waits order i b
+  pub all : (b : ℕ) → Has marks b → IsAnswered blocks question b marks ⊎ Waits order i b
 
 -- The search goes on with more marks, if the goal depends on this block.
-abbrev pub GoesOn : List TacBlock → Fact → (b : ℕ) (marks : List Bool) (order : List ℕ) (marks' : List Bool) (order' : List ℕ) → Type 0
-GoesOn blocks fact b marks order marks' order' = (goal i : ℕ) → i ≤ length order
-    → (IsLost blocks fact b [] → IsLost blocks fact goal []) → IsSearch blocks fact goal i marks order
-    → IsSearch blocks fact goal i marks' order'
+abbrev pub GoesOn : List TacBlock → Question → (b : ℕ) (marks : List Bool) (order : List ℕ) (marks' : List Bool) (order' : List ℕ) → Type 0
+GoesOn blocks question b marks order marks' order' = (goal i : ℕ) → i ≤ length order
+    → (IsGone blocks question b [] → IsGone blocks question goal []) → IsSearch blocks question goal i marks order
+    → IsSearch blocks question goal i marks' order'
 
 -- The fact is not lost at a block unless it is lost at blocks with a mark.
-pub record IsAsked (blocks : List TacBlock) (fact : Fact) (b : ℕ) (marks : List Bool) (order : List ℕ) (marks' : List Bool) (order' : List ℕ) : Type 0 where
-  pub goes : GoesOn blocks fact b marks order marks' order'
+pub record IsAsked (blocks : List TacBlock) (question : Question) (b : ℕ) (marks : List Bool) (order : List ℕ) (marks' : List Bool) (order' : List ℕ) : Type 0 where
+  pub goes : GoesOn blocks question b marks order marks' order'
   pub stays : (k r : ℕ) → slice_get order k ≡ Some r → slice_get order' k ≡ Some r
-  pub answered : IsAnswered blocks fact b marks'
+  pub answered : IsAnswered blocks question b marks'
 
 -- The edges to a block are passed up to this one.
-pub record IsAsking (blocks : List TacBlock) (all : List Edge) (fact : Fact) (b head e : ℕ) (marks : List Bool) (order : List ℕ) (marks' : List Bool) (order' : List ℕ) : Type 0 where
+pub record IsAsking (blocks : List TacBlock) (all : List Edge) (question : Question) (b head e : ℕ) (marks : List Bool) (order : List ℕ) (marks' : List Bool) (order' : List ℕ) : Type 0 where
   pub long : length marks' ≡ length blocks
   pub within : e ≤ length all
   pub longer : length order ≤ length order'
   pub stays : (k r : ℕ) → slice_get order k ≡ Some r → slice_get order' k ≡ Some r
-  pub goes : GoesOn blocks fact b marks order marks' order'
-  pub closed : (p : ℕ) (block : TacBlock) → slice_get blocks p ≡ Some block → LeadsUntold fact block.end b
-      → ComesFrom all p head → IsClosed fact block p marks' ⊎ ComesFrom all p e
+  pub goes : GoesOn blocks question b marks order marks' order'
+  pub closed : (p : ℕ) (block : TacBlock) → slice_get blocks p ≡ Some block → LeadsUntold (fact_in question) block.end b
+      → ComesFrom all p head → IsClosed blocks question block p marks' ⊎ ComesFrom all p e
