@@ -1,5 +1,5 @@
 -- Symbols and turns as bytes.
-use Rattle.std.proofs.Common.{◌≡◌, ◌≢◌, ℕ, zero, suc, ◌+◌, ◌*◌, ◌-◌, ◌<◌, ◌≤◌, ◌==◌, length, List, [], ◌∷◌, ◌++◌, Bool, true, false, refl, sym, ap, subst, ◌∙◌, Option, None, Some, map, reverse, take, get_or, slice_get, option_map, flat_map, replicate, nat_lt, arith, zero-add, IfSome, take_all, if◌then◌else◌}
+use Rattle.std.proofs.Common.{◌≡◌, ◌≢◌, ℕ, zero, suc, ◌+◌, ◌*◌, ◌-◌, ◌<◌, ◌≤◌, ◌==◌, length, List, [], ◌∷◌, ◌++◌, Bool, true, false, refl, sym, ap, subst, ◌∙◌, Option, None, Some, map, reverse, take, get_or, slice_get, option_map, flat_map, replicate, nat_lt, arith, zero-add, IfSome, take_all, if◌then◌else◌, MatchOption, option_to_list}
 use Rattle.std.proofs.lemmas.List.{reverse-append, map-append, take_more, length-append, length-reverse, reverse-reverse}
 use Rattle.std.proofs.lemmas.Option.{slice_get-map, slice_get_within, get_or_from_slice_get}
 use Rattle.std.proofs.lemmas.Bool.Decides.{nat_tests}
@@ -27,6 +27,13 @@ on_top s b = ap (λ z. map symbol_of z) (reverse-append s (b ∷ []))
 
 pub popped : (old new : List ℕ) (b : ℕ) → old ≡ new ++ b ∷ [] → symbols_on old ≡ symbol_of b ∷ symbols_on new
 popped old new b e = ap symbols_on e ∙ on_top new b
+
+pub popped_item : (old new : List ℕ) (len less : ℕ) (o : Option ℕ) → old ≡ new ++ option_to_list o → new ≡ take (len - 1) old → MatchOption o ((len ≡ 0) × (less ≡ 0)) (λ b. less + 1 ≡ len) →
+    MatchOption o (symbols_on old ≡ []) (λ b. symbols_on old ≡ symbol_of b ∷ symbols_on new)
+popped_item old new len less None e r h =
+    let none : new ≡ [] = r ∙ ap (λ k. take (k - 1) old) h.0 in
+    ap symbols_on (e ∙ ap (λ z. z ++ []) none)
+popped_item old new len less (Some b) e r h = popped old new b e
 
 -- tokens of one kind
 pub same_one : (w : ℕ) (c : Kind) → w ≡ number c → turn_of 255 ≡ turn (t (one (get_or all_kinds w kind.End))) c
@@ -80,7 +87,7 @@ rows_at f m each (y ∷ ys) (suc i) j k d e h l w =
 pub found : {X : Type 0} (g : ℕ → X) (table : List ℕ) (k b : ℕ) (d : X) → slice_get table k ≡ Some b → get_or (map g table) k d ≡ g b
 found g table k b d e = get_or_from_slice_get (map g table) k (g b) d (slice_get-map g table k ∙ ap (λ o. option_map g o) e)
 
-small : (c : Kind) → number c < 81
+pub small : (c : Kind) → number c < 81
 small c = arith_of (number c) (all_kind (λ k. nat_lt (number k) 81) refl c)
   where
     arith_of : (i : ℕ) → nat_lt i 81 ≡ true → i < 81

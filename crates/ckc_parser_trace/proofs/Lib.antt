@@ -1,4 +1,5 @@
 pub mod Bytes
+pub mod Moving
 pub mod Recognised
 pub mod Running
 pub mod Top

@@ -2,6 +2,8 @@
 #![tactic(auto)]
 
 mod machine;
+mod moves;
+mod numbers;
 mod rows;
 
 pub use machine::recognise;

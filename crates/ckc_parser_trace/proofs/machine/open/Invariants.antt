@@ -6,4 +6,4 @@ use Rattle.ckc_parser_trace.proofs.machine.open.Given as goal
 
 -- the last symbols so far stand on the stack
 abbrev pub invariant-loop-k : goal.invariant-loop-k
-invariant-loop-k l = symbols_on l.stack ≡ reverse (take l.k (reverse (right (rule_of l.rule)))) ++ symbols_on l.initial.stack
+invariant-loop-k l = symbols_on l.stack.items ≡ reverse (take l.k (reverse (right (rule_of l.rule)))) ++ symbols_on l.initial.stack.items

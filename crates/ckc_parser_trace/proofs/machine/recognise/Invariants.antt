@@ -7,4 +7,4 @@ use Rattle.ckc_parser_trace.specs.code.Runs.{symbols_on, Runs}
 use Rattle.ckc_parser_trace.proofs.machine.recognise.Given as goal
 
 abbrev pub invariant-loop : goal.invariant-loop
-invariant-loop l = Runs (signs (map spelled l.tokens)) (symbols_on l.stack) (ahead l.reader) (events l.trace)
+invariant-loop l = Runs (signs (map spelled l.tokens)) (symbols_on l.stack.items) (ahead l.reader) (events l.trace.items)
