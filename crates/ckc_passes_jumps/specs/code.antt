@@ -1,0 +1,4 @@
+pub mod Ways
+pub mod Reached
+pub mod Left
+pub mod Beside
