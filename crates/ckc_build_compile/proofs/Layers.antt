@@ -29,34 +29,34 @@ lowered_follows p k t insert lower input bytes =
 
 pub placed_follows : (a : List ℕ → ℕ → Showing Event) (t after : Tac) (q : Placed)
     → ((input : List ℕ) → AreBytes input → Follows (a input) (tac_meaning t input) 400004)
-    → FollowsOn t after 5 → ((input : List ℕ) → Follows (tac_detail after input) (placed_detail q input) 1)
-    → (input : List ℕ) → AreBytes input → Follows (a input) (placed_meaning q input) 400010
+    → FollowsOn t after 6 → ((input : List ℕ) → Follows (tac_detail after input) (placed_detail q input) 1)
+    → (input : List ℕ) → AreBytes input → Follows (a input) (placed_meaning q input) 400011
 placed_follows a t after q lowered passes assign input bytes =
-    follows_detail (a input) (tac_detail after input) (placed_detail q input) 400009 1
+    follows_detail (a input) (tac_detail after input) (placed_detail q input) 400010 1
     (passes.seen input (a input) 400004 (lowered input bytes)) (assign input)
 
 pub machine_follows : (a : List ℕ → ℕ → Showing Event) (q : Placed) (parts : Parts)
-    → ((input : List ℕ) → AreBytes input → Follows (a input) (placed_meaning q input) 400010)
+    → ((input : List ℕ) → AreBytes input → Follows (a input) (placed_meaning q input) 400011)
     → FollowsPlaced q parts
     → (input : List ℕ) → AreBytes input → Follows (a input) (machine parts input) 33554432
 machine_follows a q parts placed emit input bytes =
-    follows_within (a input) (machine parts input) 32000880 33554432 (lit≤ tt)
-    (follows_trans (a input) (placed_meaning q input) (machine parts input) 400010 80 (placed input bytes) (emit input (all_bytes input bytes)))
+    follows_within (a input) (machine parts input) 32000960 33554432 (lit≤ tt)
+    (follows_trans (a input) (placed_meaning q input) (machine parts input) 400011 80 (placed input bytes) (emit input (all_bytes input bytes)))
 
 -- a program that weighs so much fits into an image
 pub code_fits : (weight size : ℕ) → size ≤ weight → weight ≤ 4193275 → size + 5 ≤ 4193280
 code_fits weight size h k = omega arith
 
 -- placed code follows core code in detail
-pub has_core : (p : source.Program) (t after : Tac) (q : Placed) → HasCore p (tac_detail t) 4 → FollowsOn t after 5
-    → ((input : List ℕ) → Follows (tac_detail after input) (placed_detail q input) 1) → HasCore p (placed_detail q) 10
+pub has_core : (p : source.Program) (t after : Tac) (q : Placed) → HasCore p (tac_detail t) 4 → FollowsOn t after 6
+    → ((input : List ℕ) → Follows (tac_detail after input) (placed_detail q input) 1) → HasCore p (placed_detail q) 11
 has_core p t after q h passes assign = record {
   core = h.core;
   follows = h.follows;
   stores = h.stores;
   below = λ input.
       let d = core_detail h.core input in
-      follows_trans d (tac_detail after input) (placed_detail q input) 9 1 (passes.detail input d 4 (h.below input)) (assign input);
+      follows_trans d (tac_detail after input) (placed_detail q input) 10 1 (passes.detail input d 4 (h.below input)) (assign input);
 }
 
 -- ---- what the machine of a program that is never stuck does
@@ -77,7 +77,7 @@ never_faults p parts c follows input bytes safe k =
     let b = borne_out (source p input) (machine parts input k) safe (f.back k) in
     b.1.safe
 
-pub confines_stores : (p : source.Program) (q : Placed) (parts : Parts) → HasCore p (placed_detail q) 10 → ListsStores q parts → ConfinesStores p parts
+pub confines_stores : (p : source.Program) (q : Placed) (parts : Parts) → HasCore p (placed_detail q) 11 → ListsStores q parts → ConfinesStores p parts
 confines_stores p q parts h listed input bytes safe =
     let k = h.core in
     let core = h.follows input bytes in

@@ -56,8 +56,8 @@ fn placed(alloc: Global, p: &Program) -> Result<Placed, AllocError>
     ensures size { IfOk result (λ q. program_size q ≤ program_weight (program_of p.now)) }
     ensures initial { IfOk result (λ q. length q.initial ≤ longest_statics) }
     ensures follows { IfOk result (λ q. (input : List ℕ) → AreBytes input →
-        Follows (source (program_of p.now) input) (placed_meaning q input) 400010) }
-    ensures detail { IfOk result (λ q. HasCore (program_of p.now) (placed_detail q) 10) }
+        Follows (source (program_of p.now) input) (placed_meaning q input) 400011) }
+    ensures detail { IfOk result (λ q. HasCore (program_of p.now) (placed_detail q) 11) }
 {
     let t = lowered(alloc, p)?;
     let after = passed(alloc, &t)?;
