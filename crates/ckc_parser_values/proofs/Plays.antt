@@ -1,21 +1,17 @@
 -- Each row of actions makes what its production makes.
-use Rattle.std.proofs.Common.{◌≡◌, List, [], ◌∷◌, refl, sym, ap, ◌∙◌}
+use Rattle.std.proofs.Common.{◌≡◌, List, ◌∷◌, refl, sym, ap}
 use Rattle.ckc_syntax.specs.Spelled.{Spelled}
 use Rattle.ckc_base.specs.declared.places.Pos.{Pos}
 use Rattle.ckc_parser_grammar.specs.code.Grammar.{Rule, left, right}
 use Rattle.ckc_parser_grammar.specs.code.Grammar as g
-use Rattle.ckc_parser_grammar.specs.code.Trees.{Expr, TypeTree, picked, joined, joined_to}
+use Rattle.ckc_parser_grammar.specs.code.Trees.{TypeTree, picked}
 use Rattle.ckc_parser_grammar.specs.code.Values.{Value, made, named, whole, struct_type}
 use Rattle.ckc_parser_grammar.specs.code.Values as v
-use Rattle.ckc_parser_grammar.proofs.Joining.{all_passes, nothing_left}
+use Rattle.ckc_parser_values.proofs.Chains.{alone}
 use Rattle.ckc_parser_values.specs.declared.held.Held.{Held}
 use Rattle.ckc_parser_values.specs.code.Acts.{items_of_base, add_items}
-use Rattle.ckc_parser_values.specs.code.Kept.{Kept, KeptAll, worth, worths, put, put_all, close, going, allocating, changing, allocates, compared, allocated, going_on, ended, paren, cast, paren_stmt, cast_stmt, unknown, between, headed, objects, tag, members, structured, DeclaratorRest, put_declarator, put_starred, declared_items}
+use Rattle.ckc_parser_values.specs.code.Kept.{KeptAll, worth, worths, put, put_all, close, going, allocating, changing, allocates, compared, allocated, going_on, ended, paren, cast, paren_stmt, cast_stmt, unknown, between, headed, objects, tag, members, structured, DeclaratorRest, put_declarator, put_starred, declared_items}
 use Rattle.ckc_parser_values.specs.code.Programs.{run, program}
-
--- a row of no operators joins nothing
-alone : (e : Expr) → joined e [] ≡ e
-alone e = all_passes e [] ∙ ap (λ c. c.0) (nothing_left 10 e)
 
 pub makes : (r : Rule) (ks : KeptAll (right r)) → made r (worths (right r) ks) ≡ worth (left r) (close r ks)
 makes g.Text ks = refl

@@ -4,7 +4,6 @@ ghost use Rattle.ckc_parser_grammar.specs.code.Trees as trees;
 ghost use Rattle.ckc_parser_values.specs.code.Acts as a;
 
 use crate::held::{Form, Slot};
-use crate::lists::onto;
 use ckc_base::{Boxed, Mode, Pos};
 use ckc_parser_grammar::{CType, Expression, Post, Statement, copied, expression, local_of};
 use ckc_parser_stacks::Stack;
@@ -59,12 +58,24 @@ pub fn starred<'a>(
     Ok(whole)
 }
 
-/// A declaration by its base.
+/// A declaration by its base, in a box.
 pub fn declare<'a>(
     alloc: Global,
     base: CType<'a>,
     slot: Slot<'a>,
 ) -> Result<Boxed<Decl<Spelling<'a>, ()>>, AllocError>
+    ensures { IfOk result (λ d. d ≡ a.declare base.entry slot.entry) }
+{
+    let decl = declared(alloc, base, slot)?;
+    Boxed::new(alloc, decl)
+}
+
+/// A declaration by its base.
+fn declared<'a>(
+    alloc: Global,
+    base: CType<'a>,
+    slot: Slot<'a>,
+) -> Result<Decl<Spelling<'a>, ()>, AllocError>
     ensures { IfOk result (λ d. d ≡ a.declare base.entry slot.entry) }
 {
     let Slot {
@@ -76,20 +87,17 @@ pub fn declare<'a>(
         init,
     } = slot;
     let ctype = starred(alloc, base, stars)?;
-    Boxed::new(
-        alloc,
-        Decl {
-            ctype: ctype.into_inner(),
-            name,
-            length,
-            bounds,
-            init,
-            pos,
-        },
-    )
+    Ok(Decl {
+        ctype: ctype.into_inner(),
+        name,
+        length,
+        bounds,
+        init,
+        pos,
+    })
 }
 
-/// Declarations by their base.
+/// Declarations by their base, of which each has a copy.
 #[tactic(auto, using(crate::proofs::Tops::all_turned))]
 pub fn declare_each<'a>(
     alloc: Global,
@@ -102,10 +110,10 @@ pub fn declare_each<'a>(
     let mut turned = Stack::new(alloc);
     'slots: while let Some(slot) = rest.pop() {
         let copy = copied(alloc, base.get())?;
-        let whole = declare(alloc, copy, slot)?;
-        turned.push(whole.into_inner())?;
+        let whole = declared(alloc, copy, slot)?;
+        turned.push(whole)?;
     }
-    onto(turned, Stack::new(alloc))
+    Ok(turned.turn())
 }
 
 /// Locals as statements, in front of others.
@@ -123,7 +131,9 @@ pub fn put_locals<'a>(
         let whole = Boxed::new(alloc, decl)?;
         turned.push(local_of(whole))?;
     }
-    onto(turned, stmts)
+    let mut all = stmts;
+    all.put_all(turned.turn())?;
+    Ok(all)
 }
 
 /// Objects as items.
@@ -140,7 +150,7 @@ pub fn statics<'a>(
         let whole = Boxed::new(alloc, decl)?;
         turned.push(Item::Static(whole))?;
     }
-    onto(turned, Stack::new(alloc))
+    Ok(turned.turn())
 }
 
 /// A function or a prototype.

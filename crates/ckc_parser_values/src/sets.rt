@@ -7,11 +7,10 @@ ghost use Rattle.ckc_syntax.specs.declared.tree.Node.TheVariants as node;
 ghost use Rattle.ckc_parser_grammar.specs.code.Trees as trees;
 ghost use Rattle.ckc_parser_grammar.specs.code.Values as v;
 
-use crate::lists::turned;
+use crate::joins::chained;
 use ckc_base::{Pos, Seq};
 use ckc_parser_grammar::{
-    Arms, Expression, Operation, Rest, Setting, Statement, Step, called, expression, statement,
-    whole,
+    Arms, Expression, Operation, Setting, Statement, Step, called, expression, statement,
 };
 use ckc_parser_stacks::{Budget, Stack, copied_expression};
 use ckc_syntax::{Act, Expr, Node, Spelling, Token, TreeOp};
@@ -28,10 +27,7 @@ pub fn called_or_named<'a>(
 {
     match call {
         None => expression(alloc, Node::Name(Spelling::new(name.text)), name.pos),
-        Some(arguments) => {
-            let arguments = turned(alloc, arguments)?;
-            called(alloc, name, arguments)
-        }
+        Some(arguments) => { called(alloc, name, arguments.into_seq()) }
     }
 }
 
@@ -279,7 +275,7 @@ pub fn finished<'a>(
         (λ e. e ≡ v.finished first.entry steps.entry arms.entry setting.entry) }
 {
     match setting {
-        None => whole(alloc, first, Rest { steps, arms }),
+        None => chained(alloc, first, steps, arms),
         Some(setting) => set(alloc, first, setting, budget),
     }
 }

@@ -16,13 +16,11 @@ use Rattle.ckc_syntax.specs.declared.tree.Node.TheVariants as node
 use Rattle.ckc_syntax.specs.declared.tree.Act.TheVariants as act
 use Rattle.ckc_syntax.specs.declared.tree.TreeOp.{TreeOp}
 use Rattle.ckc_syntax.specs.declared.tree.TreeOp.TheVariants as op
-use Rattle.ckc_parser_grammar.specs.declared.parts.Arms.{Arms}
-use Rattle.ckc_parser_grammar.specs.declared.parts.Post.{Post}
 use Rattle.ckc_parser_grammar.specs.declared.parts.Post.TheVariants as behind
 use Rattle.ckc_parser_grammar.specs.declared.parts.Operation.{Operation}
 use Rattle.ckc_parser_grammar.specs.declared.parts.Setting.{Setting}
 use Rattle.ckc_parser_grammar.specs.code.Kinds.{kind_of_token, sign_op, increment_op, compound_op, binary_op}
-use Rattle.ckc_parser_grammar.specs.code.Trees.{Item, TypeTree, Decl, Init, Limits, Expr, Stmt, Step, expr_at, stmt_at, starred, statics, local_of, locals, function_of, posted, with_increment, by_one, set, changed, stepped, literal}
+use Rattle.ckc_parser_grammar.specs.code.Trees.{TypeTree, Decl, Limits, Expr, Stmt, Step, expr_at, stmt_at, starred, statics, local_of, locals, function_of, posted, with_increment, by_one, set, changed, stepped, literal}
 use Rattle.ckc_parser_grammar.specs.code.Values.{nowhere, no_token, no_expr, no_stmt, no_decl, directive_of, number_of, called_or_named, finished, struct_type}
 use Rattle.ckc_parser_values.specs.declared.held.Held.{Held}
 use Rattle.ckc_parser_values.specs.declared.held.Slot.{Slot}

@@ -1,5 +1,5 @@
 -- The productions as rows of actions: what each does to the stacks.
-use Rattle.std.specs.Prelude.{ℕ, ◌-◌, List, [], ◌∷◌, ◌++◌, get_or, map, length, replicate}
+use Rattle.std.specs.Prelude.{ℕ, ◌-◌, List, [], ◌∷◌, ◌++◌, get_or, length, replicate}
 use Rattle.ckc_syntax.specs.Spelled.{Spelled}
 use Rattle.ckc_syntax.specs.declared.tree.TypeTree.TheVariants as ctype
 use Rattle.ckc_syntax.specs.declared.tree.Length.TheVariants as lengths
