@@ -1,4 +1,4 @@
-ghost use Rattle.std.specs.Prelude.{◌≡◌, ◌≢◌, ◌↔◌, [], ◌∷◌, ◌++◌, IsTrue, IfOk, OnOk, MatchOption, reverse, get_or, drop};
+ghost use Rattle.std.specs.Prelude.{◌≡◌, [], ◌∷◌, ◌++◌, IfOk, OnOk, MatchOption, reverse};
 ghost use Rattle.ckc_syntax.specs.Spelled.{spelled};
 
 use ckc_base::Seq;
@@ -29,25 +29,6 @@ impl<T> Stack<T> {
         Stack {
             items: Vec::new(alloc),
         }
-    }
-
-    /// Whether nothing stands on it.
-    #[inline(always)]
-    #[tactic(auto, using(crate::proofs::Tops::some, crate::proofs::Tops::is_none))]
-    pub fn is_empty(&self) -> bool
-        ensures { IsTrue result ↔ (self.now ≡ []) }
-    {
-        self.items.is_empty()
-    }
-
-    /// Takes the top, where there is one.
-    #[inline(always)]
-    #[tactic(auto, using(crate::proofs::Tops::taken, crate::proofs::Tops::is_none))]
-    pub fn top(&mut self) -> T
-        requires { self.old ≢ [] }
-        ensures { self.old ≡ result ∷ self.new }
-    {
-        self.items.take_last()
     }
 
     /// Takes the top. What the trace of a text needs is there, so that an empty stack is only want of memory.
@@ -124,19 +105,6 @@ impl<T: Drop> Stack<T> {
     }
 }
 
-impl<T: Drop> Stack<Stack<T>> {
-    /// Puts an element on the stack that is the top.
-    #[tactic(auto, using(crate::proofs::Tops::added))]
-    pub fn add(&mut self, item: T) -> Result<(), AllocError>
-        requires { self.old ≢ [] }
-        ensures { OnOk result (self.new ≡ (item ∷ get_or self.old 0 []) ∷ drop 1 self.old) }
-    {
-        let mut list = self.top();
-        list.push(item)?;
-        self.push(list)
-    }
-}
-
 /// A stack of tokens.
 #[derive(Drop)]
 pub struct Tokens<'a> {
@@ -162,26 +130,7 @@ impl<'a> Tokens<'a> {
         }
     }
 
-    /// Whether nothing stands on it.
-    #[inline(always)]
-    #[tactic(auto, using(crate::proofs::Tops::some_token, crate::proofs::Tops::no_token))]
-    pub fn is_empty(&self) -> bool
-        ensures { IsTrue result ↔ (self.now ≡ []) }
-    {
-        self.items.is_empty()
-    }
-
-    /// Takes the top, where there is one.
-    #[inline(always)]
-    #[tactic(auto, using(crate::proofs::Tops::taken_token, crate::proofs::Tops::no_token))]
-    pub fn top(&mut self) -> Token<'a>
-        requires { self.old ≢ [] }
-        ensures { self.old ≡ spelled result ∷ self.new }
-    {
-        self.items.take_last()
-    }
-
-    /// Takes the top, if there is one.
+    /// Takes the top.
     #[tactic(auto, using(crate::proofs::Tops::taken_token))]
     pub fn take(&mut self) -> Result<Token<'a>, AllocError>
         ensures { IfOk result (λ top. self.old ≡ spelled top ∷ self.new) }
