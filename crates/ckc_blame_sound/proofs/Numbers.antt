@@ -7,7 +7,7 @@ use Rattle.ckc_syntax.specs.declared.tree.Item.TheVariants as item
 use Rattle.ckc_syntax.specs.declared.tree.Stmt.{Stmt-F, fold-Stmt}
 use Rattle.ckc_syntax.specs.Inside.{listed, inside_run}
 use Rattle.ckc_resolve.specs.Trees.{NamedDecl, NamedHead, NamedAct, NamedStmt, NamedItem}
-use Rattle.ckc_plain.specs.Integers.{locals_of_stmt}
+use Rattle.ckc_plain.specs.ckc_plain_barred.specs.Integers.{locals_of_stmt}
 use Rattle.ckc_typed_plain.proofs.Gathered.{flat_append, gathered}
 use Rattle.ckc_typed_plain.proofs.OwnLocals.{declared_in}
 

@@ -37,9 +37,9 @@ use Rattle.ckc_typed_fit.proofs.NamedItems as items
 use Rattle.ckc_typed_fit.proofs.NamedItems.{ItemsNamed, text_is}
 use Rattle.ckc_typed_plain.specs.Resolved.{IsResolved}
 use Rattle.ckc_typed_plain.proofs.Items.{resolved_of}
-use Rattle.ckc_plain.specs.declared.integers.Integers.{Integers}
-use Rattle.ckc_plain.specs.Integers.{known_of}
-use Rattle.ckc_plain.specs.Statements.{item_plain}
+use Rattle.ckc_plain.specs.ckc_plain_barred.specs.declared.integers.Integers.{Integers}
+use Rattle.ckc_plain.specs.ckc_plain_barred.specs.Integers.{known_of}
+use Rattle.ckc_plain.specs.ckc_plain_bodies.specs.Statements.{item_plain}
 use Rattle.ckc_bounds.specs.ckc_bounds_declared.specs.Written.{takes_bounds}
 use Rattle.ckc_source.specs.declared.expr.Count.{Count}
 use Rattle.ckc_build_values.specs.Kinds.{width_of, count_of_kind, pointee_of}

@@ -24,9 +24,9 @@ use Rattle.ckc_typed.specs.Layouts.{member_number, members_in_item, members_decl
 use Rattle.ckc_typed_fit.proofs.NamedItems as items
 use Rattle.ckc_typed_fit.proofs.NamedItems.{MembersNamed, ItemNamed, ItemsNamed, text_is}
 use Rattle.ckc_typed_plain.proofs.Items.{resolved_of, all_items}
-use Rattle.ckc_plain.specs.declared.integers.Integers.{Integers}
-use Rattle.ckc_plain.specs.Integers.{known_of}
-use Rattle.ckc_plain.specs.Statements.{item_plain}
+use Rattle.ckc_plain.specs.ckc_plain_barred.specs.declared.integers.Integers.{Integers}
+use Rattle.ckc_plain.specs.ckc_plain_barred.specs.Integers.{known_of}
+use Rattle.ckc_plain.specs.ckc_plain_bodies.specs.Statements.{item_plain}
 use Rattle.ckc_blame_sound.specs.JudgedTexts.{IsJudged}
 use Rattle.ckc_blame_sound.proofs.Bounded.{layout_kept}
 use Rattle.ckc_blame_sound.proofs.Members.{members_are}

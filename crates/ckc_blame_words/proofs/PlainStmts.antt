@@ -10,12 +10,12 @@ use Rattle.ckc_syntax.specs.declared.tree.Act.{Act-F, map-Act, roll-Act, out-Act
 use Rattle.ckc_syntax.specs.declared.tree.Act.TheVariants as act
 use Rattle.ckc_syntax.specs.declared.tree.Stmt.{Stmt-F, map-Stmt, ind-Stmt, roll-Stmt, fold-roll-Stmt}
 use Rattle.ckc_syntax.specs.Trees.{NamedTree, NamedItem, NamedLimits, NamedInit, NamedExpr, NamedStmt, NamedAct}
-use Rattle.ckc_plain.specs.declared.integers.Integers.{Integers}
-use Rattle.ckc_plain.specs.declared.pending.Pending.{Pending}
-use Rattle.ckc_plain.specs.Integers.{known_of, known_in}
-use Rattle.ckc_plain.specs.Taken.{stmt_at, none_pending}
-use Rattle.ckc_plain.specs.Expressions.{expr_plain, exprs_plain, bounds_plain, maybe_plain}
-use Rattle.ckc_plain.specs.Statements.{joined, placed_by, placed, OfAct, OfStmt, alone, part_alone, in_block, part_before, loop_condition, loop_body, for_condition, for_body, init_plain, act_parts, stmt_parts, act_plain, stmt_plain, item_plain, plain}
+use Rattle.ckc_plain.specs.ckc_plain_barred.specs.declared.integers.Integers.{Integers}
+use Rattle.ckc_plain.specs.ckc_plain_bodies.specs.declared.pending.Pending.{Pending}
+use Rattle.ckc_plain.specs.ckc_plain_barred.specs.Integers.{known_of, known_in}
+use Rattle.ckc_plain.specs.ckc_plain_bodies.specs.Taken.{stmt_at, none_pending}
+use Rattle.ckc_plain.specs.ckc_plain_bodies.specs.Expressions.{expr_plain, exprs_plain, bounds_plain, maybe_plain}
+use Rattle.ckc_plain.specs.ckc_plain_bodies.specs.Statements.{joined, placed_by, placed, OfAct, OfStmt, alone, part_alone, in_block, part_before, loop_condition, loop_body, for_condition, for_body, init_plain, act_parts, stmt_parts, act_plain, stmt_plain, item_plain, plain}
 use Rattle.ckc_blame_words.specs.Literals.{limits_have_words, expr_has_words, init_has_words, act_by_parts, stmt_by_parts, stmt_has_words, head_has_words, item_has_words, tree_has_words}
 use Rattle.ckc_blame_words.proofs.PlainExprs.{ActLayer, act_has_words, act_words_inside, HasWords, AllHave, both, parts_of, stmt_has, number_has, added, as_listed, block_has, limits_good, plain_good, whole_good, right_good}
 

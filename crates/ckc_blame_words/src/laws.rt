@@ -9,7 +9,7 @@ ghost use Rattle.ckc_lexer.specs.Phase.{lexing};
 ghost use Rattle.ckc_parser.specs.Phase.{parsing};
 ghost use Rattle.ckc_resolve.specs.Phase.{naming};
 ghost use Rattle.ckc_plain.specs.Phase.{resolving};
-ghost use Rattle.ckc_plain.specs.Statements.{plain};
+ghost use Rattle.ckc_plain.specs.ckc_plain_bodies.specs.Statements.{plain};
 ghost use Rattle.ckc_scopes.specs.Phase.{scoping};
 ghost use Rattle.ckc_blame_sound.specs.ckc_bounds.specs.Phase.{bounding};
 ghost use Rattle.ckc_typed.specs.declared.typed.Typed.{Typed};

@@ -1,12 +1,1 @@
-pub mod Firsts
-pub mod Found
-pub mod FoundActs
-pub mod FoundNodes
-pub mod Kept
-pub mod KeptActs
-pub mod KeptNodes
-pub mod Locals
-pub mod Named
 pub mod Relimiting
-pub mod Stays
-pub mod Turns

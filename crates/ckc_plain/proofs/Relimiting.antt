@@ -17,8 +17,8 @@ use Rattle.ckc_syntax_limits.proofs.Limiting.{limiting_exact, limiting_codes}
 use Rattle.ckc_resolve.specs.Phase.{naming, text_named}
 use Rattle.ckc_resolve.proofs.CodedItems.{refused_codes}
 use Rattle.ckc_plain.specs.Codes.{misplaced_effect, IsCode}
-use Rattle.ckc_plain.specs.Barred.{barred}
-use Rattle.ckc_plain.specs.Statements.{plain}
+use Rattle.ckc_plain_barred.specs.Barred.{barred}
+use Rattle.ckc_plain_bodies.specs.Statements.{plain}
 use Rattle.ckc_plain.specs.Phase.{text_plain, plaining, relimiting, resolving, unless_some}
 
 abbrev text_of : NamedTree → ℕ → NamedText

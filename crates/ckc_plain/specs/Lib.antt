@@ -1,10 +1,4 @@
 pub mod Codes
-pub mod Integers
-pub mod Forms
-pub mod Effects
-pub mod Barred
-pub mod Taken
-pub mod Expressions
-pub mod Statements
 pub mod Phase
-pub mod code
+pub use Rattle.ckc_plain_barred
+pub use Rattle.ckc_plain_bodies

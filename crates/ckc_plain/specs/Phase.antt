@@ -8,8 +8,8 @@ use Rattle.ckc_syntax.specs.Trees.{Tree as SpelledTree}
 use Rattle.ckc_syntax_limits.specs.Phase.{limiting}
 use Rattle.ckc_resolve.specs.Phase.{naming}
 use Rattle.ckc_plain.specs.Codes.{misplaced_effect}
-use Rattle.ckc_plain.specs.Barred.{barred}
-use Rattle.ckc_plain.specs.Statements.{plain}
+use Rattle.ckc_plain_barred.specs.Barred.{barred}
+use Rattle.ckc_plain_bodies.specs.Statements.{plain}
 
 -- refused at the first of the places, if there is one
 abbrev pub unless_some : List Pos → Outcome (Unit {0})

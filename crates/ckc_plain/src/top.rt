@@ -1,19 +1,18 @@
 //! The phase, and the limits and all phases up to it.
 
-ghost use Rattle.std.specs.Prelude.{◌≡◌, IfOk, OnOk};
+ghost use Rattle.std.specs.Prelude.{◌≡◌, [], ◌∷◌, ◌++◌, IfOk, OnOk};
 ghost use Rattle.ckc_base.specs.Outcomes.{AnswersOutcome};
-ghost use Rattle.ckc_plain.specs.Integers.{known_of, known_in};
+ghost use Rattle.ckc_plain_barred.specs.Integers.{known_of, known_in};
 ghost use Rattle.ckc_base.specs.Phases.{Exact};
-ghost use Rattle.ckc_plain.specs.Statements.{body_plain, item_plain};
+ghost use Rattle.ckc_plain_bodies.specs.Statements.{body_plain, item_plain};
 ghost use Rattle.ckc_plain.specs.Phase.{unless_some, text_plain, plaining, relimiting, resolving};
-ghost use Rattle.ckc_plain.specs.code.Statements.{items_plain};
-ghost use Rattle.ckc_plain.specs.Barred.{barred};
+ghost use Rattle.ckc_plain_bodies.specs.code.Statements.{items_plain};
+ghost use Rattle.ckc_plain_barred.specs.Barred.{barred};
 ghost use Rattle.ckc_syntax_limits.specs.Phase.{limiting};
 
-use crate::barred::first_in_items;
-use crate::integers::{Integers, known_of, locals_of};
-use crate::statements::stmt_alone;
 use ckc_base::{Boxed, Fault, Seq, refused};
+use ckc_plain_barred::{Integers, first_in_items, known_of, locals_of};
+use ckc_plain_bodies::stmt_alone;
 use ckc_resolve::resolve;
 use ckc_syntax::{Head, Item, Name, NamedText, Spelling, Stmt, Tree};
 use ckc_syntax_limits::fits;
@@ -67,6 +66,19 @@ fn plain_item(
     Ok(())
 }
 
+fn no_items(alloc: Global) -> Seq<Item<Name, ()>>
+    ensures { result ≡ [] }
+{
+    Seq::new(alloc)
+}
+
+/// Adds an item at the end.
+fn add_item(all: &mut Seq<Item<Name, ()>>, item: Item<Name, ()>) -> Result<(), AllocError>
+    ensures { OnOk result (all.new ≡ all.old ++ item ∷ []) }
+{
+    all.push(item)
+}
+
 fn plain_items(
     alloc: Global,
     known: &mut Integers,
@@ -74,10 +86,10 @@ fn plain_items(
 ) -> Result<Seq<Item<Name, ()>>, AllocError>
     ensures { IfOk result (λ made. made ≡ items_plain known.old items) }
 {
-    let mut all = Seq::new(alloc);
+    let mut all = no_items(alloc);
     for mut item in items.into_vec() {
         plain_item(alloc, known, &mut item)?;
-        all.push(item)?;
+        add_item(&mut all, item)?;
     }
     Ok(all)
 }

@@ -8,10 +8,10 @@ use Rattle.ckc_syntax.specs.declared.tree.Name.{Name}
 use Rattle.ckc_syntax.specs.declared.tree.Name.TheVariants as name
 use Rattle.ckc_syntax.specs.declared.tree.NamedText.{NamedText}
 use Rattle.ckc_syntax.specs.Trees.{Tree, NamedTree, NamedItem}
-use Rattle.ckc_plain.specs.declared.integers.Integers.{Integers}
-use Rattle.ckc_plain.specs.Integers.{known_of, known_in}
-use Rattle.ckc_plain.specs.Barred.{in_head, in_item, in_stmt}
-use Rattle.ckc_plain.specs.Statements.{item_plain}
+use Rattle.ckc_plain.specs.ckc_plain_barred.specs.declared.integers.Integers.{Integers}
+use Rattle.ckc_plain.specs.ckc_plain_barred.specs.Integers.{known_of, known_in}
+use Rattle.ckc_plain.specs.ckc_plain_barred.specs.Barred.{in_head, in_item, in_stmt}
+use Rattle.ckc_plain.specs.ckc_plain_bodies.specs.Statements.{item_plain}
 use Rattle.ckc_plain.specs.Phase.{resolving}
 use Rattle.ckc_typed.specs.Environment.{same_name}
 use Rattle.ckc_typed_fit.specs.Members.{item_members}

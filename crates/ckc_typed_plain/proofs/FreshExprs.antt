@@ -15,18 +15,18 @@ use Rattle.ckc_syntax.specs.declared.tree.Act.{Act-F, map-Act, roll-Act, fold-ro
 use Rattle.ckc_syntax.specs.declared.tree.Act.TheVariants as act
 use Rattle.ckc_syntax.specs.declared.tree.Stmt.{fold-roll-Stmt}
 use Rattle.ckc_syntax.specs.Trees.{NamedDecl, NamedLimits, NamedNode, NamedExpr, NamedStmt, NamedAct}
-use Rattle.ckc_plain.specs.declared.integers.Integer.{Integer}
-use Rattle.ckc_plain.specs.declared.integers.Integer.TheVariants as integer
-use Rattle.ckc_plain.specs.declared.integers.Integers.{Integers}
-use Rattle.ckc_plain.specs.declared.pending.Pending.{Pending}
-use Rattle.ckc_plain.specs.declared.forms.Work.{Work}
-use Rattle.ckc_plain.specs.declared.forms.Work.TheVariants as work
-use Rattle.ckc_plain.specs.Integers.{result_of}
-use Rattle.ckc_plain.specs.Forms.{work_of, form_of, is_call, stays}
-use Rattle.ckc_plain.specs.Effects.{integer_local}
-use Rattle.ckc_plain.specs.Taken.{expr_at, stmt_at, local_at, number_at, block_at, assign_at, declare_at, none_pending, with_stmt, with_fresh, call_taken, set_taken, step_taken, binary_taken, unary_taken, node_taken, taken}
-use Rattle.ckc_plain.specs.Expressions.{OfLimits, OfNode, OfExpr, rest, each_rest, truth_at, if_true, if_false, if_none, choice, binary_parts, node_parts, expr_parts, limits_parts, limits_plain, node_kept, expr_kept, expr_plain, exprs_plain, whole_plain, right_plain, bounds_plain, maybe_plain}
-use Rattle.ckc_plain.specs.Integers.{locals_of_stmt_parts, locals_of_stmt, locals_of_act}
+use Rattle.ckc_plain.specs.ckc_plain_barred.specs.declared.integers.Integer.{Integer}
+use Rattle.ckc_plain.specs.ckc_plain_barred.specs.declared.integers.Integer.TheVariants as integer
+use Rattle.ckc_plain.specs.ckc_plain_barred.specs.declared.integers.Integers.{Integers}
+use Rattle.ckc_plain.specs.ckc_plain_bodies.specs.declared.pending.Pending.{Pending}
+use Rattle.ckc_plain.specs.ckc_plain_barred.specs.declared.forms.Work.{Work}
+use Rattle.ckc_plain.specs.ckc_plain_barred.specs.declared.forms.Work.TheVariants as work
+use Rattle.ckc_plain.specs.ckc_plain_barred.specs.Integers.{result_of}
+use Rattle.ckc_plain.specs.ckc_plain_barred.specs.Forms.{work_of, form_of, is_call, stays}
+use Rattle.ckc_plain.specs.ckc_plain_barred.specs.Effects.{integer_local}
+use Rattle.ckc_plain.specs.ckc_plain_bodies.specs.Taken.{expr_at, stmt_at, local_at, number_at, block_at, assign_at, declare_at, none_pending, with_stmt, with_fresh, call_taken, set_taken, step_taken, binary_taken, unary_taken, node_taken, taken}
+use Rattle.ckc_plain.specs.ckc_plain_bodies.specs.Expressions.{OfLimits, OfNode, OfExpr, rest, each_rest, truth_at, if_true, if_false, if_none, choice, binary_parts, node_parts, expr_parts, limits_parts, limits_plain, node_kept, expr_kept, expr_plain, exprs_plain, whole_plain, right_plain, bounds_plain, maybe_plain}
+use Rattle.ckc_plain.specs.ckc_plain_barred.specs.Integers.{locals_of_stmt_parts, locals_of_stmt, locals_of_act}
 use Rattle.ckc_typed_plain.proofs.Fresh.{one, from_zero, hits, hits_append, behind_another, Adds, adds_none, adds_one, adds_both}
 
 abbrev pub ActLayer : Type 0

@@ -10,12 +10,12 @@ use Rattle.ckc_syntax.specs.declared.tree.Act.{Act-F, map-Act, roll-Act, out-Act
 use Rattle.ckc_syntax.specs.declared.tree.Act.TheVariants as act
 use Rattle.ckc_syntax.specs.declared.tree.Stmt.{Stmt-F, map-Stmt, ind-Stmt, roll-Stmt, fold-roll-Stmt}
 use Rattle.ckc_syntax.specs.Trees.{NamedDecl, NamedInit, NamedExpr, NamedStmt, NamedAct}
-use Rattle.ckc_plain.specs.declared.integers.Integers.{Integers}
-use Rattle.ckc_plain.specs.declared.pending.Pending.{Pending}
-use Rattle.ckc_plain.specs.Taken.{stmt_at, block_at, none_pending}
-use Rattle.ckc_plain.specs.Expressions.{expr_plain, whole_plain, right_plain, bounds_plain, maybe_plain}
-use Rattle.ckc_plain.specs.Statements.{joined, placed_by, placed, OfAct, OfStmt, alone, in_block, loop_condition, loop_body, for_condition, for_body, init_plain, local_plain, act_parts, stmt_parts, act_plain, stmt_plain}
-use Rattle.ckc_plain.specs.Integers.{locals_of_stmt_parts, locals_of_stmt, locals_of_act}
+use Rattle.ckc_plain.specs.ckc_plain_barred.specs.declared.integers.Integers.{Integers}
+use Rattle.ckc_plain.specs.ckc_plain_bodies.specs.declared.pending.Pending.{Pending}
+use Rattle.ckc_plain.specs.ckc_plain_bodies.specs.Taken.{stmt_at, block_at, none_pending}
+use Rattle.ckc_plain.specs.ckc_plain_bodies.specs.Expressions.{expr_plain, whole_plain, right_plain, bounds_plain, maybe_plain}
+use Rattle.ckc_plain.specs.ckc_plain_bodies.specs.Statements.{joined, placed_by, placed, OfAct, OfStmt, alone, in_block, loop_condition, loop_body, for_condition, for_body, init_plain, local_plain, act_parts, stmt_parts, act_plain, stmt_plain}
+use Rattle.ckc_plain.specs.ckc_plain_barred.specs.Integers.{locals_of_stmt_parts, locals_of_stmt, locals_of_act}
 use Rattle.ckc_typed_plain.proofs.Fresh.{from_zero, Adds, adds_none, adds_both, adds_as}
 use Rattle.ckc_typed_plain.proofs.FreshExprs.{ActLayer, rows, occurs, occurs_append, all_locals, locals_inside, act_declares, body_declares, stmt_declares, often_append, often_last, block_declares, declared, Grown, grown_none, grown_both, plain_grown, whole_grown, right_grown, exprs_grown, bounds_grown, maybe_grown}
 

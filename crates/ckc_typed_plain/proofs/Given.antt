@@ -6,11 +6,11 @@ use Rattle.ckc_syntax.specs.declared.tree.Init.TheVariants as init
 use Rattle.ckc_syntax.specs.declared.tree.Item.TheVariants as item
 use Rattle.ckc_syntax.specs.declared.tree.NamedText.{NamedText}
 use Rattle.ckc_syntax.specs.Trees.{Tree, NamedTree, NamedItem, NamedHead, NamedDecl, NamedInit, NamedExpr}
-use Rattle.ckc_plain.specs.declared.integers.Integers.{Integers}
-use Rattle.ckc_plain.specs.Integers.{known_of, known_in}
-use Rattle.ckc_plain.specs.Effects.{in_expr, in_exprs, in_bounds}
-use Rattle.ckc_plain.specs.Barred.{in_static_init, in_decl, in_head, in_item, in_stmt}
-use Rattle.ckc_plain.specs.Statements.{item_plain}
+use Rattle.ckc_plain.specs.ckc_plain_barred.specs.declared.integers.Integers.{Integers}
+use Rattle.ckc_plain.specs.ckc_plain_barred.specs.Integers.{known_of, known_in}
+use Rattle.ckc_plain.specs.ckc_plain_barred.specs.Effects.{in_expr, in_exprs, in_bounds}
+use Rattle.ckc_plain.specs.ckc_plain_barred.specs.Barred.{in_static_init, in_decl, in_head, in_item, in_stmt}
+use Rattle.ckc_plain.specs.ckc_plain_bodies.specs.Statements.{item_plain}
 use Rattle.ckc_plain.specs.Phase.{resolving}
 use Rattle.ckc_typed_fit.proofs.FormKept.{form_kept}
 use Rattle.ckc_typed_welltyped.specs.Productions.{callless_init, callless_expr, expr_form, placed_bounds, placed_init, placed_decl, placed_stmt, placed_body, placed_head, placed_item, with_calls, spoken_tree, given_decl, given_head, given_item, given_tree}

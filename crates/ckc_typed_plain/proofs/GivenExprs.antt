@@ -17,21 +17,21 @@ use Rattle.ckc_syntax.specs.declared.tree.Expr.{Expr-F, map-Expr, ind-Expr, roll
 use Rattle.ckc_syntax.specs.declared.tree.Act.{Act-F}
 use Rattle.ckc_syntax.specs.declared.tree.Act.TheVariants as act
 use Rattle.ckc_syntax.specs.Trees.{NamedLimits, NamedNode, NamedExpr, NamedStmt}
-use Rattle.ckc_plain.specs.declared.integers.Integer.{Integer}
-use Rattle.ckc_plain.specs.declared.integers.Integer.TheVariants as integer
-use Rattle.ckc_plain.specs.declared.integers.Integers.{Integers}
-use Rattle.ckc_plain.specs.declared.pending.Pending.{Pending}
-use Rattle.ckc_plain.specs.declared.forms.Work.{Work}
-use Rattle.ckc_plain.specs.declared.forms.Work.TheVariants as work
-use Rattle.ckc_plain.specs.declared.forms.Form.{Form as Kind}
-use Rattle.ckc_plain.specs.declared.forms.Form.TheVariants as form
-use Rattle.ckc_plain.specs.Integers.{result_of}
-use Rattle.ckc_plain.specs.Forms as forms
-use Rattle.ckc_plain.specs.Forms.{work_of, form_of_layer, form_of, is_name, is_built_in, stays}
-use Rattle.ckc_plain.specs.Effects.{Found, all_in, whole_in, right_in, integer_local, found_in, found_in_node, in_limits}
-use Rattle.ckc_plain.specs.Effects as effects
-use Rattle.ckc_plain.specs.Taken.{expr_at, stmt_at, local_at, number_at, block_at, declare_at, none_pending, call_taken, set_taken, step_taken, binary_taken, unary_taken, node_taken, taken}
-use Rattle.ckc_plain.specs.Expressions.{OfLimits, OfNode, OfExpr, rest, each_rest, if_true, if_false, if_none, choice, binary_parts, node_parts, expr_parts, limits_parts, limits_plain, node_kept, expr_kept, expr_plain, whole_plain, right_plain}
+use Rattle.ckc_plain.specs.ckc_plain_barred.specs.declared.integers.Integer.{Integer}
+use Rattle.ckc_plain.specs.ckc_plain_barred.specs.declared.integers.Integer.TheVariants as integer
+use Rattle.ckc_plain.specs.ckc_plain_barred.specs.declared.integers.Integers.{Integers}
+use Rattle.ckc_plain.specs.ckc_plain_bodies.specs.declared.pending.Pending.{Pending}
+use Rattle.ckc_plain.specs.ckc_plain_barred.specs.declared.forms.Work.{Work}
+use Rattle.ckc_plain.specs.ckc_plain_barred.specs.declared.forms.Work.TheVariants as work
+use Rattle.ckc_plain.specs.ckc_plain_barred.specs.declared.forms.Form.{Form as Kind}
+use Rattle.ckc_plain.specs.ckc_plain_barred.specs.declared.forms.Form.TheVariants as form
+use Rattle.ckc_plain.specs.ckc_plain_barred.specs.Integers.{result_of}
+use Rattle.ckc_plain.specs.ckc_plain_barred.specs.Forms as forms
+use Rattle.ckc_plain.specs.ckc_plain_barred.specs.Forms.{work_of, form_of_layer, form_of, is_name, is_built_in, stays}
+use Rattle.ckc_plain.specs.ckc_plain_barred.specs.Effects.{Found, all_in, whole_in, right_in, integer_local, found_in, found_in_node, in_limits}
+use Rattle.ckc_plain.specs.ckc_plain_barred.specs.Effects as effects
+use Rattle.ckc_plain.specs.ckc_plain_bodies.specs.Taken.{expr_at, stmt_at, local_at, number_at, block_at, declare_at, none_pending, call_taken, set_taken, step_taken, binary_taken, unary_taken, node_taken, taken}
+use Rattle.ckc_plain.specs.ckc_plain_bodies.specs.Expressions.{OfLimits, OfNode, OfExpr, rest, each_rest, if_true, if_false, if_none, choice, binary_parts, node_parts, expr_parts, limits_parts, limits_plain, node_kept, expr_kept, expr_plain, whole_plain, right_plain}
 use Rattle.ckc_typed_welltyped.specs.Productions.{limits_callless, node_callless, expr_callless, callless_limits, callless_expr, Form, no_call, limits_formed, is_set, node_formed, expr_formed, limits_form, expr_form, Given, given_act, given_stmt}
 use Rattle.ckc_typed_plain.proofs.GivenLevels.{Layer, callless_node, form_of_node, callless_inside, forms_inside, given_inside, Callless, IsCall, IsRight, is_good, AllGood, both, parts_of, empty_parts, without, layer_of, called, given_at, good_at, local_without, number_without, right_callless, right_call, assign_good, declare_good, one_more, is_not, neither, good_of, block_good, Made, weaker, set_of, not_set, not_told, split_or}
 

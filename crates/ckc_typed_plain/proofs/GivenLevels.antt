@@ -16,12 +16,12 @@ use Rattle.ckc_syntax.specs.declared.tree.Act.{Act-F, map-Act, roll-Act, fold-Ac
 use Rattle.ckc_syntax.specs.declared.tree.Act.TheVariants as act
 use Rattle.ckc_syntax.specs.declared.tree.Stmt.{fold-roll-Stmt}
 use Rattle.ckc_syntax.specs.Trees.{NamedLimits, NamedNode, NamedExpr, NamedStmt, NamedAct}
-use Rattle.ckc_plain.specs.declared.integers.Integer.{Integer}
-use Rattle.ckc_plain.specs.declared.pending.Pending.{Pending}
-use Rattle.ckc_plain.specs.declared.forms.Work.{Work}
-use Rattle.ckc_plain.specs.declared.forms.Work.TheVariants as work
-use Rattle.ckc_plain.specs.Forms.{work_of}
-use Rattle.ckc_plain.specs.Taken.{expr_at, stmt_at, local_at, number_at, block_at, assign_at, declare_at}
+use Rattle.ckc_plain.specs.ckc_plain_barred.specs.declared.integers.Integer.{Integer}
+use Rattle.ckc_plain.specs.ckc_plain_bodies.specs.declared.pending.Pending.{Pending}
+use Rattle.ckc_plain.specs.ckc_plain_barred.specs.declared.forms.Work.{Work}
+use Rattle.ckc_plain.specs.ckc_plain_barred.specs.declared.forms.Work.TheVariants as work
+use Rattle.ckc_plain.specs.ckc_plain_barred.specs.Forms.{work_of}
+use Rattle.ckc_plain.specs.ckc_plain_bodies.specs.Taken.{expr_at, stmt_at, local_at, number_at, block_at, assign_at, declare_at}
 use Rattle.ckc_typed_welltyped.specs.Productions.{limits_callless, node_callless, expr_callless, callless_limits, callless_expr, call_form, is_call, is_right, Form, limits_formed, is_set, node_formed, expr_formed, limits_form, expr_form, Given, given_act, given_in, given_stmt}
 
 abbrev pub Layer : Type 0

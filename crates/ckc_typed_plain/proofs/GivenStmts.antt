@@ -11,14 +11,14 @@ use Rattle.ckc_syntax.specs.declared.tree.Act.{Act-F, map-Act, roll-Act, out-Act
 use Rattle.ckc_syntax.specs.declared.tree.Act.TheVariants as act
 use Rattle.ckc_syntax.specs.declared.tree.Stmt.{Stmt-F, map-Stmt, ind-Stmt, roll-Stmt, fold-roll-Stmt}
 use Rattle.ckc_syntax.specs.Trees.{NamedDecl, NamedLimits, NamedInit, NamedExpr, NamedStmt, NamedAct}
-use Rattle.ckc_plain.specs.declared.integers.Integers.{Integers}
-use Rattle.ckc_plain.specs.declared.pending.Pending.{Pending}
-use Rattle.ckc_plain.specs.Effects.{in_expr, in_right, in_bounds, in_maybe, in_limits}
-use Rattle.ckc_plain.specs.Barred as barred
-use Rattle.ckc_plain.specs.Barred.{in_init, in_act, in_stmt}
-use Rattle.ckc_plain.specs.Taken.{stmt_at, none_pending}
-use Rattle.ckc_plain.specs.Expressions.{expr_plain, whole_plain, right_plain, maybe_plain}
-use Rattle.ckc_plain.specs.Statements.{joined, placed_by, placed, OfAct, OfStmt, alone, in_block, loop_condition, loop_body, for_condition, for_body, init_plain, act_parts, stmt_parts, act_plain, stmt_plain}
+use Rattle.ckc_plain.specs.ckc_plain_barred.specs.declared.integers.Integers.{Integers}
+use Rattle.ckc_plain.specs.ckc_plain_bodies.specs.declared.pending.Pending.{Pending}
+use Rattle.ckc_plain.specs.ckc_plain_barred.specs.Effects.{in_expr, in_right, in_bounds, in_maybe, in_limits}
+use Rattle.ckc_plain.specs.ckc_plain_barred.specs.Barred as barred
+use Rattle.ckc_plain.specs.ckc_plain_barred.specs.Barred.{in_init, in_act, in_stmt}
+use Rattle.ckc_plain.specs.ckc_plain_bodies.specs.Taken.{stmt_at, none_pending}
+use Rattle.ckc_plain.specs.ckc_plain_bodies.specs.Expressions.{expr_plain, whole_plain, right_plain, maybe_plain}
+use Rattle.ckc_plain.specs.ckc_plain_bodies.specs.Statements.{joined, placed_by, placed, OfAct, OfStmt, alone, in_block, loop_condition, loop_body, for_condition, for_body, init_plain, act_parts, stmt_parts, act_plain, stmt_plain}
 use Rattle.ckc_typed_welltyped.specs.Productions.{callless_bounds, callless_value, right_init, is_branch, begins, steps, Given, given_act, given_in, given_stmt, expr_form, limits_form, placed_bounds, placed_value, placed_start, placed_act, placed_stmt, with_calls}
 use Rattle.ckc_typed_plain.proofs.GivenLevels.{ActLayer, given_of, given_inside, Callless, AllGood, both, parts_of, empty_parts, given_at, number_without, is_not, all_are}
 use Rattle.ckc_typed_plain.proofs.GivenExprs.{limits_hold, plain_made, whole_made, call_statement, right_made}

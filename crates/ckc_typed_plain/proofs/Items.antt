@@ -9,10 +9,10 @@ use Rattle.ckc_syntax.specs.declared.tree.Item.TheVariants as item
 use Rattle.ckc_syntax.specs.declared.tree.NamedText.{NamedText}
 use Rattle.ckc_syntax.specs.Trees.{Tree, NamedTree, NamedHead, NamedItem, NamedStmt}
 use Rattle.ckc_syntax_limits.specs.Small.{Small}
-use Rattle.ckc_plain.specs.declared.integers.Integers.{Integers}
-use Rattle.ckc_plain.specs.Integers.{known_of}
-use Rattle.ckc_plain.specs.Barred.{barred}
-use Rattle.ckc_plain.specs.Statements.{item_plain, plain}
+use Rattle.ckc_plain.specs.ckc_plain_barred.specs.declared.integers.Integers.{Integers}
+use Rattle.ckc_plain.specs.ckc_plain_barred.specs.Integers.{known_of}
+use Rattle.ckc_plain.specs.ckc_plain_barred.specs.Barred.{barred}
+use Rattle.ckc_plain.specs.ckc_plain_bodies.specs.Statements.{item_plain, plain}
 use Rattle.ckc_plain.specs.Phase.{unless_some, text_plain, resolving}
 use Rattle.ckc_typed_plain.specs.Resolved.{IsResolved}
 

@@ -18,7 +18,7 @@ use Rattle.ckc_resolve.specs.Scoping.{no_names, names_of, no_scope, with_local, 
 use Rattle.ckc_resolve.specs.Declarations.{local_named}
 use Rattle.ckc_resolve.specs.Statements.{body_named}
 use Rattle.ckc_resolve.specs.Phase.{text_named}
-use Rattle.ckc_plain.specs.Integers.{locals_of_stmt_parts, locals_of_stmt, locals_of_act}
+use Rattle.ckc_plain.specs.ckc_plain_barred.specs.Integers.{locals_of_stmt_parts, locals_of_stmt, locals_of_act}
 use Rattle.ckc_base.proofs.Gives.{given_from}
 use Rattle.ckc_typed_fit.proofs.NamedActs as acts
 use Rattle.ckc_typed_fit.proofs.NamedActs.{ActOf, NamedActOf, StmtsNamed, ActNamed, BodyNamed}

@@ -10,9 +10,9 @@ use Rattle.ckc_syntax.specs.declared.tree.Name.TheVariants as name
 use Rattle.ckc_syntax.specs.declared.tree.Item.TheVariants as item
 use Rattle.ckc_syntax.specs.declared.tree.NamedText.{NamedText}
 use Rattle.ckc_syntax.specs.Trees.{Tree, NamedTree, NamedItem, NamedHead, NamedDecl, NamedStmt}
-use Rattle.ckc_plain.specs.declared.integers.Integers.{Integers}
-use Rattle.ckc_plain.specs.Integers.{declared_integer, locals_of_stmt, known_of, known_in}
-use Rattle.ckc_plain.specs.Statements.{alone, stmt_plain, item_plain}
+use Rattle.ckc_plain.specs.ckc_plain_barred.specs.declared.integers.Integers.{Integers}
+use Rattle.ckc_plain.specs.ckc_plain_barred.specs.Integers.{declared_integer, locals_of_stmt, known_of, known_in}
+use Rattle.ckc_plain.specs.ckc_plain_bodies.specs.Statements.{alone, stmt_plain, item_plain}
 use Rattle.ckc_plain.specs.Phase.{resolving}
 use Rattle.ckc_typed_fit.specs.Numbers.{CountsFrom, AreNumbered}
 use Rattle.ckc_typed_fit.specs.Locals.{local_in, decl_local, item_locals, item_params}

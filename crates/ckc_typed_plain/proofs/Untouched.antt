@@ -11,19 +11,19 @@ use Rattle.ckc_syntax.specs.declared.tree.Node.{Node-F, map-Node, out-Node, roll
 use Rattle.ckc_syntax.specs.declared.tree.Node.TheVariants as node
 use Rattle.ckc_syntax.specs.declared.tree.Expr.{Expr-F, map-Expr, ind-Expr, roll-Expr, fold-roll-Expr}
 use Rattle.ckc_syntax.specs.Trees.{NamedDecl, NamedLimits, NamedNode, NamedExpr, NamedStmt}
-use Rattle.ckc_plain.specs.declared.integers.Integers.{Integers}
-use Rattle.ckc_plain.specs.declared.pending.Pending.{Pending}
-use Rattle.ckc_plain.specs.declared.forms.Work.{Work}
-use Rattle.ckc_plain.specs.declared.forms.Work.TheVariants as work
-use Rattle.ckc_plain.specs.declared.forms.Form.{Form}
-use Rattle.ckc_plain.specs.declared.forms.Form.TheVariants as form
-use Rattle.ckc_plain.specs.Forms as forms
-use Rattle.ckc_plain.specs.Forms.{work_of}
-use Rattle.ckc_plain.specs.Effects.{Found, all_in, found_in, found_in_node, in_limits}
-use Rattle.ckc_plain.specs.Effects as effects
-use Rattle.ckc_plain.specs.Taken.{expr_at, after, none_pending, unary_taken, binary_taken, node_taken, taken}
-use Rattle.ckc_plain.specs.Expressions.{OfLimits, OfNode, OfExpr, rest, each_rest, if_true, if_false, choice, binary_parts, node_parts, expr_parts, limits_parts, limits_plain, node_kept, expr_kept, expr_plain, right_plain, bounds_plain}
-use Rattle.ckc_plain.specs.Statements.{init_plain, local_plain}
+use Rattle.ckc_plain.specs.ckc_plain_barred.specs.declared.integers.Integers.{Integers}
+use Rattle.ckc_plain.specs.ckc_plain_bodies.specs.declared.pending.Pending.{Pending}
+use Rattle.ckc_plain.specs.ckc_plain_barred.specs.declared.forms.Work.{Work}
+use Rattle.ckc_plain.specs.ckc_plain_barred.specs.declared.forms.Work.TheVariants as work
+use Rattle.ckc_plain.specs.ckc_plain_barred.specs.declared.forms.Form.{Form}
+use Rattle.ckc_plain.specs.ckc_plain_barred.specs.declared.forms.Form.TheVariants as form
+use Rattle.ckc_plain.specs.ckc_plain_barred.specs.Forms as forms
+use Rattle.ckc_plain.specs.ckc_plain_barred.specs.Forms.{work_of}
+use Rattle.ckc_plain.specs.ckc_plain_barred.specs.Effects.{Found, all_in, found_in, found_in_node, in_limits}
+use Rattle.ckc_plain.specs.ckc_plain_barred.specs.Effects as effects
+use Rattle.ckc_plain.specs.ckc_plain_bodies.specs.Taken.{expr_at, after, none_pending, unary_taken, binary_taken, node_taken, taken}
+use Rattle.ckc_plain.specs.ckc_plain_bodies.specs.Expressions.{OfLimits, OfNode, OfExpr, rest, each_rest, if_true, if_false, choice, binary_parts, node_parts, expr_parts, limits_parts, limits_plain, node_kept, expr_kept, expr_plain, right_plain, bounds_plain}
+use Rattle.ckc_plain.specs.ckc_plain_bodies.specs.Statements.{init_plain, local_plain}
 
 abbrev Layer : Type 0
 Layer = Node-F Name (Unit {0}) NamedLimits NamedNode NamedExpr

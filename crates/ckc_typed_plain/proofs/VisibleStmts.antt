@@ -9,14 +9,14 @@ use Rattle.ckc_syntax.specs.declared.tree.Act.{Act-F, map-Act, roll-Act, out-Act
 use Rattle.ckc_syntax.specs.declared.tree.Act.TheVariants as act
 use Rattle.ckc_syntax.specs.declared.tree.Stmt.{Stmt-F, map-Stmt, ind-Stmt, roll-Stmt, fold-roll-Stmt}
 use Rattle.ckc_syntax.specs.Trees.{NamedDecl, NamedInit, NamedExpr, NamedStmt, NamedAct}
-use Rattle.ckc_plain.specs.declared.integers.Integers.{Integers}
-use Rattle.ckc_plain.specs.declared.pending.Pending.{Pending}
-use Rattle.ckc_plain.specs.Effects.{in_expr, in_bounds, in_maybe}
-use Rattle.ckc_plain.specs.Barred as barred
-use Rattle.ckc_plain.specs.Barred.{in_init, in_act, in_stmt}
-use Rattle.ckc_plain.specs.Taken.{stmt_at, block_at, none_pending}
-use Rattle.ckc_plain.specs.Expressions.{expr_plain, exprs_plain, whole_plain, right_plain, maybe_plain}
-use Rattle.ckc_plain.specs.Statements.{joined, placed_by, placed, OfAct, OfStmt, alone, in_block, loop_condition, loop_body, for_condition, for_body, init_plain, act_parts, stmt_parts, act_plain, stmt_plain}
+use Rattle.ckc_plain.specs.ckc_plain_barred.specs.declared.integers.Integers.{Integers}
+use Rattle.ckc_plain.specs.ckc_plain_bodies.specs.declared.pending.Pending.{Pending}
+use Rattle.ckc_plain.specs.ckc_plain_barred.specs.Effects.{in_expr, in_bounds, in_maybe}
+use Rattle.ckc_plain.specs.ckc_plain_barred.specs.Barred as barred
+use Rattle.ckc_plain.specs.ckc_plain_barred.specs.Barred.{in_init, in_act, in_stmt}
+use Rattle.ckc_plain.specs.ckc_plain_bodies.specs.Taken.{stmt_at, block_at, none_pending}
+use Rattle.ckc_plain.specs.ckc_plain_bodies.specs.Expressions.{expr_plain, exprs_plain, whole_plain, right_plain, maybe_plain}
+use Rattle.ckc_plain.specs.ckc_plain_bodies.specs.Statements.{joined, placed_by, placed, OfAct, OfStmt, alone, in_block, loop_condition, loop_body, for_condition, for_body, init_plain, act_parts, stmt_parts, act_plain, stmt_plain}
 use Rattle.ckc_typed_welltyped.specs.Productions.{Given, is_branch, placed_act, given_in, placed_stmt, with_calls}
 use Rattle.ckc_typed_fit.specs.Tests.{Tests, type_passes, bounds_pass, init_passes, expr_passes, value_passes, Walked, left_by, pass_in_turn, act_walked, stmt_walked, walked_act}
 use Rattle.ckc_typed_plain.proofs.GivenLevels.{both, parts_of, empty_parts, is_not}

@@ -4,8 +4,8 @@ use Rattle.ckc_syntax.specs.declared.tree.NamedText.{NamedText}
 use Rattle.ckc_syntax.specs.Trees.{Tree}
 use Rattle.ckc_syntax_limits.specs.Small.{Small}
 use Rattle.ckc_resolve.specs.Phase.{naming}
-use Rattle.ckc_plain.specs.Barred.{barred}
-use Rattle.ckc_plain.specs.Statements.{plain}
+use Rattle.ckc_plain.specs.ckc_plain_barred.specs.Barred.{barred}
+use Rattle.ckc_plain.specs.ckc_plain_bodies.specs.Statements.{plain}
 
 -- The names of a tree mean those of a resolved text, no effect in that stands where it may not, and the plain text is
 -- what it becomes without effects, within the limits.

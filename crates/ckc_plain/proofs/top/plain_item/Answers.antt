@@ -1,7 +1,7 @@
 use Rattle.std.proofs.Common.{sym, ap, ◌∙◌}
 use Rattle.ckc_syntax.specs.declared.tree.Item.TheVariants as item
-use Rattle.ckc_plain.specs.Integers.{known_in}
-use Rattle.ckc_plain.specs.Statements.{body_plain, item_plain}
+use Rattle.ckc_plain_barred.specs.Integers.{known_in}
+use Rattle.ckc_plain_bodies.specs.Statements.{body_plain, item_plain}
 use Rattle.ckc_plain.proofs.top.plain_item.Goals as goal
 
 pub returns-in_ok-made-clause-made : goal.returns-in_ok-made-clause-made

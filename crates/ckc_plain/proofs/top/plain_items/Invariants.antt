@@ -1,5 +1,5 @@
 use Rattle.std.proofs.Common.{◌≡◌, ◌++◌}
-use Rattle.ckc_plain.specs.code.Statements.{items_plain}
+use Rattle.ckc_plain_bodies.specs.code.Statements.{items_plain}
 use Rattle.ckc_plain.proofs.top.plain_items.Given as goal
 
 -- what is left gives what the whole gives

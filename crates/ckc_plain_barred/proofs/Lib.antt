@@ -1,0 +1,5 @@
+pub mod Firsts
+pub mod Found
+pub mod FoundActs
+pub mod FoundNodes
+pub mod Locals

@@ -1,0 +1,5 @@
+pub mod Integers
+pub mod Forms
+pub mod Effects
+pub mod Barred
+pub mod code

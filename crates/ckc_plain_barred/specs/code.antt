@@ -1,0 +1,3 @@
+pub mod First
+pub mod Locals
+pub mod Refused

@@ -1,0 +1,6 @@
+pub mod Kept
+pub mod KeptActs
+pub mod KeptNodes
+pub mod Named
+pub mod Stays
+pub mod Turns

@@ -1,0 +1,4 @@
+pub mod Taken
+pub mod Expressions
+pub mod Statements
+pub mod code
