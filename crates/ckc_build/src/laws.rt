@@ -56,8 +56,9 @@ pub fn programs_are_laid_out()
     accepted_texts_are_blamed();
 }
 
-/// The program of a text is well formed: what it names is there, and its checked pointers have ranges.
-/// So a call in it is not stuck for want of a function, nor an access or a bounds cast for want of a range.
+/// The program of a text is well formed: what it names is there and has room, and its checked pointers have ranges.
+/// So a call in it is not stuck for want of a function, an access by name never, and no other access or bounds cast for want of
+/// a range.
 pub fn programs_are_well_formed()
     ensures { (text : List ℕ) (p : Program) → HasMeaning text p → IsWellFormed p }
 {
@@ -65,8 +66,8 @@ pub fn programs_are_well_formed()
     accepted_texts_are_well_formed();
 }
 
-/// The meaning of a text is stuck only for a cause: the next step goes to what no block has, or reads a checked pointer whose
-/// bounds are not true.
+/// The meaning of a text is stuck only for a cause: the next step goes through a pointer to what no block has, or reads a checked
+/// pointer whose bounds are not true.
 pub fn stuck_runs_have_a_cause()
     ensures { (text : List ℕ) (p : Program) → HasMeaning text p → IsStuckForCauseAlone p }
 {

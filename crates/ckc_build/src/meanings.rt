@@ -23,10 +23,10 @@ pub fn program(alloc: Global, text: &[u8]) -> Result<Program, Fault>
     ensures exact { Exact meanings text.now (viewed program_of result) }
     // The static objects lie apart, as a run of the program needs them.
     ensures laid_out { IfOk result (λ p. IsLaidOut (program_of p)) }
-    // What the program names is there, and its checked pointers have ranges.
+    // What the program names is there and has room, and its checked pointers have ranges.
     ensures well_formed { IfOk result (λ p. IsWellFormed (program_of p)) }
-    // A run of it is stuck only at a step that goes to what no block has, or that reads a checked pointer whose bounds are
-    // not true.
+    // A run of it is stuck only at a step that goes through a pointer to what no block has, or that reads a checked pointer
+    // whose bounds are not true.
     ensures caused { IfOk result (λ p. IsStuckForCauseAlone (program_of p)) }
 {
     match judge(alloc, text) {

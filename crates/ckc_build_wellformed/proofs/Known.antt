@@ -1,8 +1,9 @@
 -- What is known of the names of a function, and what ranges and the rows of the table of types say.
-use Rattle.std.proofs.Common.{◌≡◌, ◌⊎◌, ◌∙◌, refl, sym, ap, ℕ, Bool, true, false, List}
+use Rattle.std.proofs.Common.{◌≡◌, ◌⊎◌, ◌∙◌, inl, subst, arith, refl, sym, ap, ℕ, ◌+◌, Bool, true, false, List}
 use Rattle.std.specs.Prelude.{◌==◌, not, ◌&&◌, ◌||◌, if◌then◌else◌, Option, Some, None, is_some}
 use Rattle.std.proofs.lemmas.Bool.{and_parts, eqb-true}
 use Rattle.ckc_base.specs.declared.arithmetic.Mode.{Mode}
+use Rattle.ckc_base.specs.declared.arithmetic.Width.{Width}
 use Rattle.ckc_base.specs.declared.places.Pos.{Pos}
 use Rattle.ckc_types.specs.declared.types.Kind.{Kind}
 use Rattle.ckc_types.specs.declared.types.Kind.TheVariants as kind
@@ -14,39 +15,59 @@ use Rattle.ckc_typed.specs.declared.typed.Range.{Range}
 use Rattle.ckc_typed.specs.declared.typed.Range.TheVariants as range
 use Rattle.ckc_typed.specs.Declarations.{is_checked_kind}
 use Rattle.ckc_typed.specs.Environment.{object_named, type_of_name, variable_named}
-use Rattle.ckc_typed.specs.Expressions.{is_no_array, number_type}
+use Rattle.ckc_typed.specs.Expressions.{is_no_array, is_object_form, is_placed_form, number_type}
+use Rattle.ckc_typed.specs.Layouts.{member_number}
 use Rattle.ckc_typed.specs.Operands.{is_raw_kind, is_cast, target_type, dot_type, choice_type, arithmetic_type}
 use Rattle.ckc_typed.specs.Raw.{is_raw, raw_in_form, has_raw}
-use Rattle.ckc_typed.specs.Trees.{NotedLayer}
+use Rattle.ckc_syntax.specs.declared.tree.TreeOp.TheVariants as op
+use Rattle.ckc_syntax.specs.declared.tree.Node.{Node-F}
+use Rattle.ckc_typed.specs.declared.typed.Note.{Note}
+use Rattle.ckc_typed.specs.declared.typed.Typed.{Typed}
+use Rattle.ckc_typed.specs.Trees.{NotedExpr, NotedLayer, NotedLimits, NotedNode}
 use Rattle.ckc_typed.specs.Types.{is_integer, is_object_type, is_pointer, is_pointer_form, is_void, is_scalar, kind_of, kind_in, element_of}
 use Rattle.ckc_typed_welltyped.specs.Expressions.{HasType}
 use Rattle.ckc_build_forms.specs.ckc_blame_steps.specs.ckc_bounds_ranges.specs.Rows.{range_of_local}
 use Rattle.ckc_build_forms.specs.ckc_blame_steps.specs.ckc_bounds_views.specs.declared.variables.Own.{Own}
 use Rattle.ckc_build_forms.specs.ckc_blame_steps.specs.ckc_bounds_views.specs.Fresh.{member_in}
-use Rattle.ckc_build_forms.specs.ckc_blame_steps.specs.ckc_bounds_views.specs.Judged.{fault_if, is_missing}
+use Rattle.ckc_build_forms.specs.ckc_blame_steps.specs.ckc_bounds_views.specs.Judged.{fault_if, is_missing, noted_range}
 use Rattle.ckc_build_forms.specs.ckc_blame_steps.specs.ckc_bounds_views.specs.Ranges.{range_of_name, range_of_member, range_by_type}
-use Rattle.ckc_source.specs.Code.{Program}
-use Rattle.ckc_build_values.specs.Kinds.{count_of_kind, tag_of}
-use Rattle.ckc_build_values.specs.Members.{count_of_member}
+use Rattle.ckc_source.specs.declared.expr.Count.{Count}
+use Rattle.ckc_source.specs.Code.{Number, Program}
+use Rattle.ckc_source.specs.Eval.{place_in}
+use Rattle.ckc_build_values.specs.Kinds.{count_of_kind, tag_of, width_of}
+use Rattle.ckc_build_values.specs.Members.{count_of_member, offset_of}
+use Rattle.ckc_build_forms.specs.ckc_blame_steps.specs.ckc_blame_sound.specs.Cells.{IsPart}
+use Rattle.ckc_build_forms.specs.ckc_blame_steps.specs.ckc_blame_sound.specs.Limited.{IsCountPart}
+use Rattle.ckc_build_values.specs.Expressions.{local_in}
+use Rattle.ckc_build_values.specs.Places.{object_place}
+use Rattle.ckc_blame_pointers.proofs.Scalars.{pointer_scalar}
 use Rattle.ckc_build_values.specs.Names.{address_of, array_of, count_of_static}
 use Rattle.ckc_build_forms.specs.ckc_blame_steps.specs.ckc_blame_sound.specs.Settings.{Setting}
-use Rattle.ckc_source_causes.specs.WellFormed.{HasObjectAt}
+use Rattle.ckc_source_causes.specs.Ranges.{GivesRange}
+use Rattle.ckc_source_causes.specs.WellFormed.{HasObjectAt, IsWellFormedExpr, LiesInObject}
 use Rattle.ckc_build_wellformed.proofs.Nodes.{is_there_form}
-use Rattle.ckc_build_wellformed.proofs.Parts.{different, unlike, int_kind, unsigned_kind, integer_kind, kind_pointer, arithmetic_kind}
+use Rattle.ckc_build_wellformed.proofs.Parts.{IsFixed, PlaceFormed, different, unlike, int_kind, unsigned_kind, integer_kind, kind_pointer, arithmetic_kind}
 
 -- ---- names
 
--- What is known of an object of file scope with a type: it lies in the program; an array is of a kind that is no `_Ptr`; and
--- of a pointer the program has the number of elements where it is a `_Ptr` or where its range is known.
+-- What is known of an object of file scope with a type: it lies in the program, and what is no array has room for each integer
+-- and pointer in it; an array is of a kind that is no `_Ptr`; and of a pointer the program has the number of elements where it is
+-- a `_Ptr` or where its range is known.
 pub record KnowsStatic (s : Setting) (g : Program) (t : CType) (k : ℕ) : Type 0 where
   pub there : HasObjectAt g (address_of s.text k)
+  pub room : array_of s.text k ≡ None → (o : ℕ) (w : Width) → IsPart s.text.layout t o w
+      → LiesInObject g w (address_of s.text k + o) × (place_in (address_of s.text k) o ≡ address_of s.text k + o)
+  pub fixed : array_of s.text k ≡ None → (n : Count) → count_of_static s.text t (name.Static k) ≡ Some n → (is_pointer t ≡ true) × IsFixed n
   pub array : (j : Kind) → array_of s.text k ≡ Some j → (kind_of t ≡ Some j) × (j ≡ kind.One → ⊥)
   pub single : array_of s.text k ≡ None → kind_of t ≡ Some kind.One → count_of_static s.text t (name.Static k) ≡ None → ⊥
   pub ranged : array_of s.text k ≡ None → count_of_static s.text t (name.Static k) ≡ None → (own : ℕ) (widened : List ℕ)
       → is_missing (range_of_name s.frame (name.Static k) t own widened) ≡ true
 
--- The same of a member.
+-- The same of a member, which is an integer or a pointer.
 pub record KnowsMember (s : Setting) (u t : CType) (n : Name) : Type 0 where
+  pub scalar : is_scalar t ≡ true
+  pub part : IsPart s.text.layout u (offset_of s.text.layout (tag_of u) (member_number n)) (width_of t)
+  pub counted : (c : Count) → count_of_member s.text.layout (tag_of u) n ≡ Some c → (is_pointer t ≡ true) × IsCountPart s.text.layout u c
   pub single : kind_of t ≡ Some kind.One → count_of_member s.text.layout (tag_of u) n ≡ None → ⊥
   pub ranged : count_of_member s.text.layout (tag_of u) n ≡ None → (own : Own) → is_missing (range_of_member s.frame.structs t (member_in n (out-CType u)) own) ≡ true
 
@@ -55,6 +76,8 @@ pub record Knows (globals : Globals) (s : Setting) (g : Program) : Type 0 where
   pub statics : (k : ℕ) (t : CType) → type_of_name globals s.variables (name.Static k) ≡ Some t → KnowsStatic s g t k
   pub members : (u t : CType) (n : Name) → dot_type globals.structs u n ≡ Some t → KnowsMember s u t n
   pub structures : (u t : CType) (n : Name) → dot_type globals.structs u n ≡ Some t → (e : NotedLayer) (mode : Mode) → HasType globals s.variables mode e u → is_there_form e ≡ true
+  pub singles : (k : ℕ) (t : CType) → type_of_name globals s.variables (name.Static k) ≡ Some t
+      → (is_some (variable_named s.variables (name.Static k)) || is_no_array (object_named globals (name.Static k))) ≡ true → array_of s.text k ≡ None
   pub objects : (n : Name) → is_no_array (object_named globals n) ≡ true → (k : ℕ) × (n ≡ name.Static k)
   pub targets : (n : Name) → (is_some (variable_named s.variables n) || is_no_array (object_named globals n)) ≡ true
       → ((k : ℕ) × (n ≡ name.Local k)) ⊎ ((k : ℕ) × (n ≡ name.Static k))
@@ -70,6 +93,17 @@ chosen false x h = unlike h
 pub not_chosen : (b : Bool) (x : Range) → is_missing (if b then range.Missing else x) ≡ false → is_missing x ≡ false
 not_chosen true x h = unlike h
 not_chosen false x h = h
+
+pub behind : (b : Bool) (x : Range) → is_missing x ≡ true → is_missing (if b then x else range.Missing) ≡ true
+behind true x h = h
+behind false x h = refl
+
+pub noted_type : (a : Note) (r : Range) → (noted_range a r).ctype ≡ a.ctype
+noted_type a r = by (is_pointer a.ctype)
+  where
+    by : (b : Bool) → (if b then record a { range = r } else a).ctype ≡ a.ctype
+    by true = refl
+    by false = refl
 
 pub none_is : {A X : Type 0} {a : A} → ◌≡◌ {A = Option A} None (Some a) → X
 none_is e = absurd cc
@@ -172,3 +206,55 @@ cast_kind t u m h = by (is_integer t) refl (kind_of t) refl (and_parts (is_objec
     by false e (Some kind.Arr) is q = different q
     by false e (Some kind.Nt) is q = different q
     by false e None is q = refl
+
+-- ---- names by their form
+
+-- an object of file scope that is named is no array
+abbrev pub IsSingle : Typed → NotedLayer → Type 0
+IsSingle p (Node-F.Name (name.Static k)) = array_of p k ≡ None
+IsSingle p x = Unit {0}
+
+-- what has the type of a structure is no array
+pub struct_single : (globals : Globals) (s : Setting) (g : Program) (knows : Knows globals s g) (mode : Mode) (x : NotedLayer) (u : CType) → HasType globals s.variables mode x u → is_scalar u ≡ false → IsSingle s.text x
+struct_single globals s g knows mode (Node-F.Name (name.Static k)) u row bare = by (array_of s.text k) refl
+  where
+    by : (o : Option Kind) → array_of s.text k ≡ o → o ≡ None
+    by None is = refl
+    by (Some j) is = unlike (sym (pointer_scalar u (kind_pointer u j ((knows.statics k u row).array j is).0)) ∙ bare)
+struct_single globals s g knows mode x u row bare = tt
+
+pub object_formed : (g : Program) (s : Setting) (j : ℕ) (t : CType) (pos : Pos) → KnowsStatic s g t j → array_of s.text j ≡ None → PlaceFormed g s.text.layout t (object_place s.text t pos j)
+object_formed g s j t pos h single = record {
+  access = h.there;
+  pointer = tt;
+  index = tt;
+  room = λ a o w is part. (let room = h.room single o w part in
+      let at : o ≡ a = omega (arith, is) in
+      subst (λ x. LiesInObject g w (place_in (address_of s.text j) x)) at (subst (LiesInObject g w) (sym room.1) room.0));
+  near = inl refl;
+}
+
+pub local_formed : (g : Program) (s : Setting) (u : CType) (j : ℕ) (r : Range) → IsWellFormedExpr g (local_in s.text s.variables u j r)
+local_formed g s u j (range.Known low high) = tt
+local_formed g s u j range.Missing = tt
+local_formed g s u j range.Any = tt
+
+pub local_gives : (s : Setting) (u : CType) (j : ℕ) (r : Range) → is_missing r ≡ false → (r ≡ range.Any → ⊥) → GivesRange (local_in s.text s.variables u j r)
+local_gives s u j (range.Known low high) m n = tt
+local_gives s u j range.Missing m n = unlike m
+local_gives s u j range.Any m n = absurd (n refl)
+
+abbrev named_there : Name → Bool
+named_there m = is_there_form {A = Note} {L = NotedLimits} {M = NotedNode} {E = NotedExpr} (Node-F.Name m)
+
+pub address_there : (globals : Globals) (s : Setting) (g : Program) (knows : Knows globals s g) (x : NotedLayer) → (is_object_form globals x || is_placed_form x) ≡ true → is_there_form x ≡ true
+address_there globals s g knows (Node-F.Name n) h = let o = knows.objects n (by (is_no_array (object_named globals n)) h) in ap named_there o.1
+  where
+    by : (b : Bool) → (b || false) ≡ true → b ≡ true
+    by true e = refl
+    by false e = different e
+address_there globals s g knows (Node-F.Un op.Deref e) h = refl
+address_there globals s g knows (Node-F.Index e f) h = refl
+address_there globals s g knows (Node-F.Dot e n at) h = refl
+address_there globals s g knows (Node-F.Arrow e n at) h = refl
+address_there globals s g knows x h = different h

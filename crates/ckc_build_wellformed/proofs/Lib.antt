@@ -2,6 +2,7 @@ pub mod Nodes
 pub mod Parts
 pub mod Known
 pub mod Structures
+pub mod Scalars
 pub mod Values
 pub mod Steps
 pub mod Statements

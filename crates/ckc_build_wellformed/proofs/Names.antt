@@ -1,5 +1,5 @@
 -- What is known of the names of a function of a judged text.
-use Rattle.std.proofs.Common.{◌≡◌, ◌⊎◌, ◌∙◌, ⊎_elim, inl, inr, refl, sym, ap, subst, arith, ℕ, ◌<◌, Bool, true, false, List, [], ◌∷◌, map, length}
+use Rattle.std.proofs.Common.{◌≡◌, ◌⊎◌, ◌∙◌, ⊎_elim, inl, inr, refl, sym, ap, subst, arith, rules, ℕ, ◌+◌, ◌<◌, Bool, true, false, List, [], ◌∷◌, map, length}
 use Rattle.std.specs.Prelude.{All, ◌||◌, ◌==◌, if◌then◌else◌, Option, Some, None, is_none, is_some, slice_get}
 use Rattle.std.specs.List.{Contains, flat_map, list_any}
 use Rattle.std.proofs.lemmas.Bool.{and_parts}
@@ -8,11 +8,12 @@ use Rattle.std.proofs.lemmas.List.Sorted.{length_permutation}
 use Rattle.std.proofs.lemmas.Option.{slice_get_within}
 use Rattle.std.proofs.lemmas.List.Elements.{All-nil, All-cons, All-head, All-tail}
 use Rattle.ckc_base.specs.declared.arithmetic.Mode.{Mode}
+use Rattle.ckc_base.specs.declared.arithmetic.Width.{Width}
 use Rattle.ckc_base.specs.declared.arithmetic.Mode.TheVariants.{Unchecked}
 use Rattle.ckc_linear.specs.declared.forms.Base.TheVariants as base
 use Rattle.ckc_types.specs.declared.types.Kind.{Kind}
 use Rattle.ckc_types.specs.declared.types.Kind.TheVariants as kind
-use Rattle.ckc_types.specs.declared.types.CType.{CType, CType-F, out-CType}
+use Rattle.ckc_types.specs.declared.types.CType.{CType, CType-F, out-CType, the_lemmas}
 use Rattle.ckc_types.specs.declared.types.CType.TheVariants as ctype
 use Rattle.ckc_types.specs.declared.types.MemberBounds.{MemberBounds}
 use Rattle.ckc_types.specs.declared.types.MemberBounds.TheVariants as mbounds
@@ -34,21 +35,27 @@ use Rattle.ckc_typed.specs.declared.typed.Range.{Range}
 use Rattle.ckc_typed.specs.declared.typed.Range.TheVariants as range
 use Rattle.ckc_typed.specs.declared.typed.Typed.{Typed}
 use Rattle.ckc_typed.specs.Declarations.{is_checked_kind}
-use Rattle.ckc_typed.specs.Environment.{getchar, putchar, kind_of_array, variable_declared, variables_of, object_named, same_name, signatures_of, signatures_of_item, signature_named, type_of_name, used, variable_named}
+use Rattle.ckc_typed.specs.Environment.{member_type, getchar, putchar, kind_of_array, variable_declared, variables_of, object_named, same_name, signatures_of, signatures_of_item, signature_named, type_of_name, used, variable_named}
 use Rattle.ckc_typed.specs.Expressions.{is_no_array}
-use Rattle.ckc_typed.specs.Operands.{dot_type}
+use Rattle.ckc_typed.specs.Layouts.{member_number}
+use Rattle.ckc_typed.specs.Operands.{member_in as member_typed, dot_type}
+use Rattle.std.specs.Option.{option_map}
 use Rattle.ckc_typed.specs.Statics.{strings_of_item}
 use Rattle.ckc_typed.specs.Texts.{globals_of, is_result_type}
 use Rattle.ckc_typed.specs.Trees.{Item, NotedDecl, NotedItem, NotedExpr, NotedLimits, NotedNode, Tree}
-use Rattle.ckc_typed.specs.Types.{is_integer, type_written, is_integer_form, is_pointer_form, is_scalar, is_scalar_type, is_object_type, is_void, kind_of}
+use Rattle.ckc_typed.specs.Types.{is_integer, is_pointer, type_written, is_integer_form, is_pointer_form, is_scalar, is_scalar_type, is_object_type, is_void, kind_of}
 use Rattle.ckc_typed_welltyped.specs.Noteless.{bare_item, without_notes}
 use Rattle.ckc_typed_welltyped.specs.Texts.{WellTypedItems}
 use Rattle.ckc_source.specs.declared.expr.Count.{Count}
+use Rattle.ckc_source.specs.declared.expr.Count.TheVariants as count
+use Rattle.ckc_source.specs.declared.program.Object.{Object as ProgramObject}
+use Rattle.ckc_source.specs.Blocks.{block_of}
+use Rattle.ckc_source.specs.Words as words
 use Rattle.ckc_source.specs.Code.{Function}
-use Rattle.ckc_source.specs.Eval.{Store}
-use Rattle.ckc_build_values.specs.Kinds.{tag_of, tag_in}
-use Rattle.ckc_build_values.specs.Members.{member_named, count_by, count_in, count_of_member}
-use Rattle.ckc_build_values.specs.Names.{address_in, address_of, array_in, array_of, count_declared, count_of_static}
+use Rattle.ckc_source.specs.Eval.{Store, place_in}
+use Rattle.ckc_build_values.specs.Kinds.{tag_of, tag_in, count_of_kind, width_of}
+use Rattle.ckc_build_values.specs.Members.{member_named, count_by, count_in, count_of_member, integer_in_member, offset_of}
+use Rattle.ckc_build_values.specs.Names.{address_in, address_of, array_in, array_of, count_declared, count_of_static, fixed_by, fixed_count}
 use Rattle.ckc_build_elaborate.specs.Elaborated.{elaborated}
 use Rattle.ckc_build_elaborate.specs.Objects.{object_elaborated, objects_elaborated}
 use Rattle.ckc_build_forms.specs.ckc_blame_steps.specs.ckc_bounds.specs.Frames.{all_of}
@@ -76,15 +83,31 @@ use Rattle.ckc_build_forms.specs.ckc_blame_steps.proofs.Ones.{ones_declared}
 use Rattle.ckc_build_forms.specs.ckc_blame_steps.proofs.Runs.{runs_free}
 use Rattle.ckc_build_forms.specs.ckc_blame_steps.proofs.Small.{few_locals, variables_are}
 use Rattle.ckc_build_forms.specs.ckc_blame_steps.proofs.Texts.{texts_are_told}
-use Rattle.ckc_build_forms.specs.ckc_blame_steps.proofs.Told.{statics_told}
-use Rattle.ckc_source_causes.specs.WellFormed.{HasObjectAt}
+use Rattle.ckc_build_forms.specs.ckc_blame_steps.specs.ckc_blame_sound.specs.Cells.{AreSound, IsPartIn, IsPart}
+use Rattle.ckc_build_forms.specs.ckc_blame_steps.specs.ckc_blame_sound.specs.Limited.{IsCountPart}
+use Rattle.ckc_build_forms.specs.ckc_blame_steps.specs.ckc_blame_sound.proofs.Accesses.{member_part}
+use Rattle.ckc_build_forms.specs.ckc_blame_steps.specs.ckc_blame_sound.proofs.Apart.{cell_there}
+use Rattle.ckc_build_forms.specs.ckc_blame_steps.specs.ckc_blame_sound.proofs.Filled.{part_place}
+use Rattle.ckc_build_forms.specs.ckc_blame_steps.specs.ckc_blame_sound.proofs.Objects.{object_cell}
+use Rattle.ckc_build_forms.specs.ckc_blame_steps.specs.ckc_blame_sound.proofs.Shapes.{integer_width}
+use Rattle.ckc_build_forms.specs.ckc_blame_steps.proofs.Objects.{single}
+use Rattle.ckc_build_forms.specs.ckc_blame_steps.proofs.StaticKinds.{plain_ends}
+use Rattle.ckc_build_forms.specs.ckc_blame_steps.proofs.Told.{none_named, statics_told}
+use Rattle.ckc_blame_pointers.specs.Covered.{NamesInteger}
+use Rattle.ckc_blame_pointers.proofs.Scalars.{integer_scalar, pointer_scalar}
+use Rattle.ckc_typed.specs.Amounts.{amount_of_limits}
+use Rattle.ckc_typed.specs.declared.environment.Amount.{Amount}
+use Rattle.ckc_source_causes.specs.WellFormed.{HasObjectAt, LiesInObject}
 use Rattle.ckc_build_wellformed.proofs.Nodes.{is_there_form}
-use Rattle.ckc_build_wellformed.proofs.Parts.{different, unlike, int_out, integer_kind, pointer_kind}
+use Rattle.ckc_build_wellformed.proofs.Parts.{IsFixed, kind_fixed, different, unlike, int_out, integer_kind, kind_pointer, pointer_kind}
 use Rattle.ckc_build_wellformed.proofs.Structures.{is_struct, scalar_plain, void_plain, dot_struct, structure_there}
-use Rattle.ckc_build_wellformed.proofs.Known.{Knows, KnowsMember, KnowsStatic, count_missing, one_counts}
+use Rattle.ckc_build_wellformed.proofs.Known.{Knows, KnowsMember, KnowsStatic, behind, count_missing, one_counts}
 
 some_none : {A X : Type 0} {a : A} → ◌≡◌ {A = Option A} (Some a) None → X
 some_none e = absurd cc
+
+none_some : {A X : Type 0} {a : A} → ◌≡◌ {A = Option A} None (Some a) → X
+none_some e = absurd cc
 
 -- ---- results are no structures
 
@@ -152,9 +175,29 @@ no_single_array (lengths.Raw n at) e = cc
 no_single_array (lengths.Checked n) e = cc
 no_single_array (lengths.Nt n) e = cc
 
+-- ---- numbers of elements
+
+some_same : {A : Type 0} {x y : A} → ◌≡◌ {A = Option A} (Some x) (Some y) → x ≡ y
+some_same e = cc
+
+amount_fixed : (a : Option Amount) (n : Count) → fixed_count a ≡ Some n → IsFixed n
+amount_fixed None n e = absurd cc
+amount_fixed (Some a) n e = by a.variable e
+  where
+    by : (v : Option Name) → fixed_by v a.number ≡ Some n → IsFixed n
+    by None f = subst IsFixed (some_same f) tt
+    by (Some v) f = absurd cc
+
+takes_pointer : (t : CType) → takes_bounds_kind (kind_of t) ≡ true → is_pointer t ≡ true
+takes_pointer t h = by (kind_of t) refl h
+  where
+    by : (k : Option Kind) → kind_of t ≡ k → takes_bounds_kind k ≡ true → is_pointer t ≡ true
+    by (Some j) is e = kind_pointer t j is
+    by None is e = different e
+
 -- ---- objects of file scope
 
-module _ (p : Typed) (s : Setting) (text : s.text ≡ p) where
+module _ (p : Typed) (s : Setting) (text : s.text ≡ p) (place : ℕ) (sound : AreSound p (map block_of (elaborated p).objects) place) where
   module _ (t : CType) (k : ℕ) (h : IsStatic s t k) where
     lies : HasObjectAt (elaborated p) (address_of s.text k)
     lies = record {
@@ -177,6 +220,29 @@ module _ (p : Typed) (s : Setting) (text : s.text ≡ p) where
     element_is : array_of s.text k ≡ None → t ≡ h.object.element
     element_is none = h.type ∙ ap (used h.object.element) (sym array_is ∙ none)
 
+    room : array_of s.text k ≡ None → (o : ℕ) (w : Width) → IsPart s.text.layout t o w → LiesInObject (elaborated p) w (address_of s.text k + o) × (place_in (address_of s.text k) o ≡ address_of s.text k + o)
+    room none o w part =
+        let array : h.object.array ≡ None = sym array_is ∙ none in
+        let here : AreSound s.text (map block_of (elaborated s.text).objects) place = subst (λ (q : Typed). AreSound q (map block_of (elaborated q).objects) place) (sym text) sound in
+        let bs = map block_of (elaborated s.text).objects in
+        let cell =
+        object_cell s.text bs here.memory.objects k h.object h.there (h.ends ∙ plain_ends h.decl.length (sym h.array ∙ array)) h.some o w (subst (λ u. IsPart s.text.layout u o w) (element_is none) part) in
+        let lies = cell_there s.text bs here.memory.placed (address_of s.text k + o) w false cell in
+        (subst (λ (q : Typed). LiesInObject (elaborated q) w (address_of s.text k + o)) text lies, part_place s.text bs place here (address_of s.text k) o w false cell)
+
+    fixed : array_of s.text k ≡ None → (n : Count) → count_of_static s.text t (name.Static k) ≡ Some n → (is_pointer t ≡ true) × IsFixed n
+    fixed none n e = by h.decl.bounds refl
+      where
+        counted : (o : Option NotedLimits) → h.decl.bounds ≡ o → count_declared s.text.layout t o ≡ Some n
+        counted o is = sym (ap (count_declared s.text.layout t) (h.limits ∙ is)) ∙ e
+
+        by : (o : Option NotedLimits) → h.decl.bounds ≡ o → (is_pointer t ≡ true) × IsFixed n
+        by None is = kind_fixed t n (counted None is)
+        by (Some l) is = (
+          subst (λ u. is_pointer u ≡ true) (sym (element_is none)) (takes_pointer h.object.element (and_parts (takes_bounds_kind (kind_of h.object.element)) (is_none (kind_of_array h.decl.length)) (h.takes (ap is_some is))).0),
+          amount_fixed _ n (counted (Some l) is),
+        )
+
     single_counts : array_of s.text k ≡ None → kind_of t ≡ Some kind.One → count_of_static s.text t (name.Static k) ≡ None → ⊥
     single_counts array one none = by h.decl.bounds refl
       where
@@ -197,7 +263,7 @@ module _ (p : Typed) (s : Setting) (text : s.text ≡ p) where
         ∙ counted_missing own (count_of_static s.text h.object.element (name.Static k)) (ap (λ u. count_of_static s.text u (name.Static k)) (sym same) ∙ none)
 
     pub static_known : KnowsStatic s (elaborated p) t k
-    static_known = record { there = lies; array = kind_is; single = single_counts; ranged = range_missing }
+    static_known = record { there = lies; room = room; fixed = fixed; array = kind_is; single = single_counts; ranged = range_missing }
 
 -- ---- members
 
@@ -217,12 +283,39 @@ record IsHeld (s : Setting) (u t : CType) (n : Name) : Type 0 where
   pub type : member.ctype ≡ t
   pub judged : member_bounds s.frame.structs (record { tag = tag; number = number }) ≡ member.bounds
   pub single : kind_of t ≡ Some kind.One → member.bounds ≡ mbounds.Nothing
+  pub pointer : is_pointer t ≡ true
+  pub counts : NamesInteger s tag member.bounds
+
+struct_out : (tag : ℕ) → out-CType (ctype.Struct tag) ≡ CType-F.Struct tag
+struct_out tag = search (rules, the_lemmas)
 
 module _ (s : Setting) (u t : CType) (n : Name) where
-  integer_known : is_integer t ≡ true → KnowsMember s u t n
-  integer_known i =
+  -- a member is a part of its structure
+  part_of_struct : (v : CType) (tag k : ℕ) → out-CType v ≡ CType-F.Struct tag → (w : CType) → member_type s.text.layout tag (name.Member k) ≡ Some w → IsPart s.text.layout v (offset_of s.text.layout tag k) (width_of w)
+  part_of_struct v tag k is w e =
+      let part = subst (λ f. IsPartIn s.text.layout (ctype.Struct tag) f (offset_of s.text.layout tag k) (width_of w)) (struct_out tag) (member_part s.text.layout tag k w e) in
+      subst (λ f. IsPartIn s.text.layout v f (offset_of s.text.layout tag k) (width_of w)) (sym is) part
+
+  part_is : (k : ℕ) → n ≡ name.Member k → dot_type s.text.layout u n ≡ Some t → IsPart s.text.layout u (offset_of s.text.layout (tag_of u) (member_number n)) (width_of t)
+  part_is k named e = by (out-CType u) refl (sym (ap (λ m. dot_type s.text.layout u m) named) ∙ e)
+    where
+      by : (f : CType-F CType) → out-CType u ≡ f → member_typed s.text.layout (name.Member k) f ≡ Some t → IsPart s.text.layout u (offset_of s.text.layout (tag_in (out-CType u)) (member_number n)) (width_of t)
+      by (CType-F.Struct tag) is g =
+          subst (λ f. IsPart s.text.layout u (offset_of s.text.layout (tag_in f) (member_number n)) (width_of t)) (sym is)
+          (subst (λ m. IsPart s.text.layout u (offset_of s.text.layout tag (member_number m)) (width_of t)) (sym named) (part_of_struct u tag k is t g))
+      by CType-F.Int is g = absurd cc
+      by CType-F.Unsigned is g = absurd cc
+      by CType-F.Char is g = absurd cc
+      by CType-F.Void is g = absurd cc
+      by (CType-F.Pointer j v) is g = absurd cc
+
+  integer_known : (k : ℕ) → n ≡ name.Member k → dot_type s.text.layout u n ≡ Some t → count_of_member s.text.layout (tag_of u) n ≡ None → is_integer t ≡ true → KnowsMember s u t n
+  integer_known k named there bare i =
       let none = integer_kind t i in
       record {
+        scalar = integer_scalar t i;
+        part = part_is k named there;
+        counted = λ c e. none_some (sym bare ∙ e);
         single = λ one. some_none (sym one ∙ none);
         ranged = λ c own. integer_missing s t none (member_in n (out-CType u)) own;
       }
@@ -236,6 +329,10 @@ module _ (s : Setting) (u t : CType) (n : Name) where
     member_is : member_in n (out-CType u) ≡ Some (record { tag = m.tag; number = m.number })
     member_is = ap (λ x. member_in x (out-CType u)) m.named ∙ ap (member_in (name.Member m.number)) m.struct
 
+    fixed_part : (c : Count) → IsFixed c → IsCountPart s.text.layout u c
+    fixed_part (count.Fixed n) h = tt
+    fixed_part (count.Member offset form add) h = absurd h
+
     held : (b : MemberBounds) → count_by s.text.layout m.tag t b ≡ None → (own : Own) → is_missing (range_in_struct (kind_of t) b own) ≡ true
     held mbounds.Nothing h own = count_missing (kind_of t) own.value h
     held mbounds.Unknown h own = refl
@@ -243,22 +340,32 @@ module _ (s : Setting) (u t : CType) (n : Name) where
     held (mbounds.Fixed c) h own = some_none h
     held (mbounds.Named k c) h own = some_none h
 
-    if_missing : (b : Bool) (x : Range) → is_missing x ≡ true → is_missing (if b then x else range.Missing) ≡ true
-    if_missing true x h = h
-    if_missing false x h = refl
+    counted_by : (b : MemberBounds) → NamesInteger s m.tag b → (c : Count) → count_by s.text.layout m.tag t b ≡ Some c → IsCountPart s.text.layout u c
+    counted_by mbounds.Nothing h c e = fixed_part c (kind_fixed t c e).1
+    counted_by mbounds.Unknown h c e = none_some e
+    counted_by mbounds.NoForm h c e = none_some e
+    counted_by (mbounds.Fixed a) h c e = subst (IsCountPart s.text.layout u) (some_same e) tt
+    counted_by (mbounds.Named k a) h c e =
+        let form = ap (λ (o : Option MemberShape). words.width_of (integer_in_member o)) h.1 ∙ integer_width h.0.ctype in
+        subst (IsCountPart s.text.layout u) (some_same e)
+        (subst (λ w. IsPart s.text.layout u (offset_of s.text.layout m.tag k) w) (sym form)
+        (part_of_struct u m.tag k m.struct h.0.ctype (ap (λ (o : Option MemberShape). option_map (λ (x : MemberShape). x.ctype) o) h.1)))
 
-    pointer_known : KnowsMember s u t n
-    pointer_known = record {
+    pointer_known : dot_type s.text.layout u n ≡ Some t → KnowsMember s u t n
+    pointer_known there = record {
+      scalar = pointer_scalar t m.pointer;
+      part = part_is m.number m.named there;
+      counted = λ c e. (m.pointer, counted_by m.member.bounds m.counts c (sym count_is ∙ e));
       single = λ one none. one_counts t one (sym (ap (count_by s.text.layout m.tag t) (m.single one)) ∙ sym count_is ∙ none);
       ranged = λ none own.
           ap (λ o. is_missing (range_of_member s.frame.structs t o own)) member_is
           ∙ ap (λ b. is_missing (if is_checked (kind_of t) then range_in_struct (kind_of t) b own else range.Missing)) m.judged
-          ∙ if_missing (is_checked (kind_of t)) (range_in_struct (kind_of t) m.member.bounds own) (held m.member.bounds (sym count_is ∙ none) own);
+          ∙ behind (is_checked (kind_of t)) (range_in_struct (kind_of t) m.member.bounds own) (held m.member.bounds (sym count_is ∙ none) own);
     }
 
 -- ---- a function of a judged text
 
-module _ (p : Typed) (j : IsJudged p) (small : Small j.named.tree) (s : Setting) (f : Function) (is : IsFunction p s f) where
+module _ (p : Typed) (j : IsJudged p) (small : Small j.named.tree) (place : ℕ) (sound : AreSound p (map block_of (elaborated p).objects) place) (s : Setting) (f : Function) (is : IsFunction p s f) where
   text_is : s.text ≡ p
   unfolding setting_of
   text_is = ap (λ (x : Setting). x.text) is.judged
@@ -355,11 +462,20 @@ module _ (p : Typed) (j : IsJudged p) (small : Small j.named.tree) (s : Setting)
       by (Some v) e g = inl (variable_local p s f j is n v e)
       by None e g = inr (objects_there n g)
 
+  singles_there : (k : ℕ) (t : CType) → type_of_name (globals_in p) s.variables (name.Static k) ≡ Some t
+      → (is_some (variable_named s.variables (name.Static k)) || is_no_array (object_named (globals_in p) (name.Static k))) ≡ true → array_of s.text k ≡ None
+  singles_there k t e h =
+      let w = statics_told p s f t k j is e in
+      let none : variable_named s.variables (name.Static k) ≡ None = none_named p j s f k is in
+      ap array_in w.there
+      ∙ single p j s text_is t k w (subst (λ (o : Option Variable). (is_some o || is_no_array (object_named (globals_in p) (name.Static k))) ≡ true) none h)
+
   pub names_known : Knows (globals_in p) s (elaborated p)
   names_known = record {
-    statics = λ k t e. static_known p s text_is t k (statics_told p s f t k j is e);
+    statics = λ k t e. static_known p s text_is place sound t k (statics_told p s f t k j is e);
+    singles = singles_there;
     members = λ u t n e.
-        ⊎_elim (λ m. integer_known s u t n m.integer)
+        ⊎_elim (λ m. integer_known s u t n m.number m.named m.there m.bare m.integer)
         (λ m. pointer_known s u t n (record {
           tag = m.tag;
           struct = m.struct;
@@ -370,7 +486,9 @@ module _ (p : Typed) (j : IsJudged p) (small : Small j.named.tree) (s : Setting)
           type = m.type;
           judged = m.judged;
           single = m.single;
-        })) (told.members u t n (subst (λ (x : Structs). dot_type x u n ≡ Some t) told.structs e));
+          pointer = m.pointer;
+          counts = m.counts;
+        }) (subst (λ (x : Structs). dot_type x u n ≡ Some t) told.structs e)) (told.members u t n (subst (λ (x : Structs). dot_type x u n ≡ Some t) told.structs e));
     structures = λ u t n e x mode row. structure_there (globals_in p) s.variables names_there results_there mode x u row (dot_struct (globals_in p).structs u t n e);
     objects = objects_there;
     targets = targets_there;

@@ -1,26 +1,38 @@
 -- What is made of well formed parts is well formed, and pointer arithmetic keeps a range.
-use Rattle.std.proofs.Common.{◌≡◌, ◌∙◌, refl, sym, ap, subst, rules, ℕ, Bool, true, false}
+use Rattle.std.proofs.Common.{◌≡◌, ◌⊎◌, ◌∙◌, inl, inr, refl, sym, ap, subst, rules, arith, ℕ, ◌+◌, Bool, true, false}
 use Rattle.std.specs.Prelude.{◌==◌, not, ◌&&◌, ◌||◌, if◌then◌else◌, Option, Some, None}
 use Rattle.std.proofs.lemmas.Bool.{and_parts}
+use Rattle.ckc_base.specs.declared.arithmetic.Width.{Width}
+use Rattle.ckc_base.specs.declared.arithmetic.Width.TheVariants.{Byte, Word}
 use Rattle.ckc_base.specs.declared.places.Pos.{Pos}
 use Rattle.ckc_types.specs.declared.types.Kind.{Kind}
 use Rattle.ckc_types.specs.declared.types.Kind.TheVariants as kind
 use Rattle.ckc_types.specs.declared.types.CType.{CType, CType-F, out-CType, the_lemmas}
 use Rattle.ckc_types.specs.declared.types.CType.TheVariants as ctype
 use Rattle.ckc_types.specs.declared.types.Structs.{Structs}
+use Rattle.ckc_syntax.specs.declared.tree.Name.{Name}
 use Rattle.ckc_syntax.specs.declared.tree.TreeOp.{TreeOp}
 use Rattle.ckc_syntax.specs.declared.tree.TreeOp.TheVariants as op
 use Rattle.ckc_typed.specs.Declarations.{is_checked_kind}
 use Rattle.ckc_typed.specs.Operands.{promoted, common, arithmetic_type, both_type, shift_type, comparison_type, is_compared, distance_type, is_moved, is_moved_kind, same_element, sum_type, difference_type, index_type, binary_type, unary_type, size_type}
-use Rattle.ckc_typed.specs.Types.{element_of, is_char, is_integer, is_integer_form, is_object_type, is_pointer, is_pointer_form, is_scalar, is_unsigned, is_void, kind_of, kind_in}
+use Rattle.ckc_typed.specs.Layouts.{member_number}
+use Rattle.ckc_typed.specs.Types.{element_of, is_char, is_char_form, is_integer, is_integer_form, is_object_type, is_pointer, is_pointer_form, is_scalar, is_unsigned, is_void, kind_of, kind_in}
 use Rattle.ckc_source.specs.declared.expr.Count.{Count}
+use Rattle.ckc_source.specs.declared.expr.Count.TheVariants as count
+use Rattle.ckc_source.specs.declared.expr.Integer.{Integer}
+use Rattle.ckc_source.specs.declared.expr.Through.{Through}
+use Rattle.ckc_source.specs.declared.expr.Through.TheVariants as through
 use Rattle.ckc_source.specs.declared.expr.Operation.TheVariants as operation
 use Rattle.ckc_source.specs.Code.{Expr, Number, Moved, Added, Binary, Narrow, Bare, Program}
-use Rattle.ckc_build_values.specs.Kinds.{is_signed}
+use Rattle.ckc_build_values.specs.Kinds.{count_of_kind, is_signed, through_kind, width_of}
+use Rattle.ckc_build_values.specs.Members.{offset_of}
 use Rattle.ckc_build_values.specs.Operators.{converted, cast, unary, binary, is_signed_at, shift, distance, of_operands, elements_in}
-use Rattle.ckc_build_values.specs.Places.{Place, read_at}
+use Rattle.ckc_build_values.specs.Places.{Place, element_place, member_place, read_at}
+use Rattle.ckc_build_forms.specs.ckc_blame_steps.specs.ckc_blame_sound.specs.Cells.{IsPartIn, IsPart}
+use Rattle.ckc_build_forms.specs.ckc_blame_steps.specs.ckc_blame_sound.specs.Limited.{IsCountPart}
+use Rattle.ckc_build_forms.specs.ckc_blame_steps.specs.ckc_blame_sound.proofs.Accesses.{scalar_part}
 use Rattle.ckc_source_causes.specs.Ranges.{GivesRange}
-use Rattle.ckc_source_causes.specs.WellFormed.{IsWellFormedAccess, IsWellFormedExpr}
+use Rattle.ckc_source_causes.specs.WellFormed.{HasRoom, HasRoomForCount, IsWellFormedAccess, IsWellFormedCell, IsWellFormedExpr}
 
 pub different : {X : Type 0} → false ≡ true → X
 different e = absurd cc
@@ -271,19 +283,118 @@ other_kind op.Div t m u n r other h = arithmetic_kind t u r h
 other_kind op.Rem t m u n r other h = arithmetic_kind t u r h
 other_kind o t m u n r other h = absurd cc
 
+-- ---- integers and pointers in elements
+
+pub scalar_is : (structs : Structs) (t : CType) (o : ℕ) (w : Width) → is_scalar t ≡ true → IsPart structs t o w → (o ≡ 0) × (w ≡ width_of t)
+scalar_is structs t o w scalar part = by (out-CType t) scalar part
+  where
+    by : (f : CType-F CType) → (is_integer_form f || is_pointer_form f) ≡ true → IsPartIn structs t f o w → (o ≡ 0) × (w ≡ width_of t)
+    by CType-F.Int e h = h
+    by CType-F.Unsigned e h = h
+    by CType-F.Char e h = h
+    by CType-F.Void e h = absurd cc
+    by (CType-F.Struct tag) e h = absurd cc
+    by (CType-F.Pointer k u) e h = h
+
+-- a pointer is a word
+pub pointer_wide : (t : CType) → is_pointer t ≡ true → width_of t ≡ Word
+pointer_wide t h = by (out-CType t) h
+  where
+    by : (f : CType-F CType) → is_pointer_form f ≡ true → (if is_char_form f then Byte else Word) ≡ Word
+    by (CType-F.Pointer k u) e = refl
+    by CType-F.Int e = absurd cc
+    by CType-F.Unsigned e = absurd cc
+    by CType-F.Char e = absurd cc
+    by CType-F.Void e = absurd cc
+    by (CType-F.Struct tag) e = absurd cc
+
+-- a number of elements that no member keeps
+abbrev pub IsFixed : Count → Type 0
+IsFixed (count.Fixed n) = Unit {0}
+IsFixed (count.Member offset form add) = ⊥
+
+-- a kind of pointer whose number of elements is known has a number of them
+pub kind_fixed : (t : CType) (n : Count) → count_of_kind (kind_of t) ≡ Some n → (is_pointer t ≡ true) × IsFixed n
+kind_fixed t n e = by (kind_of t) refl e
+  where
+    by : (k : Option Kind) → kind_of t ≡ k → count_of_kind k ≡ Some n → (is_pointer t ≡ true) × IsFixed n
+    by (Some kind.One) is f = (kind_pointer t kind.One is, subst IsFixed (some_same f) tt)
+    by (Some kind.Nt) is f = (kind_pointer t kind.Nt is, subst IsFixed (some_same f) tt)
+    by (Some kind.Raw) is f = absurd cc
+    by (Some kind.Arr) is f = absurd cc
+    by None is f = absurd cc
+
 -- ---- what is well formed
 
 module _ (g : Program) where
   abbrev F : Expr → Type 0
   F = IsWellFormedExpr g
 
-  -- a place whose access is well formed
-  abbrev pub PlaceFormed : Place → Type 0
-  PlaceFormed q = IsWellFormedAccess g q.access.through q.pointer × F q.pointer × F q.index
+  -- A place of a type: its access is well formed, and each integer or pointer of such an element has room there. It is the
+  -- begin of an element, or it is an integer or a pointer in one.
+  pub record PlaceFormed (structs : Structs) (t : CType) (q : Place) : Type 0 where
+    pub access : IsWellFormedAccess g q.access.through q.pointer
+    pub pointer : F q.pointer
+    pub index : F q.index
+    pub room : (at o : ℕ) (w : Width) → at ≡ q.access.offset + o → IsPart structs t o w → HasRoom g q.access.through w at q.pointer
+    pub near : (q.access.offset ≡ 0) ⊎ (is_scalar t ≡ true)
 
-  pub read_formed : (structs : Structs) (t : CType) (c : Option Count) (q : Place) → PlaceFormed q → F (read_at structs t c q)
-  read_formed structs t (Some c) q h = h
-  read_formed structs t None q h = h
+  -- what a place of an integer or a pointer reads or writes
+  pub cell_formed : (structs : Structs) (t : CType) (q : Place) → PlaceFormed structs t q → is_scalar t ≡ true → IsWellFormedCell g (width_of t) q.access q.pointer
+  cell_formed structs t q h scalar = (h.access, h.room q.access.offset 0 (width_of t) (omega arith) (scalar_part structs t scalar))
+
+  pub read_formed : (structs : Structs) (t : CType) (c : Option Count) (q : Place) → PlaceFormed structs t q → is_scalar t ≡ true
+      → ((n : Count) → c ≡ Some n → (is_pointer t ≡ true) × HasRoomForCount g q.access.through n q.pointer) → F (read_at structs t c q)
+  read_formed structs t (Some n) q h scalar counts =
+      let both = counts n refl in
+      ((subst (λ w. IsWellFormedCell g w q.access q.pointer) (pointer_wide t both.0) (cell_formed structs t q h scalar), both.1), h.pointer, h.index)
+  read_formed structs t None q h scalar counts = (cell_formed structs t q h scalar, h.pointer, h.index)
+
+  -- an access through a pointer asks for no room
+  pub through_room : (k : Option Kind) (w : Width) (at : ℕ) (e : Expr) → HasRoom g (through_kind k) w at e
+  through_room None w at e = tt
+  through_room (Some kind.Raw) w at e = tt
+  through_room (Some kind.One) w at e = tt
+  through_room (Some kind.Arr) w at e = tt
+  through_room (Some kind.Nt) w at e = tt
+
+  pub element_formed : (structs : Structs) (u t : CType) (at : Pos) (index : Integer) (e f : Expr) → IsWellFormedAccess g (through_kind (kind_of t)) e → F e → F f
+      → PlaceFormed structs u (element_place structs t at index e f)
+  element_formed structs u t at index e f access h i = record {
+    access = access;
+    pointer = h;
+    index = i;
+    room = λ a o w is part. through_room (kind_of t) w a e;
+    near = inl refl;
+  }
+
+  pub member_formed : (structs : Structs) (u t : CType) (tag : ℕ) (n : Name) (q : Place) → PlaceFormed structs u q → is_scalar u ≡ false → is_scalar t ≡ true
+      → IsPart structs u (offset_of structs tag (member_number n)) (width_of t) → PlaceFormed structs t (member_place structs tag n q)
+  member_formed structs u t tag n q h bare scalar part = record {
+    access = h.access;
+    pointer = h.pointer;
+    index = h.index;
+    room = λ a o w is inner. (let at = scalar_is structs t o w scalar inner in
+        let zero = at.0 in
+        let there : a ≡ q.access.offset + offset_of structs tag (member_number n) + o = is in
+        subst (λ x. HasRoom g q.access.through x a q.pointer) (sym at.1) (h.room a (offset_of structs tag (member_number n)) (width_of t) (omega (arith, there, zero)) part));
+    near = inr scalar;
+  }
+
+  -- ---- numbers of elements
+
+  pub fixed_room : (how : Through) (n : Count) (e : Expr) → IsFixed n → HasRoomForCount g how n e
+  fixed_room how (count.Fixed n) e h = tt
+  fixed_room how (count.Member offset form add) e h = absurd h
+
+  -- the member that keeps one has room, where the structure has
+  pub counted_room : (structs : Structs) (u : CType) (q : Place) (n : Count) → PlaceFormed structs u q → is_scalar u ≡ false → IsCountPart structs u n → HasRoomForCount g q.access.through n q.pointer
+  counted_room structs u q (count.Fixed n) h bare part = tt
+  counted_room structs u q (count.Member offset form add) h bare part = by h.near
+    where
+      by : (q.access.offset ≡ 0) ⊎ (is_scalar u ≡ true) → HasRoomForCount g q.access.through (count.Member offset form add) q.pointer
+      by (inl zero) = h.room offset offset _ (omega (arith, zero)) part
+      by (inr scalar) = different (sym bare ∙ scalar)
 
   pub narrow_formed : (b : Bool) (e : Expr) → F e → F (if b then Narrow e else e)
   narrow_formed true e h = h

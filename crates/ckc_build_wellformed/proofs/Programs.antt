@@ -1,5 +1,5 @@
 -- The program of a text that the phases accept is well formed.
-use Rattle.std.proofs.Common.{◌≡◌, ◌∙◌, sym, ap, subst, refl, arith, le_refl, ℕ, ◌+◌, ◌≤◌, false, List, [], ◌∷◌, ◌++◌, map, length, replicate}
+use Rattle.std.proofs.Common.{◌≡◌, ◌∙◌, sym, ap, subst, refl, arith, le_refl, ℕ, ◌+◌, ◌≤◌, true, false, List, [], ◌∷◌, ◌++◌, map, length, replicate}
 use Rattle.std.specs.Prelude.{All, Ok, ◌-◌, ◌*◌, slice_get}
 use Rattle.std.specs.List.{Contains}
 use Rattle.std.proofs.lemmas.List.{length-map}
@@ -13,11 +13,13 @@ use Rattle.ckc_syntax_limits.specs.Small.{Small}
 use Rattle.ckc_typed.specs.declared.typed.Typed.{Typed}
 use Rattle.ckc_typed.specs.Environment.{parameter_declared, variable_declared}
 use Rattle.ckc_typed.specs.Trees.{NotedDecl, NotedHead, NotedStmt}
+use Rattle.ckc_typed_welltyped.specs.Productions.{given_tree}
 use Rattle.ckc_typed_welltyped.specs.Texts.{TypedAs}
 use Rattle.ckc_source.specs.declared.program.Object.{Object}
 use Rattle.ckc_source.specs.Blocks.{block_of, end_of, first_place, place_behind}
 use Rattle.ckc_source.specs.Code.{Function}
 use Rattle.ckc_source.specs.LaidOut.{AreApart, HoldBytes}
+use Rattle.ckc_source.specs.Source.{first_state}
 use Rattle.ckc_build_elaborate.specs.Elaborated.{elaborated}
 use Rattle.ckc_build_elaborate.specs.Functions.{literals_of_head, function_elaborated, functions_elaborated}
 use Rattle.ckc_build_elaborate.specs.Names.{number_of}
@@ -29,6 +31,7 @@ use Rattle.ckc_build_forms.specs.ckc_blame_steps.specs.ckc_bounds.specs.Texts.{b
 use Rattle.ckc_build_forms.specs.ckc_blame_steps.specs.ckc_bounds_points.specs.declared.frame.Frame.{Frame}
 use Rattle.ckc_build_forms.specs.ckc_blame_steps.specs.ckc_bounds_statements.specs.Paths.{Here, path}
 use Rattle.ckc_build_forms.specs.ckc_blame_steps.specs.ckc_blame_sound.specs.JudgedTexts.{IsJudged, IsBodyJudged, globals_in}
+use Rattle.ckc_build_forms.specs.ckc_blame_steps.specs.ckc_blame_sound.specs.Cells.{AreSound}
 use Rattle.ckc_build_forms.specs.ckc_blame_steps.specs.ckc_blame_sound.specs.Safe.{AreSafe}
 use Rattle.ckc_build_forms.specs.ckc_blame_steps.specs.ckc_blame_sound.specs.Settings.{Setting, IsFunction, setting_of, frame_of_text}
 use Rattle.ckc_build_forms.specs.ckc_blame_steps.specs.ckc_blame_sound.proofs.Bodies.{bodies_are_typed, declared_known}
@@ -38,6 +41,8 @@ use Rattle.ckc_build_forms.specs.ckc_blame_steps.specs.ckc_blame_walk.proofs.Fra
 use Rattle.ckc_build_forms.specs.ckc_blame_steps.specs.ckc_blame_walk.proofs.Texts.{text_same}
 use Rattle.ckc_build_forms.specs.ckc_blame_steps.proofs.Accepted.{accepted_known}
 use Rattle.ckc_build_forms.specs.ckc_blame_steps.proofs.Callees.{callees_known}
+use Rattle.ckc_build_forms.specs.ckc_blame_steps.proofs.GivenBodies.{texts_given}
+use Rattle.ckc_build_forms.specs.ckc_blame_steps.proofs.Promised.{first_sound}
 use Rattle.ckc_build_forms.specs.ckc_blame_steps.proofs.Scoped.{texts_are_safe}
 use Rattle.ckc_build_forms.specs.ckc_blame_steps.proofs.Told.{local_named}
 use Rattle.ckc_build_forms.proofs.FunctionsSmall.{each_function, main_there}
@@ -67,7 +72,7 @@ lie_from first low place (o ∷ os) less h =
 
 -- ---- functions
 
-module _ (p : Typed) (j : IsJudged p) (small : Small j.named.tree) (safe : AreSafe p) where
+module _ (p : Typed) (j : IsJudged p) (given : given_tree j.named.tree ≡ true) (small : Small j.named.tree) (place : ℕ) (sound : AreSound p (map block_of (elaborated p).objects) place) (safe : AreSafe p) where
   module _ (k : ℕ) (h : NotedHead) (body : NotedStmt) (there : Contains p.tree.items (item.Function h body))
       (strings : NumbersStrings (count_declared p.tree.items) p.tree.items k (item.Function h body)) where
     abbrev s : Setting
@@ -99,9 +104,9 @@ module _ (p : Typed) (j : IsJudged p) (small : Small j.named.tree) (safe : AreSa
       unfolding setting_of
       locals d c = local_named p j s f (variable_declared d) is_function (declared_known (globals_in p) j.typed h body b d c)
 
-      before : Before (globals_in p) s (elaborated p) (names_known p j small s f is_function) callees b.before b.mode false
+      before : Before (globals_in p) s (elaborated p) (names_known p j small place sound s f is_function) callees b.before b.mode false
       unfolding setting_of
-      before = record { typed = b.fits; safe = safe j.typed h b.before j.has_bounds b.there; locals = locals }
+      before = record { typed = b.fits; safe = safe j.typed h b.before j.has_bounds b.there; locals = locals; fine = texts_given p j given j.typed h b.before j.has_bounds b.there }
 
       judged : body_judged (frame_of_text p) h b.before ≡ Ok body
       judged = ap (λ g. body_judged g h b.before) (text_same j.typed p j.has_bounds).frame ∙ b.judged
@@ -112,7 +117,7 @@ module _ (p : Typed) (j : IsJudged p) (small : Small j.named.tree) (safe : AreSa
       body_formed : IsWellFormedCode (elaborated p) f.body
       unfolding setting_of
       body_formed =
-          judged_form (globals_in p) s (elaborated p) (names_known p j small s f is_function) callees b.before body b.mode before (begin_of (frame_of_text p) h b.before) refl
+          judged_form (globals_in p) s (elaborated p) (names_known p j small place sound s f is_function) callees b.before body b.mode before (begin_of (frame_of_text p) h b.before) refl
           (subst (λ (g : Frame). bind ((path b.before).judged g s.head (begin_of (frame_of_text p) h b.before)) (λ (q : NotedStmt × Here). Ok q.0) ≡ Ok body) inside judged)
           (k + literals_of_head h)
 
@@ -127,10 +132,12 @@ module _ (stays : (t : NamedText) (p : Typed) → TypedAs t p → Small t.tree �
   accepted_formed text p a =
       let k = accepted_known text p a in
       let j = k.0.granted.judged in
+      let first = first_sound p [] k.0 k.1 tt in
+      let sound : AreSound p (map block_of (elaborated p).objects) (first_state (elaborated p) []).next = record { apart = first.orderly.apart; bytes = first.orderly.bytes; memory = first.memory } in
       let safe : AreSafe p = texts_are_safe a.typed p a.has_bounds.1.0 (subst (λ (q : Typed). bounding.Makes q p) a.has_bounds.1.1 a.has_bounds.2) in
       record {
         main = there_is 0 (slice_get (functions_elaborated p) (number_of (name.Function p.main) p.tree.items)) (main_there p j);
-        bodies = bodies_formed p j k.1.small safe;
+        bodies = bodies_formed p j k.1.given k.1.small (first_state (elaborated p) []).next sound safe;
         steps = all_have_steps (functions_elaborated p) (functions_elaborated p) (have_form p j k.1.given k.1.small (stays j.named j.typed j.has_types k.1.small) k.0.granted.words);
         placed = lie_from first_place first_place (place_behind first_place (map block_of (elaborated p).objects)) (elaborated p).objects (le_refl first_place) k.1.laid_out.apart;
         objects = begin_as_bytes (elaborated p).objects k.1.laid_out.bytes;

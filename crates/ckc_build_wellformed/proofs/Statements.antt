@@ -1,13 +1,13 @@
 -- What a statement of a judged text becomes is well formed, by induction over the statement before it is judged.
-use Rattle.std.proofs.Common.{◌≡◌, ◌⊎◌, inl, inr, refl, sym, ap, subst, ◌∙◌, arith, ℕ, ◌+◌, Bool, true, false, List, [], ◌∷◌, ◌++◌, map}
-use Rattle.std.specs.Prelude.{not, if◌then◌else◌, Option, None, Some, Ok, Err, unwrap_or, IfSome}
+use Rattle.std.proofs.Common.{◌≡◌, ◌⊎◌, inl, inr, refl, sym, ap, subst, ◌∙◌, arith, ℕ, ◌+◌, Bool, true, false, List, [], ◌∷◌, ◌++◌, map, length}
+use Rattle.std.specs.Prelude.{not, ◌&&◌, nat_le, if◌then◌else◌, Option, None, Some, Ok, Err, unwrap_or, IfSome}
 use Rattle.std.specs.List.{AllByRecursion, Contains}
 use Rattle.std.proofs.lemmas.List.Elements.{Contains-append_left, Contains-append_right}
 use Rattle.ckc_base.specs.declared.places.Pos.{Pos}
 use Rattle.ckc_base.specs.declared.arithmetic.Mode.{Mode}
 use Rattle.ckc_base.specs.Outcomes.{Outcome, bind}
 use Rattle.ckc_types.specs.declared.types.CType.{CType}
-use Rattle.ckc_syntax.specs.Inside.{listed, inside_each, inside_if, inside_init}
+use Rattle.ckc_syntax.specs.Inside.{all_have, listed, inside_each, inside_if, inside_init}
 use Rattle.ckc_syntax.specs.declared.tree.Name.{Name}
 use Rattle.ckc_syntax.specs.declared.tree.Name.TheVariants as name
 use Rattle.ckc_syntax.specs.declared.tree.Init.TheVariants as init
@@ -19,13 +19,17 @@ use Rattle.ckc_typed.specs.declared.environment.Variable.{Variable}
 use Rattle.ckc_typed.specs.declared.typed.Note.{Note}
 use Rattle.ckc_typed.specs.declared.typed.Typed.{Typed}
 use Rattle.ckc_typed.specs.Expressions.{is_placed}
-use Rattle.ckc_typed.specs.Statements.{is_named}
-use Rattle.ckc_typed.specs.Trees.{NotedAct, NotedDecl, NotedExpr, NotedInit, NotedStmt}
-use Rattle.ckc_typed.specs.Types.{type_written}
+use Rattle.ckc_typed.specs.Statements.{is_named, is_result}
+use Rattle.ckc_syntax.specs.declared.tree.Node.{Node-F, out-Node}
+use Rattle.ckc_typed.specs.Trees.{NotedAct, NotedDecl, NotedExpr, NotedInit, NotedLayer, NotedStmt}
+use Rattle.ckc_typed.specs.Conversions.{converts}
+use Rattle.ckc_typed.specs.Types.{type_written, is_scalar}
 use Rattle.ckc_typed_welltyped.specs.Declarations.{StartsLocal, WellTypedInit}
 use Rattle.ckc_typed_welltyped.specs.Expressions.{IsNoted, WellTypedExpr}
+use Rattle.ckc_typed_welltyped.specs.Productions.{Given, given_act, given_stmt, begins, steps, callless_expr, callless_value, call_form as is_call_form}
 use Rattle.ckc_typed_welltyped.specs.Statements.{IsCondition, IsTarget, act_rows, WellTypedStmt}
 use Rattle.ckc_typed_welltyped.proofs.ByParts.{stmt_by_parts}
+use Rattle.ckc_build_forms.specs.ckc_blame_steps.specs.ckc_bounds_known.proofs.Reaching.{and_cases}
 use Rattle.ckc_build_forms.specs.ckc_blame_steps.specs.ckc_bounds_points.specs.Codes.{bad_bundle, not_contained}
 use Rattle.ckc_build_forms.specs.ckc_blame_steps.specs.ckc_bounds_points.specs.Flow.{State}
 use Rattle.ckc_build_forms.specs.ckc_blame_steps.specs.ckc_bounds_statements.specs.Paths.{Here, is_good, expr_judged, value_judged, maybe_judged, bounds_judged, init_judged, starts_within, declared_here, decl_judged, stated, sides_judged, behind_stores, stores_judged, is_returned, gone, Branch, Start, branched, for_started, to_step, Path, ActPath, act_declared, all_judged, parts_judged, bundle_judged, part_judged, act_path, stmt_path, path_of_act, path, local_judged, call_judged, return_judged, check_judged, if_judged, while_judged, for_judged, loop_head}
@@ -39,13 +43,16 @@ use Rattle.ckc_build_forms.specs.ckc_blame_steps.specs.ckc_blame_sound.specs.Saf
 use Rattle.ckc_build_forms.specs.ckc_blame_steps.specs.ckc_blame_sound.specs.Settings.{Setting}
 use Rattle.ckc_build_forms.specs.ckc_blame_steps.specs.ckc_blame_sound.specs.Words.{exprs_in, exprs_of_act}
 use Rattle.ckc_build_forms.specs.ckc_blame_steps.specs.ckc_blame_sound.proofs.Every.{EachExpr, each_follows}
+use Rattle.ckc_build_forms.specs.ckc_blame_steps.specs.ckc_blame_sound.proofs.Given.{given_inside, given_are}
 use Rattle.ckc_build_forms.specs.ckc_blame_steps.specs.ckc_blame_sound.proofs.Judging.{Gives, bound}
 use Rattle.ckc_build_forms.specs.ckc_blame_steps.specs.ckc_blame_sound.proofs.Words.{exprs_inside, exprs_are}
 use Rattle.ckc_build_forms.specs.ckc_blame_steps.specs.ckc_blame_walk.proofs.Layers.{act_paths, declared_are}
 use Rattle.ckc_build_forms.proofs.NodesOfStatements.{chained-append}
-use Rattle.ckc_build_forms.proofs.StatementParts.{act_inside, part_act, part_if, code_is, assigns_is, kept, if_kept, nothing, some_same, none_some, Layer, act_out, step_off, path_is}
+use Rattle.ckc_build_forms.proofs.StatementParts.{act_inside, part_act, part_if, code_is, assigns_is, kept, if_kept, nothing, some_same, none_some, Layer, act_out, step_off, path_is, fine_parts}
 use Rattle.ckc_source_causes.specs.WellFormed.{AreWellFormedAssigns, IsWellFormedCode}
 use Rattle.ckc_build_wellformed.proofs.Known.{Knows}
+use Rattle.ckc_build_wellformed.proofs.Nodes.{is_there_form}
+use Rattle.ckc_build_wellformed.proofs.Scalars.{IsValued, converted}
 use Rattle.ckc_build_wellformed.proofs.Values.{IsPart, judged_made}
 use Rattle.ckc_build_wellformed.proofs.Steps.{HaveParams, Fine, Left, value_formed, target_is, right_is, nowhere_arrives, place_arrives, local_arrives, InitFine, assigned_formed, started_formed, returned_formed, condition_formed}
 
@@ -80,12 +87,14 @@ module _ (globals : Globals) (s : Setting) (g : Program) (knows : Knows globals 
     pub typed : Fits st mode looped
     pub safe : AreSafe (exprs_in st)
     pub locals : AreLocals (path st).declared
+    pub fine : (given_stmt st).fine ≡ true
 
   -- the same of what a statement does
   record BeforeAct (x : Layer) (mode : Mode) (looped : Bool) : Type 0 where
     pub typed : act_rows globals vs s.result Fits x mode looped
     pub safe : AreSafe (exprs_of_act (exprs_inside x))
     pub locals : AreLocals (act_declared (act_paths x))
+    pub fine : (given_act (given_inside x)).fine ≡ true
 
   front : (es fs : List NotedExpr) → AreSafe (es ++ fs) → AreSafe es
   front es fs h e c = h e (Contains-append_left es fs e c)
@@ -170,21 +179,21 @@ module _ (globals : Globals) (s : Setting) (g : Program) (knows : Knows globals 
   each_part mode e typed safe =
       each_follows (IsNoted globals vs mode) IsSafePart (IsPart globals s g mode knows) (λ x n w. record { row = n.row; safe = λ c. (w (n.scope ∙ c)).0 }) e typed safe
 
-  expr_of : (mode : Mode) (e : NotedExpr) → WellTypedExpr globals vs mode e → IsSafe e → (here : Here) → here.counting ≡ false → Gives (MadeBy (GoodOf e)) (value_judged s.frame e here)
+  expr_of : (mode : Mode) (e : NotedExpr) → WellTypedExpr globals vs mode e → IsValued e → IsSafe e → (here : Here) → here.counting ≡ false → Gives (MadeBy (GoodOf e)) (value_judged s.frame e here)
   unfolding value_judged
-  expr_of mode e typed safe here off = bound (GoodOf e) (MadeBy (GoodOf e)) (expr_judged s.frame e here) _ (by here.counting off) (λ f h. made h off)
+  expr_of mode e typed valued safe here off = bound (GoodOf e) (MadeBy (GoodOf e)) (expr_judged s.frame e here) _ (by here.counting off) (λ f h. made h off)
     where
       judged : (o : Outcome NotedExpr) → (view s.frame e).judged here.next here.at ≡ o → Gives (GoodOf e) o
       judged (Ok f) is =
-          (record { mode = mode; before = e; at = here.at; part = each_part mode e typed safe; made = judged_made globals s g mode knows e f here.next here.at (each_part mode e typed safe) is }, refl)
+          (record { mode = mode; before = e; at = here.at; part = each_part mode e typed safe; made = judged_made globals s g mode knows e f here.next here.at (each_part mode e typed safe) is; valued = valued }, refl)
       judged (Err r) is = tt
 
       by : (b : Bool) → b ≡ false → Gives (GoodOf e) (if b then Ok e else (view s.frame e).judged here.next here.at)
       by true h = absurd cc
       by false h = judged ((view s.frame e).judged here.next here.at) refl
 
-  expr_gives : (mode : Mode) (e : NotedExpr) → WellTypedExpr globals vs mode e → IsSafe e → (here : Here) → here.counting ≡ false → Gives (MadeBy Good) (value_judged s.frame e here)
-  expr_gives mode e typed safe here off = weaker (value_judged s.frame e here) (expr_of mode e typed safe here off)
+  expr_gives : (mode : Mode) (e : NotedExpr) → WellTypedExpr globals vs mode e → IsValued e → IsSafe e → (here : Here) → here.counting ≡ false → Gives (MadeBy Good) (value_judged s.frame e here)
+  expr_gives mode e typed valued safe here off = weaker (value_judged s.frame e here) (expr_of mode e typed valued safe here off)
     where
       weaker : (o : Outcome (NotedExpr × Here)) → Gives (MadeBy (GoodOf e)) o → Gives (MadeBy Good) o
       weaker (Ok q) h = made h.is.0 h.off
@@ -193,23 +202,33 @@ module _ (globals : Globals) (s : Setting) (g : Program) (knows : Knows globals 
   abbrev GoodIf : Option NotedExpr → Type 0
   GoodIf e = (f : NotedExpr) → e ≡ Some f → Good f
 
-  maybe_gives : (mode : Mode) (e : Option NotedExpr) → IfSome e (WellTypedExpr globals vs mode) → AreSafe (inside_if listed (λ (e : NotedExpr). e ∷ []) e) → (here : Here) → here.counting ≡ false
+  maybe_gives : (mode : Mode) (e : Option NotedExpr) → IfSome e (WellTypedExpr globals vs mode) → IfSome e IsValued → AreSafe (inside_if listed (λ (e : NotedExpr). e ∷ []) e) → (here : Here) → here.counting ≡ false
       → Gives (MadeBy GoodIf) (maybe_judged s.frame e here)
-  maybe_gives mode None typed safe here off = made (λ f e. none_some e) off
-  maybe_gives mode (Some e) typed safe here off =
-      bound (MadeBy Good) (MadeBy GoodIf) (value_judged s.frame e here) _ (expr_gives mode e typed (first_safe e [] safe) here off) (λ q h. made (λ f is. subst Good (some_same is) h.is) h.off)
+  maybe_gives mode None typed valued safe here off = made (λ f e. none_some e) off
+  maybe_gives mode (Some e) typed valued safe here off =
+      bound (MadeBy Good) (MadeBy GoodIf) (value_judged s.frame e here) _ (expr_gives mode e typed valued (first_safe e [] safe) here off) (λ q h. made (λ f is. subst Good (some_same is) h.is) h.off)
 
   condition_typed : (mode : Mode) (e : Option NotedExpr) → IfSome e (IsCondition globals vs mode) → IfSome e (WellTypedExpr globals vs mode)
   condition_typed mode None h = tt
   condition_typed mode (Some e) h = h.0
+
+  condition_valued : (mode : Mode) (e : Option NotedExpr) → IfSome e (IsCondition globals vs mode) → IfSome e IsValued
+  condition_valued mode None h = tt
+  condition_valued mode (Some e) h = inr h.1
+
+  -- a call has no place
+  call_apart : (x : NotedLayer) → is_call_form x ≡ true → is_there_form x ≡ false
+  call_apart (Node-F.Call n es) h = refl
+  call_apart (Node-F.Calloc w e u) h = refl
+  call_apart x h = absurd cc
 
   -- ---- sides of an assignment
 
   abbrev BothGood : NotedStmt → Type 0
   BothGood st = (e : NotedExpr) × (f : NotedExpr) × Goal e × Good f × (at : Pos) × (note : Note) × (st ≡ stated at note (act.Assign e f))
 
-  goal_of : (e q : NotedExpr) → GoodOf e q → (is_named globals vs e ≡ true) ⊎ (is_placed e ≡ true) → Goal q
-  goal_of e q h t = record { fine = h.0; target = subst (λ z. (is_named globals vs z ≡ true) ⊎ (is_placed z ≡ true)) (sym h.1) t }
+  goal_of : (e q : NotedExpr) → GoodOf e q → is_scalar e.note.ctype ≡ true → (is_named globals vs e ≡ true) ⊎ (is_placed e ≡ true) → Goal q
+  goal_of e q h scalar t = record { fine = h.0; scalar = subst (λ (z : NotedExpr). is_scalar z.note.ctype ≡ true) (sym h.1) scalar; target = subst (λ z. (is_named globals vs z ≡ true) ⊎ (is_placed z ≡ true)) (sym h.1) t }
 
   target_kind : (e f : NotedExpr) → IsTarget globals vs e f → (is_named globals vs e ≡ true) ⊎ (is_placed e ≡ true)
   target_kind e f t = elim t.1 [
@@ -220,9 +239,9 @@ module _ (globals : Globals) (s : Setting) (g : Program) (knows : Knows globals 
   sides_give : (e f : NotedExpr) (mode : Mode) (looped : Bool) → BeforeAct (Act-F.Assign e f) mode looped → (at : Pos) (note : Note) (here : Here) → here.counting ≡ false
       → Gives (MadeBy BothGood) (sides_judged s.frame at note e f here)
   sides_give e f mode looped b at note here off =
-      bound (MadeBy (GoodOf e)) (MadeBy BothGood) (value_judged s.frame e here) _ (expr_of mode e b.typed.left (first_safe e (f ∷ []) b.safe) here off) (λ q h.
-      bound (MadeBy Good) (MadeBy BothGood) (value_judged s.frame f q.1) _ (expr_gives mode f b.typed.right (b.safe f (1, omega arith, refl)) q.1 h.off) (λ r i.
-      made (q.0, r.0, goal_of e q.0 h.is (target_kind e f b.typed.target), i.is, at, note, refl) i.off))
+      bound (MadeBy (GoodOf e)) (MadeBy BothGood) (value_judged s.frame e here) _ (expr_of mode e b.typed.left (inr b.typed.target.0) (first_safe e (f ∷ []) b.safe) here off) (λ q h.
+      bound (MadeBy Good) (MadeBy BothGood) (value_judged s.frame f q.1) _ (expr_gives mode f b.typed.right (converted e.note.ctype f b.typed.converted) (b.safe f (1, omega arith, refl)) q.1 h.off) (λ r i.
+      made (q.0, r.0, goal_of e q.0 h.is b.typed.target.0 (target_kind e f b.typed.target), i.is, at, note, refl) i.off))
 
   assign_form : (st : NotedStmt) → BothGood st → StmtForm st
   assign_form st b =
@@ -248,12 +267,13 @@ module _ (globals : Globals) (s : Setting) (g : Program) (knows : Knows globals 
     pub typed : AllByRecursion (λ (st : NotedStmt). Fits st mode looped) (firsts ks)
     pub safe : AreSafe (exprs_each ks)
     pub locals : AreLocals (declared_each ks)
+    pub fine : inside_each all_have (λ (g : Given). g.fine) (map given_stmt (firsts ks)) ≡ true
 
   first_before : (k : KeptStmt) (ks : List KeptStmt) (mode : Mode) (looped : Bool) → AllBefore (k ∷ ks) mode looped → Before k.0 mode looped
-  first_before k ks mode looped b = record { typed = b.typed.0; safe = front (exprs_in k.0) (exprs_each ks) b.safe; locals = front_locals (path k.0).declared (declared_each ks) b.locals }
+  first_before k ks mode looped b = record { typed = b.typed.0; safe = front (exprs_in k.0) (exprs_each ks) b.safe; locals = front_locals (path k.0).declared (declared_each ks) b.locals; fine = (and_cases (given_stmt k.0).fine _ b.fine).0 }
 
   rest_before : (k : KeptStmt) (ks : List KeptStmt) (mode : Mode) (looped : Bool) → AllBefore (k ∷ ks) mode looped → AllBefore ks mode looped
-  rest_before k ks mode looped b = record { typed = b.typed.1; safe = back (exprs_in k.0) (exprs_each ks) b.safe; locals = back_locals (path k.0).declared (declared_each ks) b.locals }
+  rest_before k ks mode looped b = record { typed = b.typed.1; safe = back (exprs_in k.0) (exprs_each ks) b.safe; locals = back_locals (path k.0).declared (declared_each ks) b.locals; fine = (and_cases (given_stmt k.0).fine _ b.fine).1 }
 
   all_give : (ks : List KeptStmt) (mode : Mode) (looped : Bool) → AllBefore ks mode looped → (here : Here) → here.counting ≡ false → Gives (MadeBy ListForm) (all_judged s.frame s.head (map path (firsts ks)) here)
   unfolding all_judged
@@ -284,15 +304,15 @@ module _ (globals : Globals) (s : Setting) (g : Program) (knows : Knows globals 
   abbrev BranchGood : Branch → Type 0
   BranchGood b = Good b.condition
 
-  branch_gives : (mode : Mode) (left : Bool) (e : NotedExpr) → WellTypedExpr globals vs mode e → IsSafe e → (here : Here) → here.counting ≡ false → Gives (MadeBy BranchGood) (branched s.frame left e here)
-  branch_gives mode left e typed safe here off = bound (MadeBy Good) (MadeBy BranchGood) _ _ (expr_gives mode e typed safe here off) (λ q h. made h.is h.off)
+  branch_gives : (mode : Mode) (left : Bool) (e : NotedExpr) → IsCondition globals vs mode e → IsSafe e → (here : Here) → here.counting ≡ false → Gives (MadeBy BranchGood) (branched s.frame left e here)
+  branch_gives mode left e typed safe here off = bound (MadeBy Good) (MadeBy BranchGood) _ _ (expr_gives mode e typed.0 (inr typed.1) safe here off) (λ q h. made h.is h.off)
 
   abbrev StartGood : Start → Type 0
   StartGood b = (f : NotedExpr) → b.condition ≡ Some f → Good f
 
-  start_gives : (mode : Mode) (left continued : Bool) (e : Option NotedExpr) → IfSome e (WellTypedExpr globals vs mode) → AreSafe (inside_if listed (λ (e : NotedExpr). e ∷ []) e) → (here : Here) → here.counting ≡ false
+  start_gives : (mode : Mode) (left continued : Bool) (e : Option NotedExpr) → IfSome e (IsCondition globals vs mode) → AreSafe (inside_if listed (λ (e : NotedExpr). e ∷ []) e) → (here : Here) → here.counting ≡ false
       → Gives (MadeBy StartGood) (for_started s.frame left continued e here)
-  start_gives mode left continued e typed safe here off = bound (MadeBy GoodIf) (MadeBy StartGood) _ _ (maybe_gives mode e typed safe here off) (λ q h. made h.is h.off)
+  start_gives mode left continued e typed safe here off = bound (MadeBy GoodIf) (MadeBy StartGood) _ _ (maybe_gives mode e (condition_typed mode e typed) (condition_valued mode e typed) safe here off) (λ q h. made h.is h.off)
 
   if_form : (at : Pos) (note : Note) (e : NotedExpr) (q : NotedStmt) (o : Option NotedStmt) → Good e → StmtForm q → PartForm o → ActForm (Act-F.If e q o) at note
   if_form at note e q None h i j k rest behind = (value_formed globals s g knows callees e h k, i _ End tt, tt, behind)
@@ -346,7 +366,7 @@ module _ (globals : Globals) (s : Setting) (g : Program) (knows : Knows globals 
       → Gives (MadeBy InitGood) (init_judged s.frame i here)
   init_gives mode t init.Nothing typed starts safe here off = made tt off
   init_gives mode t (init.One e) typed starts safe here off =
-      bound (MadeBy Good) (MadeBy InitGood) (value_judged s.frame e here) _ (expr_gives mode e typed (first_safe e [] safe) here off) (λ q h. made h.is h.off)
+      bound (MadeBy Good) (MadeBy InitGood) (value_judged s.frame e here) _ (expr_gives mode e typed (converted t e starts) (first_safe e [] safe) here off) (λ q h. made h.is h.off)
   init_gives mode t (init.Many es) typed starts safe here off = absurd starts
 
   decl_form : (at : Pos) (note : Note) (d : NotedDecl) → DeclGood d → ActForm (Act-F.Local d) at note
@@ -375,8 +395,12 @@ module _ (globals : Globals) (s : Setting) (g : Program) (knows : Knows globals 
   call_gives : (e : NotedExpr) (mode : Mode) (looped : Bool) → BeforeAct (Act-F.Call e) mode looped → (at : Pos) (note : Note) (here : Here) → here.counting ≡ false
       → Gives (MadeBy StmtForm) (call_judged s.frame at note e here)
   call_gives e mode looped b at note here off =
-      bound (MadeBy Good) (MadeBy StmtForm) (value_judged s.frame e here) _ (expr_gives mode e b.typed (first_safe e [] b.safe) here off) (λ q h.
+      bound (MadeBy Good) (MadeBy StmtForm) (value_judged s.frame e here) _ (expr_gives mode e b.typed (inl (call_apart (out-Node Name Note e.node) b.fine)) (first_safe e [] b.safe) here off) (λ q h.
       made (stated_form at note (Act-F.Call q.0) (act.Call q.0) (act.rolls-Call q.0) (call_form at note q.0 h.is)) h.off)
+
+  returned_valued : (e : Option NotedExpr) → is_result s.result e ≡ true → IfSome e IsValued
+  returned_valued None h = tt
+  returned_valued (Some e) h = converted s.result e h
 
   return_form : (at : Pos) (note : Note) (e : Option NotedExpr) → ((f : NotedExpr) → e ≡ Some f → Good f) → ActForm (Act-F.Return e) at note
   return_form at note e h k rest behind = (returned_formed globals s g knows callees s.result e h k, behind)
@@ -384,7 +408,7 @@ module _ (globals : Globals) (s : Setting) (g : Program) (knows : Knows globals 
   return_gives : (e : Option NotedExpr) (mode : Mode) (looped : Bool) → BeforeAct (Act-F.Return e) mode looped → (at : Pos) (note : Note) (here : Here) → here.counting ≡ false
       → Gives (MadeBy StmtForm) (return_judged s.frame s.head at note e here)
   return_gives e mode looped b at note here off =
-      bound (MadeBy GoodIf) (MadeBy StmtForm) (maybe_judged s.frame e here) _ (maybe_gives mode e b.typed.0 b.safe here off) (λ q h.
+      bound (MadeBy GoodIf) (MadeBy StmtForm) (maybe_judged s.frame e here) _ (maybe_gives mode e b.typed.0 (returned_valued e b.typed.1) b.safe here off) (λ q h.
       kept (MadeBy StmtForm) (not (is_returned s.frame s.head q.0 here.next q.1)) not_contained at (Ok (stated at note (act.Return q.0), gone s.frame q.1))
       (made (stated_form at note (Act-F.Return q.0) (act.Return q.0) (act.rolls-Return q.0) (return_form at note q.0 h.is)) h.off))
 
@@ -394,7 +418,7 @@ module _ (globals : Globals) (s : Setting) (g : Program) (knows : Knows globals 
   check_gives : (e : NotedExpr) (mode : Mode) (looped : Bool) → BeforeAct (Act-F.Check e) mode looped → (at : Pos) (note : Note) (here : Here) → here.counting ≡ false
       → Gives (MadeBy StmtForm) (check_judged s.frame at note e here)
   check_gives e mode looped b at note here off =
-      bound (MadeBy Good) (MadeBy StmtForm) (value_judged s.frame e here) _ (expr_gives mode e b.typed.0 (first_safe e [] b.safe) here off) (λ q h.
+      bound (MadeBy Good) (MadeBy StmtForm) (value_judged s.frame e here) _ (expr_gives mode e b.typed.0 (inr b.typed.1) (first_safe e [] b.safe) here off) (λ q h.
       made (stated_form at note (Act-F.Check q.0) (act.Check q.0) (act.rolls-Check q.0) (check_form at note q.0 h.is)) h.off)
 
   -- ---- statements that there may be, as before they are judged
@@ -415,35 +439,52 @@ module _ (globals : Globals) (s : Setting) (g : Program) (knows : Knows globals 
   declared_if None = []
   declared_if (Some k) = (path k.0).declared
 
-  part_gives : (o : Option KeptStmt) (mode : Mode) (looped : Bool) → FitsIf o mode looped → AreSafe (exprs_if o) → AreLocals (declared_if o) → (here : Here) → here.counting ≡ false
+  abbrev fine_if : Option KeptStmt → Bool
+  fine_if None = true
+  fine_if (Some k) = (given_stmt k.0).fine
+
+  abbrev given_if : Option KeptStmt → Option Given
+  given_if None = None
+  given_if (Some k) = Some (given_stmt k.0)
+
+  begins_fine : (o : Option KeptStmt) → begins (given_if o) ≡ true → fine_if o ≡ true
+  begins_fine None h = refl
+  begins_fine (Some k) h = (and_cases (given_stmt k.0).fine _ h).0
+
+  steps_fine : (o : Option KeptStmt) → steps (given_if o) ≡ true → fine_if o ≡ true
+  steps_fine None h = refl
+  steps_fine (Some k) h = (and_cases (given_stmt k.0).fine _ h).0
+
+  part_gives : (o : Option KeptStmt) (mode : Mode) (looped : Bool) → FitsIf o mode looped → AreSafe (exprs_if o) → AreLocals (declared_if o) → fine_if o ≡ true → (here : Here) → here.counting ≡ false
       → Gives (MadeBy PartForm) (part_judged s.frame s.head (path_if o) here)
-  part_gives None mode looped typed safe locals here off = made (λ k rest behind. behind) off
-  part_gives (Some k) mode looped typed safe locals here off =
-      bound (MadeBy StmtForm) (MadeBy PartForm) _ _ (k.1.whole mode looped (record { typed = typed; safe = safe; locals = locals }) here off) (λ q h. made h.is h.off)
+  part_gives None mode looped typed safe locals fine here off = made (λ k rest behind. behind) off
+  part_gives (Some k) mode looped typed safe locals fine here off =
+      bound (MadeBy StmtForm) (MadeBy PartForm) _ _ (k.1.whole mode looped (record { typed = typed; safe = safe; locals = locals; fine = fine }) here off) (λ q h. made h.is h.off)
 
   -- ---- branches and loops
 
   if_gives : (e : NotedExpr) (k : KeptStmt) (m : Option KeptStmt) (mode : Mode) (looped : Bool) → IsCondition globals vs mode e × Fits k.0 mode looped × FitsIf m mode looped
-      → AreSafe (((e ∷ []) ++ exprs_in k.0) ++ exprs_if m) → AreLocals ((path k.0).declared ++ declared_if m) → (at : Pos) (note : Note) (here : Here) → here.counting ≡ false
+      → AreSafe (((e ∷ []) ++ exprs_in k.0) ++ exprs_if m) → AreLocals ((path k.0).declared ++ declared_if m) → ((callless_expr e && (given_stmt k.0).fine) && fine_if m) ≡ true → (at : Pos) (note : Note) (here : Here) → here.counting ≡ false
       → Gives (MadeBy StmtForm) (if_judged s.frame s.head at note e (path k.0) (path_if m) here)
-  if_gives e k m mode looped typed safe locals at note here off =
+  if_gives e k m mode looped typed safe locals fine at note here off =
+      let f = and_cases (callless_expr e && (given_stmt k.0).fine) (fine_if m) fine in
       let w = front ((e ∷ []) ++ exprs_in k.0) (exprs_if m) safe in
-      let first : Before k.0 mode looped = record { typed = typed.1; safe = back (e ∷ []) (exprs_in k.0) w; locals = front_locals (path k.0).declared (declared_if m) locals } in
-      bound (MadeBy BranchGood) (MadeBy StmtForm) (branched s.frame false e here) _ (branch_gives mode false e typed.0.0 (first_safe e (exprs_in k.0) w) here off) (λ q h.
+      let first : Before k.0 mode looped = record { typed = typed.1; safe = back (e ∷ []) (exprs_in k.0) w; locals = front_locals (path k.0).declared (declared_if m) locals; fine = (and_cases (callless_expr e) (given_stmt k.0).fine f.0).1 } in
+      bound (MadeBy BranchGood) (MadeBy StmtForm) (branched s.frame false e here) _ (branch_gives mode false e typed.0 (first_safe e (exprs_in k.0) w) here off) (λ q h.
       bound (MadeBy StmtForm) (MadeBy StmtForm) ((path k.0).judged s.frame s.head q.1) _ (k.1.whole mode looped first q.1 h.off) (λ r i.
       bound (MadeBy PartForm) (MadeBy StmtForm) (part_judged s.frame s.head (path_if m) (record r.1 { at = q.0.other })) _
-      (part_gives m mode looped typed.2 (back ((e ∷ []) ++ exprs_in k.0) (exprs_if m) safe) (back_locals (path k.0).declared (declared_if m) locals) (record r.1 { at = q.0.other }) i.off) (λ v j.
+      (part_gives m mode looped typed.2 (back ((e ∷ []) ++ exprs_in k.0) (exprs_if m) safe) (back_locals (path k.0).declared (declared_if m) locals) f.1 (record r.1 { at = q.0.other }) i.off) (λ v j.
       made (stated_form at note (Act-F.If q.0.condition r.0 v.0) (act.If q.0.condition r.0 v.0) (act.rolls-If q.0.condition r.0 v.0) (if_form at note q.0.condition r.0 v.0 h.is i.is j.is)) j.off)))
 
   while_form : (at : Pos) (note : Note) (e : NotedExpr) (q : NotedStmt) → Good e → StmtForm q → ActForm (Act-F.While e q) at note
   while_form at note e q h i k rest behind = (value_formed globals s g knows callees e h k, i _ End tt, tt, behind)
 
   while_gives : (e : NotedExpr) (k : KeptStmt) (mode : Mode) → IsCondition globals vs mode e × Fits k.0 mode true → AreSafe ((e ∷ []) ++ exprs_in k.0) → AreLocals (path k.0).declared
-      → (at : Pos) (note : Note) (here : Here) → here.counting ≡ false → Gives (MadeBy StmtForm) (while_judged s.frame s.head at note e (path k.0) here)
-  while_gives e k mode typed safe locals at note here off =
-      let body : Before k.0 mode true = record { typed = typed.1; safe = back (e ∷ []) (exprs_in k.0) safe; locals = locals } in
+      → (callless_expr e && (given_stmt k.0).fine) ≡ true → (at : Pos) (note : Note) (here : Here) → here.counting ≡ false → Gives (MadeBy StmtForm) (while_judged s.frame s.head at note e (path k.0) here)
+  while_gives e k mode typed safe locals fine at note here off =
+      let body : Before k.0 mode true = record { typed = typed.1; safe = back (e ∷ []) (exprs_in k.0) safe; locals = locals; fine = (and_cases (callless_expr e) (given_stmt k.0).fine fine).1 } in
       let begin = loop_head s.frame (path k.0).assigned here in
-      bound (MadeBy BranchGood) (MadeBy StmtForm) (branched s.frame (path k.0).breaks e begin) _ (branch_gives mode (path k.0).breaks e typed.0.0 (first_safe e (exprs_in k.0) safe) begin off) (λ q h.
+      bound (MadeBy BranchGood) (MadeBy StmtForm) (branched s.frame (path k.0).breaks e begin) _ (branch_gives mode (path k.0).breaks e typed.0 (first_safe e (exprs_in k.0) safe) begin off) (λ q h.
       bound (MadeBy StmtForm) (MadeBy StmtForm) ((path k.0).judged s.frame s.head q.1) _ (k.1.whole mode true body q.1 h.off) (λ r i.
       made (stated_form at note (Act-F.While q.0.condition r.0) (act.While q.0.condition r.0) (act.rolls-While q.0.condition r.0) (while_form at note q.0.condition r.0 h.is i.is)) i.off))
 
@@ -455,20 +496,23 @@ module _ (globals : Globals) (s : Setting) (g : Program) (knows : Knows globals 
     value_declared = inside_if listed (λ (f : NotedExpr). []) e
 
     for_gives : FitsIf l mode looped × IfSome e (IsCondition globals vs mode) × FitsIf m mode looped × Fits k.0 mode true → AreSafe (exprs_if l ++ (value_exprs ++ (exprs_in k.0 ++ exprs_if m)))
-        → AreLocals (declared_if l ++ (value_declared ++ ((path k.0).declared ++ declared_if m))) → (at : Pos) (note : Note) (here : Here) → here.counting ≡ false
+        → AreLocals (declared_if l ++ (value_declared ++ ((path k.0).declared ++ declared_if m)))
+        → (begins (given_if l) && (callless_value e && (steps (given_if m) && (given_stmt k.0).fine))) ≡ true → (at : Pos) (note : Note) (here : Here) → here.counting ≡ false
         → Gives (MadeBy StmtForm) (for_judged s.frame s.head at note (path_if l) e (path_if m) (path k.0) here)
-    for_gives typed safe locals at note here off =
+    for_gives typed safe locals fine at note here off =
+        let begun = and_cases (begins (given_if l)) _ fine in
+        let going = and_cases (steps (given_if m)) (given_stmt k.0).fine (and_cases (callless_value e) _ begun.1).1 in
         let later = back (exprs_if l) (value_exprs ++ (exprs_in k.0 ++ exprs_if m)) safe in
         let last = back value_exprs (exprs_in k.0 ++ exprs_if m) later in
         let known = back_locals value_declared ((path k.0).declared ++ declared_if m) (back_locals (declared_if l) (value_declared ++ ((path k.0).declared ++ declared_if m)) locals) in
-        let body : Before k.0 mode true = record { typed = typed.3; safe = front (exprs_in k.0) (exprs_if m) last; locals = front_locals (path k.0).declared (declared_if m) known } in
+        let body : Before k.0 mode true = record { typed = typed.3; safe = front (exprs_in k.0) (exprs_if m) last; locals = front_locals (path k.0).declared (declared_if m) known; fine = going.1 } in
         bound (MadeBy PartForm) (MadeBy StmtForm) (part_judged s.frame s.head (path_if l) here) _
-        (part_gives l mode looped typed.0 (front (exprs_if l) (value_exprs ++ (exprs_in k.0 ++ exprs_if m)) safe) (front_locals (declared_if l) (value_declared ++ ((path k.0).declared ++ declared_if m)) locals) here off) (λ q h.
+        (part_gives l mode looped typed.0 (front (exprs_if l) (value_exprs ++ (exprs_in k.0 ++ exprs_if m)) safe) (front_locals (declared_if l) (value_declared ++ ((path k.0).declared ++ declared_if m)) locals) (begins_fine l begun.0) here off) (λ q h.
         bound (MadeBy StartGood) (MadeBy StmtForm) _ _
-        (start_gives mode (path k.0).breaks (path k.0).continues e (condition_typed mode e typed.1) (front value_exprs (exprs_in k.0 ++ exprs_if m) later) _ h.off) (λ r i.
+        (start_gives mode (path k.0).breaks (path k.0).continues e typed.1 (front value_exprs (exprs_in k.0 ++ exprs_if m) later) _ h.off) (λ r i.
         bound (MadeBy StmtForm) (MadeBy StmtForm) ((path k.0).judged s.frame s.head r.1) _ (k.1.whole mode true body r.1 i.off) (λ v j.
         bound (MadeBy PartForm) (MadeBy StmtForm) (part_judged s.frame s.head (path_if m) (to_step r.0.step v.1)) _
-        (part_gives m mode looped typed.2 (back (exprs_in k.0) (exprs_if m) last) (back_locals (path k.0).declared (declared_if m) known) (to_step r.0.step v.1) (step_off r.0.step v.1 j.off)) (λ w o.
+        (part_gives m mode looped typed.2 (back (exprs_in k.0) (exprs_if m) last) (back_locals (path k.0).declared (declared_if m) known) (steps_fine m going.0) (to_step r.0.step v.1) (step_off r.0.step v.1 j.off)) (λ w o.
         made (stated_form at note (Act-F.For q.0 r.0.condition w.0 v.0) (act.For q.0 r.0.condition w.0 v.0) (act.rolls-For q.0 r.0.condition w.0 v.0)
         (for_form at note q.0 r.0.condition w.0 v.0 h.is i.is o.is j.is)) o.off))))
 
@@ -480,7 +524,7 @@ module _ (globals : Globals) (s : Setting) (g : Program) (knows : Knows globals 
   act_step : (y : Act-F Name Note KeptAct KeptStmt) (mode : Mode) (looped : Bool) → BeforeAct (inner_act y) mode looped → (at : Pos) (note : Note) (here : Here) → here.counting ≡ false
       → Gives (MadeBy StmtForm) ((act_path (act_inside (inner_act y))).judged s.frame s.head at note here)
   act_step (Act-F.Block m ks) mode looped b at note here off =
-      bound (MadeBy ListForm) (MadeBy StmtForm) _ _ (all_give ks (unwrap_or m mode) looped (record { typed = b.typed; safe = b.safe; locals = b.locals }) here off) (λ q h.
+      bound (MadeBy ListForm) (MadeBy StmtForm) _ _ (all_give ks (unwrap_or m mode) looped (record { typed = b.typed; safe = b.safe; locals = b.locals; fine = b.fine }) here off) (λ q h.
       made (stated_form at note (Act-F.Block m q.0) (act.Block m q.0) (act.rolls-Block m q.0) (block_form at note m q.0 h.is)) h.off)
   act_step Act-F.Empty mode looped b at note here off = made (stated_form at note Act-F.Empty act.Empty act.rolls-Empty (λ k rest behind. behind)) off
   act_step (Act-F.Local d) mode looped b at note here off = local_gives d mode looped b at note here off
@@ -488,18 +532,19 @@ module _ (globals : Globals) (s : Setting) (g : Program) (knows : Knows globals 
       bound (MadeBy BothGood) (MadeBy StmtForm) _ _ (sides_give e f mode looped b at note here off) (λ q h.
       bound (λ (i : Here). i.counting ≡ false) (MadeBy StmtForm) _ _ (stores_off (q.0 ∷ []) here.next q.1 h.off) (λ i o. made (assign_form q.0 h.is) o))
   act_step (Act-F.Call e) mode looped b at note here off = call_gives e mode looped b at note here off
-  act_step (Act-F.If e k None) mode looped b at note here off = if_gives e k None mode looped b.typed b.safe b.locals at note here off
-  act_step (Act-F.If e k (Some j)) mode looped b at note here off = if_gives e k (Some j) mode looped b.typed b.safe b.locals at note here off
-  act_step (Act-F.While e k) mode looped b at note here off = while_gives e k mode b.typed b.safe b.locals at note here off
-  act_step (Act-F.For None e None k) mode looped b at note here off = for_gives None e None k mode looped b.typed b.safe b.locals at note here off
-  act_step (Act-F.For None e (Some j) k) mode looped b at note here off = for_gives None e (Some j) k mode looped b.typed b.safe b.locals at note here off
-  act_step (Act-F.For (Some l) e None k) mode looped b at note here off = for_gives (Some l) e None k mode looped b.typed b.safe b.locals at note here off
-  act_step (Act-F.For (Some l) e (Some j) k) mode looped b at note here off = for_gives (Some l) e (Some j) k mode looped b.typed b.safe b.locals at note here off
+  act_step (Act-F.If e k None) mode looped b at note here off = if_gives e k None mode looped b.typed b.safe b.locals b.fine at note here off
+  act_step (Act-F.If e k (Some j)) mode looped b at note here off = if_gives e k (Some j) mode looped b.typed b.safe b.locals b.fine at note here off
+  act_step (Act-F.While e k) mode looped b at note here off = while_gives e k mode b.typed b.safe b.locals b.fine at note here off
+  act_step (Act-F.For None e None k) mode looped b at note here off = for_gives None e None k mode looped b.typed b.safe b.locals b.fine at note here off
+  act_step (Act-F.For None e (Some j) k) mode looped b at note here off = for_gives None e (Some j) k mode looped b.typed b.safe b.locals b.fine at note here off
+  act_step (Act-F.For (Some l) e None k) mode looped b at note here off = for_gives (Some l) e None k mode looped b.typed b.safe b.locals b.fine at note here off
+  act_step (Act-F.For (Some l) e (Some j) k) mode looped b at note here off = for_gives (Some l) e (Some j) k mode looped b.typed b.safe b.locals b.fine at note here off
   act_step (Act-F.Return e) mode looped b at note here off = return_gives e mode looped b at note here off
   act_step Act-F.Break mode looped b at note here off = made (stated_form at note Act-F.Break act.Break act.rolls-Break (λ k rest behind. behind)) off
   act_step Act-F.Continue mode looped b at note here off = made (stated_form at note Act-F.Continue act.Continue act.rolls-Continue (λ k rest behind. behind)) off
   act_step (Act-F.Check e) mode looped b at note here off = check_gives e mode looped b at note here off
-  act_step (Act-F.Bundle ks) mode looped b at note here off = bundle_gives ks mode looped (record { typed = b.typed; safe = b.safe; locals = b.locals }) at note here off
+  act_step (Act-F.Bundle ks) mode looped b at note here off = bundle_gives ks mode looped
+      (record { typed = b.typed; safe = b.safe; locals = b.locals; fine = fine_parts (map given_stmt (firsts ks)) (and_cases (nat_le 2 (length (map given_stmt (firsts ks)))) _ b.fine).1 }) at note here off
 
   part_step : (y : Act-F Name Note KeptAct KeptStmt) (mode : Mode) (looped : Bool) → BeforeAct (inner_act y) mode looped → (bundle at : Pos) (note : Note) (here : Here) → here.counting ≡ false
       → Gives (MadeBy AssignForm) ((act_path (act_inside (inner_act y))).part s.frame bundle at note here)
@@ -523,6 +568,7 @@ module _ (globals : Globals) (s : Setting) (g : Program) (knows : Knows globals 
     typed = ((stmt_by_parts globals vs s.result st mode looped).0 b.typed).row;
     safe = subst AreSafe (exprs_are st) b.safe;
     locals = subst AreLocals (declared_are st (out-Act Name Note st.body) refl) b.locals;
+    fine = sym (ap (λ (g : Given). g.fine) (given_are st)) ∙ b.fine;
   }
 
   stmt_is : (st : NotedStmt) → AnyAct st.body → StmtHolds st

@@ -1,5 +1,5 @@
 -- What assignments, calls and declarations of a judged text become is well formed.
-use Rattle.std.proofs.Common.{◌≡◌, ◌⊎◌, ◌∙◌, inl, inr, refl, sym, ap, subst, ℕ, suc, ◌+◌, Bool, true, false, List, [], ◌∷◌, length}
+use Rattle.std.proofs.Common.{◌≡◌, ◌⊎◌, ◌∙◌, inl, inr, refl, sym, ap, subst, arith, ℕ, suc, ◌+◌, Bool, true, false, List, [], ◌∷◌, length}
 use Rattle.std.specs.Prelude.{◌||◌, Option, Some, None, slice_get}
 use Rattle.ckc_base.specs.declared.arithmetic.Mode.{Mode}
 use Rattle.ckc_base.specs.declared.places.Pos.{Pos}
@@ -9,7 +9,7 @@ use Rattle.ckc_syntax.specs.declared.tree.Name.TheVariants as name
 use Rattle.ckc_syntax.specs.declared.tree.Init.TheVariants as init
 use Rattle.ckc_syntax.specs.declared.tree.TreeOp.TheVariants as op
 use Rattle.ckc_syntax.specs.declared.tree.Node.{Node-F, out-Node}
-use Rattle.ckc_syntax.specs.declared.tree.Expr.{every_here-Expr}
+use Rattle.ckc_syntax.specs.declared.tree.Expr.{every_here-Expr, fold-roll-Expr}
 use Rattle.ckc_typed.specs.declared.environment.Globals.{Globals}
 use Rattle.ckc_typed.specs.declared.environment.Parameter.{Parameter}
 use Rattle.ckc_typed.specs.declared.environment.Signature.{Signature}
@@ -20,20 +20,24 @@ use Rattle.ckc_typed.specs.Environment.{signature_named}
 use Rattle.ckc_typed.specs.Expressions.{is_object_form, is_placed, is_placed_form}
 use Rattle.ckc_typed.specs.Statements.{is_named, is_variable_form}
 use Rattle.ckc_typed.specs.Trees.{NotedDecl, NotedInit, NotedExpr, NotedLayer, NotedLimits, NotedNode}
-use Rattle.ckc_typed.specs.Types.{type_written}
+use Rattle.ckc_typed.specs.Types.{type_written, is_scalar}
 use Rattle.ckc_typed_welltyped.specs.Expressions.{AnyLimits, AnyNode, HasType, AreArguments}
 use Rattle.ckc_source.specs.declared.stmt.Spot.{Spot}
 use Rattle.ckc_source.specs.Code.{Expr, Code, Program}
-use Rattle.ckc_build_values.specs.Expressions.{expr_elaborated, place_elaborated, literals_of}
+use Rattle.ckc_build_values.specs.Expressions.{Part, NodePart, LimitsPart, limits_parts, node_parts, expr_parts, part_of, expr_elaborated, place_elaborated, literals_of}
+use Rattle.ckc_build_values.specs.Kinds.{width_of}
+use Rattle.ckc_build_values.specs.Names.{address_of}
+use Rattle.ckc_build_forms.specs.ckc_blame_steps.specs.ckc_blame_sound.proofs.Accesses.{scalar_part}
 use Rattle.ckc_build_elaborate.specs.Names.{number_of, params_of}
 use Rattle.ckc_build_elaborate.specs.Steps.{Destination, nowhere, memory, target_form, target_of, kept_form, destination_of, destination_for, right_form, right_of, argument, arguments, first_of, called, assigned_form, assigned, started, returned, condition}
 use Rattle.ckc_build_forms.specs.ckc_blame_steps.specs.ckc_bounds_points.specs.Flow.{State}
 use Rattle.ckc_build_forms.specs.ckc_blame_steps.specs.ckc_blame_sound.specs.Settings.{Setting}
 use Rattle.ckc_build_forms.specs.ckc_blame_steps.specs.ckc_blame_sound.proofs.Every.{EachExpr}
-use Rattle.ckc_source_causes.specs.WellFormed.{HasParams, IsWellFormedExpr, AreWellFormed, IsWellFormedTarget, IsWellFormedRight, IsWellFormedKept, IsWellFormedCode}
-use Rattle.ckc_build_wellformed.proofs.Parts.{different, unlike, converted_formed}
+use Rattle.ckc_source_causes.specs.WellFormed.{HasParams, IsWellFormedCell, IsWellFormedExpr, LiesInObject, AreWellFormed, IsWellFormedTarget, IsWellFormedRight, IsWellFormedKept, IsWellFormedCode}
+use Rattle.ckc_build_wellformed.proofs.Parts.{different, unlike, converted_formed, cell_formed}
 use Rattle.ckc_build_wellformed.proofs.Nodes.{is_there, is_there_form, name_in, call_in}
-use Rattle.ckc_build_wellformed.proofs.Known.{Knows}
+use Rattle.ckc_build_wellformed.proofs.Known.{Knows, IsSingle}
+use Rattle.ckc_build_wellformed.proofs.Scalars.{IsValued}
 use Rattle.ckc_build_wellformed.proofs.Values.{IsPart, Made, AllFormed, PartsFormed}
 
 -- ---- nodes by their names
@@ -81,14 +85,16 @@ module _ (globals : Globals) (s : Setting) (g : Program) (knows : Knows globals 
     pub at : State
     pub part : EachExpr (IsPart globals s g mode knows) before
     pub made : Made globals s g mode knows before at f
+    pub valued : IsValued before
 
   -- one that is assigned to
   pub record Left (f : NotedExpr) : Type 0 where
     pub fine : Fine f
+    pub scalar : is_scalar fine.before.note.ctype ≡ true
     pub target : (is_named globals vs fine.before ≡ true) ⊎ (is_placed fine.before ≡ true)
 
   pub value_formed : (f : NotedExpr) → Fine f → (k : ℕ) → F (expr_elaborated p vs k f)
-  value_formed f h k = (h.made.value k).formed
+  value_formed f h k = (h.made.value k).formed h.valued
 
   row_of : (f : NotedExpr) (h : Fine f) → HasType globals vs h.mode (out-Node Name Note h.before.node) h.before.note.ctype
   row_of f h = (every_here-Expr Name Note AnyLimits AnyNode (IsPart globals s g h.mode knows) h.before h.part).row
@@ -120,25 +126,46 @@ module _ (globals : Globals) (s : Setting) (g : Program) (knows : Knows globals 
       by x a (inl t) = different t
       by x a (inr t) = different t
 
-  memory_formed : (f : NotedExpr) (h : Left f) → is_local_form (out-Node Name Note f.node) ≡ false → (t : CType) (k : ℕ) → IsWellFormedTarget g (memory t (place_elaborated p vs k f))
-  memory_formed f h apart t k =
-      h.fine.made.place (target_there f h (λ j e. no_local (out-Node Name Note f.node) j apart (h.fine.made.same.0 ∙ e))) k
+  type_is : (f : NotedExpr) (h : Fine f) → f.note.ctype ≡ h.before.note.ctype
+  type_is f h =
+      sym (ap (λ (q : Part). q.ctype) (fold-roll-Expr Name Note LimitsPart NodePart Part limits_parts node_parts expr_parts (record { node = f.node; pos = f.pos; note = f.note }))) ∙ h.made.type
+
+  -- a target that is named is no array
+  target_single : (f : NotedExpr) (h : Left f) → IsSingle p (out-Node Name Note h.fine.before.node)
+  target_single f h = by (out-Node Name Note h.fine.before.node) (row_of f h.fine) h.target
+    where
+      by : (x : NotedLayer) → HasType globals vs h.fine.mode x h.fine.before.note.ctype → ((is_variable_form vs x || is_object_form globals x) ≡ true) ⊎ (is_placed_form x ≡ true)
+          → IsSingle p x
+      by (Node-F.Name (name.Static j)) row (inl e) = knows.singles j h.fine.before.note.ctype row e
+      by (Node-F.Name (name.Static j)) row (inr e) = different e
+      by x row t = tt
+
+  memory_formed : (f : NotedExpr) (h : Left f) → is_local_form (out-Node Name Note f.node) ≡ false → (k : ℕ) → IsWellFormedTarget g (memory f.note.ctype (place_elaborated p vs k f))
+  memory_formed f h apart k =
+      let q = h.fine.made.place (target_there f h (λ j e. no_local (out-Node Name Note f.node) j apart (h.fine.made.same.0 ∙ e))) (target_single f h) k in
+      let there = place_elaborated p vs k f in
+      (subst (λ t. IsWellFormedCell g (width_of t) there.access there.pointer) (sym (type_is f h.fine)) (cell_formed g p.layout h.fine.before.note.ctype there q h.scalar), q.pointer, q.index)
 
   pub target_is : (f : NotedExpr) → Left f → (k : ℕ) → IsWellFormedTarget g (target_of p vs k f)
   target_is f h k = by (out-Node Name Note f.node) refl
     where
       by : (x : NotedLayer) → out-Node Name Note f.node ≡ x → IsWellFormedTarget g (target_form f.note.ctype (place_elaborated p vs k f) x)
       by (Node-F.Name (name.Local j)) is = tt
-      by (Node-F.Name n) is = memory_formed f h (ap is_local_form is) f.note.ctype k
-      by x is = memory_formed f h (ap is_local_form is) f.note.ctype k
+      by (Node-F.Name n) is = memory_formed f h (ap is_local_form is) k
+      by x is = memory_formed f h (ap is_local_form is) k
 
-  pub kept_is : (f : NotedExpr) → Fine f → IsWellFormedKept g (kept_form p f.note.ctype (out-Node Name Note f.node))
+  pub kept_is : (f : NotedExpr) → Left f → IsWellFormedKept g (kept_form p f.note.ctype (out-Node Name Note f.node))
   kept_is f h = by (out-Node Name Note f.node) refl
     where
       by : (x : NotedLayer) → out-Node Name Note f.node ≡ x → IsWellFormedKept g (kept_form p f.note.ctype x)
       by (Node-F.Name (name.Static j)) is =
-          let before : out-Node Name Note h.before.node ≡ Node-F.Name (name.Static j) = named_is (out-Node Name Note h.before.node) (name.Static j) (sym h.made.same.0 ∙ ap name_in is) in
-          (knows.statics j h.before.note.ctype (subst (λ z. HasType globals vs h.mode z h.before.note.ctype) before (row_of f h))).there
+          let b = h.fine.before in
+          let before : out-Node Name Note b.node ≡ Node-F.Name (name.Static j) = named_is (out-Node Name Note b.node) (name.Static j) (sym h.fine.made.same.0 ∙ ap name_in is) in
+          let known = knows.statics j b.note.ctype (subst (λ z. HasType globals vs h.fine.mode z b.note.ctype) before (row_of f h.fine)) in
+          let single = subst (IsSingle p) before (target_single f h) in
+          let room = known.room single 0 (width_of b.note.ctype) (scalar_part p.layout b.note.ctype h.scalar) in
+          let at : address_of p j + 0 ≡ address_of p j = omega arith in
+          subst (λ t. LiesInObject g (width_of t) (address_of p j)) (sym (type_is f h.fine)) (subst (LiesInObject g (width_of b.note.ctype)) at room.0)
       by (Node-F.Name n) is = tt
       by x is = tt
 
@@ -150,7 +177,7 @@ module _ (globals : Globals) (s : Setting) (g : Program) (knows : Knows globals 
   nowhere_arrives = record { target = tt; kept = tt }
 
   pub place_arrives : (f : NotedExpr) → Left f → (k : ℕ) → Arrives (destination_of p vs k f)
-  place_arrives f h k = record { target = target_is f h k; kept = kept_is f h.fine }
+  place_arrives f h k = record { target = target_is f h k; kept = kept_is f h }
 
   pub local_arrives : (t : CType) (n : Name) → (m : ℕ) × (n ≡ name.Local m) → Arrives (destination_for p t n)
   local_arrives t n h = subst (λ z. Arrives (destination_for p t z)) (sym h.1) (record { target = tt; kept = tt })

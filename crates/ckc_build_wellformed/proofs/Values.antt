@@ -1,6 +1,6 @@
 -- What an expression becomes by judging means a well formed expression of the program, and a pointer of a checked kind with
 -- a range gives one.
-use Rattle.std.proofs.Common.{◌≡◌, ◌∙◌, refl, sym, ap, subst, ℕ, suc, ◌+◌, Bool, true, false, List, [], ◌∷◌, map, length}
+use Rattle.std.proofs.Common.{◌≡◌, ◌∙◌, inl, inr, refl, sym, ap, subst, arith, ℕ, suc, ◌+◌, Bool, true, false, List, [], ◌∷◌, map, length}
 use Rattle.std.specs.Prelude.{not, ◌&&◌, ◌||◌, if◌then◌else◌, Option, Some, None, Ok, Err}
 use Rattle.std.proofs.lemmas.Bool.{and_parts}
 use Rattle.ckc_base.specs.declared.arithmetic.Mode.{Mode}
@@ -35,7 +35,7 @@ use Rattle.ckc_typed.specs.Expressions.{address_kind, has_address, is_no_array, 
 use Rattle.ckc_typed.specs.Operands.{is_raw_kind, same_element}
 use Rattle.ckc_typed.specs.Raw.{has_raw}
 use Rattle.ckc_typed.specs.Trees.{NotedLimits, NotedNode, NotedExpr, NotedLayer}
-use Rattle.ckc_typed.specs.Types.{type_written, is_pointer, is_char, kind_of, element_of}
+use Rattle.ckc_typed.specs.Types.{type_written, is_integer, is_pointer, is_scalar, is_char, kind_of, element_of}
 use Rattle.ckc_typed_welltyped.specs.Expressions.{AnyLimits, AnyNode, HasType}
 use Rattle.ckc_typed_welltyped.proofs.Nodes.{node_of, node_rolled, node_out, limits_of, limits_rolled}
 use Rattle.ckc_build_forms.specs.ckc_blame_steps.specs.ckc_bounds_points.specs.declared.frame.Frame.{Frame}
@@ -50,6 +50,9 @@ use Rattle.ckc_build_forms.specs.ckc_blame_steps.specs.ckc_bounds_views.specs.Ju
 use Rattle.ckc_build_forms.specs.ckc_blame_steps.specs.ckc_bounds_views.specs.Ranges.{pointer_range, range_of_name, range_of_member, range_of_operand, range_by_type, own_numbers}
 use Rattle.ckc_build_forms.specs.ckc_blame_steps.specs.ckc_bounds_views.specs.Views.{limits_view, node_view, expr_view, view_of_limits, view_of_node, view}
 use Rattle.ckc_source.specs.declared.expr.Count.{Count}
+use Rattle.ckc_source.specs.declared.expr.Integer.TheVariants as integer
+use Rattle.ckc_source.specs.declared.expr.Through.TheVariants as through
+use Rattle.ckc_source.specs.Eval.{place_in}
 use Rattle.ckc_source.specs.Code.{Expr, Number, Array, Choice, Tested, Trusted, Program}
 use Rattle.ckc_build_values.specs.Kinds.{integer_of, count_of_kind, size_behind, pointee_of, tag_of, through_kind}
 use Rattle.ckc_build_values.specs.Members.{count_of_member}
@@ -61,10 +64,14 @@ use Rattle.ckc_build_forms.specs.ckc_blame_steps.specs.ckc_blame_sound.specs.Set
 use Rattle.ckc_build_forms.specs.ckc_blame_steps.specs.ckc_blame_sound.proofs.Every.{LimitsLayer, ExprLayer, EachLimits, EachNode, EachExpr, LimitsParts, NodeParts, AllEach, limits_hold, node_hold, inside}
 use Rattle.ckc_build_forms.specs.ckc_blame_steps.specs.ckc_blame_sound.proofs.Judging.{Gives, bound}
 use Rattle.ckc_source_causes.specs.Ranges.{GivesRange}
-use Rattle.ckc_source_causes.specs.WellFormed.{IsWellFormedAccess, IsWellFormedExpr}
+use Rattle.ckc_source_causes.specs.WellFormed.{HasRoomForCount, IsWellFormedAccess, IsWellFormedExpr, LiesInObject}
 use Rattle.ckc_build_wellformed.proofs.Nodes.{no_any, is_there_form, is_there, is_plain_form, is_plain, name_in, call_in}
-use Rattle.ckc_build_wellformed.proofs.Parts.{different, unlike, pointer_kind, size_kind, unary_kind, sum_is, difference_is, index_given, index_pointer, other_kind, PlaceFormed, cast_formed, unary_formed, operands_formed, elements_formed}
-use Rattle.ckc_build_wellformed.proofs.Known.{Knows, KnowsMember, KnowsStatic, chosen, not_chosen, none_is, some_same, no_fault, counted_there, no_raw_kind, zero, number_kind, checked_pointer, if_true, count_missing, one_counts, target_pointer, if_first, if_second, choice_kind, cast_kind}
+use Rattle.ckc_blame_pointers.proofs.Scalars.{integer_scalar, pointer_scalar, index_scalar, same_scalar, binary_scalar, choice_scalar, cast_scalar}
+use Rattle.ckc_build_forms.proofs.StatementParts.{if_kept}
+use Rattle.ckc_build_wellformed.proofs.Parts.{different, unlike, kind_fixed, pointer_kind, size_kind, unary_kind, sum_is, difference_is, index_given, index_pointer, other_kind, IsFixed, PlaceFormed, read_formed, element_formed, member_formed, fixed_room, counted_room, cast_formed, unary_formed, operands_formed, elements_formed}
+use Rattle.ckc_build_wellformed.proofs.Scalars.{IsValue, IsValued, AreValued, arguments_valued, arrow_scalar, null_scalar, plain_or_same, struct_bare, tested, there_scalar, unary_scalar}
+use Rattle.ckc_build_wellformed.proofs.Structures.{dot_struct}
+use Rattle.ckc_build_wellformed.proofs.Known.{Knows, KnowsMember, KnowsStatic, IsSingle, behind, noted_type, struct_single, object_formed, local_formed, local_gives, address_there, chosen, not_chosen, none_is, some_same, no_fault, counted_there, no_raw_kind, zero, number_kind, checked_pointer, if_true, count_missing, one_counts, target_pointer, if_first, if_second, choice_kind, cast_kind}
 
 module _ (globals : Globals) (s : Setting) (g : Program) (mode : Mode) (knows : Knows globals s g) where
   abbrev p : Typed
@@ -79,18 +86,18 @@ module _ (globals : Globals) (s : Setting) (g : Program) (mode : Mode) (knows : 
   abbrev F : Expr → Type 0
   F = IsWellFormedExpr g
 
-  abbrev Q : Place → Type 0
-  Q = PlaceFormed g
+  abbrev Q : CType → Place → Type 0
+  Q = PlaceFormed g p.layout
 
   -- what is known of each expression before it is judged
   pub record IsPart (x : ExprLayer) : Type 0 where
     pub row : HasType globals vs mode (out-Node Name Note x.node) x.note.ctype
     pub safe : mode ≡ Checked → has_raw x.note.ctype ≡ false
 
-  -- The value of an expression of a type whose range is one of these: it is well formed, and gives a range if it is a
-  -- checked pointer with a range, or a `_Ptr`.
-  pub record Holds (t : CType) (ranges : ℕ → ℕ → Range) (v : Expr) : Type 0 where
-    pub formed : F v
+  -- The value of an expression of a type whose range is one of these: it is well formed where it is asked for, and gives a
+  -- range if it is a checked pointer with a range, or a `_Ptr`.
+  pub record Holds (Asked : Type 0) (t : CType) (ranges : ℕ → ℕ → Range) (v : Expr) : Type 0 where
+    pub formed : Asked → F v
     pub ranged : is_checked_kind (kind_of t) ≡ true → (first fresh : ℕ) → is_missing (ranges first fresh) ≡ false → GivesRange v
     pub single : kind_of t ≡ Some kind.One → GivesRange v
 
@@ -116,9 +123,9 @@ module _ (globals : Globals) (s : Setting) (g : Program) (mode : Mode) (knows : 
   -- what an expression becomes, by what is said of it
   pub record MadeBy (w : View) (e : NotedExpr) (at : State) (f : NotedExpr) : Type 0 where
     pub type : (part_of f).ctype ≡ e.note.ctype
-    pub value : (k : ℕ) → Holds e.note.ctype (λ first fresh. w.range first fresh at) ((part_of f).value p vs k)
+    pub value : (k : ℕ) → Holds (IsValued e) e.note.ctype (λ first fresh. w.range first fresh at) ((part_of f).value p vs k)
     pub plain : is_plain e ≡ true → (k : ℕ) → GivesRange ((part_of f).value p vs k)
-    pub place : is_there e ≡ true → (k : ℕ) → Q ((part_of f).place p vs k)
+    pub place : is_there e ≡ true → IsSingle p (out-Node Name Note e.node) → (k : ℕ) → Q e.note.ctype ((part_of f).place p vs k)
     pub same : IsSame (out-Node Name Note e.node) (out-Node Name Note f.node)
     pub parts : PartsFormed (out-Node Name Note f.node)
 
@@ -140,9 +147,9 @@ module _ (globals : Globals) (s : Setting) (g : Program) (mode : Mode) (knows : 
   -- what a node becomes, by what is said of it
   record Claims (w : NodeView) (x : NotedLayer) (t : CType) (fresh : ℕ) (at : State) (q : NodePart) : Type 0 where
     pub value : (a : Note) (pos : Pos) → Noted t (pointer_range t w 0 fresh at) a → w.fault pos fresh at ≡ None → (k : ℕ)
-        → Holds t (λ first next. pointer_range t w first next at) (q.value a pos p vs k)
+        → Holds (IsValue x t) t (λ first next. pointer_range t w first next at) (q.value a pos p vs k)
     pub plain : is_plain_form x ≡ true → (a : Note) (pos : Pos) (k : ℕ) → GivesRange (q.value a pos p vs k)
-    pub place : is_there_form x ≡ true → (a : Note) (pos : Pos) → a.ctype ≡ t → w.fault pos fresh at ≡ None → (k : ℕ) → Q (q.place a pos p vs k)
+    pub place : is_there_form x ≡ true → IsSingle p x → (a : Note) (pos : Pos) → a.ctype ≡ t → w.fault pos fresh at ≡ None → (k : ℕ) → Q t (q.place a pos p vs k)
     pub address : is_there_form x ≡ true → (a : Note) (pos : Pos) → a.ctype ≡ t → w.operand_fault pos fresh at ≡ None → (k : ℕ)
         → Reached (λ own first next. w.address own first next at) (q.address a pos p vs k)
 
@@ -222,33 +229,36 @@ module _ (globals : Globals) (s : Setting) (g : Program) (mode : Mode) (knows : 
   -- ---- values
 
   -- of what is no checked pointer
-  unchecked : (t : CType) (r : ℕ → ℕ → Range) (v : Expr) → F v → is_checked_kind (kind_of t) ≡ false → Holds t r v
+  unchecked : {V : Type 0} (t : CType) (r : ℕ → ℕ → Range) (v : Expr) → (V → F v) → is_checked_kind (kind_of t) ≡ false → Holds V t r v
   unchecked t r v h off = record {
     formed = h;
     ranged = λ c first fresh m. unlike (sym c ∙ off);
     single = λ is. unlike (sym (ap is_checked_kind is) ∙ off);
   }
 
-  no_kind : (t : CType) (r : ℕ → ℕ → Range) (v : Expr) → F v → kind_of t ≡ None → Holds t r v
+  no_kind : {V : Type 0} (t : CType) (r : ℕ → ℕ → Range) (v : Expr) → (V → F v) → kind_of t ≡ None → Holds V t r v
   no_kind t r v h off = unchecked t r v h (ap is_checked_kind off)
 
   -- of what gives a range in any case
-  always : (t : CType) (r : ℕ → ℕ → Range) (v : Expr) → F v → GivesRange v → Holds t r v
+  always : {V : Type 0} (t : CType) (r : ℕ → ℕ → Range) (v : Expr) → (V → F v) → GivesRange v → Holds V t r v
   always t r v h give = record { formed = h; ranged = λ c first fresh m. give; single = λ is. give }
 
   -- of what is read with a number of elements, if it is known
-  read_holds : (t u : CType) (r : ℕ → ℕ → Range) (c : Option Count) (q : Place) → Q q → (is_checked_kind (kind_of t) ≡ true → c ≡ None → (first fresh : ℕ) → is_missing (r first fresh) ≡ true)
-      → (kind_of t ≡ Some kind.One → c ≡ None → ⊥) → Holds t r (read_at p.layout u c q)
-  read_holds t u r (Some c) q h missing single = always t r (read_at p.layout u (Some c) q) h tt
-  read_holds t u r None q h missing single = record {
-    formed = h;
+  read_holds : {V : Type 0} (t : CType) (r : ℕ → ℕ → Range) (c : Option Count) (q : Place) → Q t q → (V → is_scalar t ≡ true)
+      → ((n : Count) → c ≡ Some n → (is_pointer t ≡ true) × HasRoomForCount g q.access.through n q.pointer)
+      → (is_checked_kind (kind_of t) ≡ true → c ≡ None → (first fresh : ℕ) → is_missing (r first fresh) ≡ true) → (kind_of t ≡ Some kind.One → c ≡ None → ⊥) → Holds V t r (read_at p.layout t c q)
+  read_holds t r (Some c) q h scalar counts missing single = always t r (read_at p.layout t (Some c) q) (λ v. read_formed g p.layout t (Some c) q h (scalar v) counts) tt
+  read_holds t r None q h scalar counts missing single = record {
+    formed = λ v. read_formed g p.layout t None q h (scalar v) counts;
     ranged = λ c first fresh m. unlike (sym (missing c refl first fresh) ∙ m);
     single = λ is. absurd (single is refl);
   }
 
-  behind : (b : Bool) (x : Range) → is_missing x ≡ true → is_missing (if b then x else range.Missing) ≡ true
-  behind true x h = h
-  behind false x h = refl
+  row_of : (e : NotedExpr) → EachExpr IsPart e → HasType globals vs mode (out-Node Name Note e.node) e.note.ctype
+  row_of e w = (every_here-Expr Name Note AnyLimits AnyNode IsPart e w).row
+
+  null_of : (e : NotedExpr) → EachExpr IsPart e → is_null e ≡ true → is_scalar e.note.ctype ≡ true
+  null_of e w h = null_scalar globals vs mode (out-Node Name Note e.node) e.note.ctype (row_of e w) h
 
   -- ---- accesses
 
@@ -275,23 +285,11 @@ module _ (globals : Globals) (s : Setting) (g : Program) (mode : Mode) (knows : 
 
   -- what is tested gives a range
   tested_by : (e f : NotedExpr) (pos : Pos) (fresh : ℕ) (at : State) (k : ℕ) (t : CType) → Made e at f → access_fault (view frame e) pos fresh at ≡ None → is_tested t e ≡ true → GivesRange ((part_of f).value p vs k)
-  tested_by e f pos fresh at k t h fine row =
-      by (is_null e) refl (is_string e) refl (is_allocation e) refl (and_parts (is_pointer t) (pointer_takes kind_is_tested t e) row).1
+  tested_by e f pos fresh at k t h fine row = elim (plain_or_same kind_is_tested t e (and_parts (is_pointer t) (pointer_takes kind_is_tested t e) row).1) [
+    | inl plain ↦ h.plain plain k
+    | inr same ↦ pointer (kind_of e.note.ctype) (kind_of t) refl (and_parts (same_element t e.note.ctype) (kinds_allow kind_is_tested (kind_of e.note.ctype) (kind_of t)) same).1
+  ]
     where
-      left : (a b c : Bool) → a ≡ true → (a || (b || c)) ≡ true
-      left true b c e = refl
-      left false b c e = different e
-
-      middle : (a b c : Bool) → b ≡ true → (a || (b || c)) ≡ true
-      middle true b c e = refl
-      middle false true c e = refl
-      middle false false c e = different e
-
-      right : (a b c : Bool) → c ≡ true → (a || (b || c)) ≡ true
-      right true b c e = refl
-      right false true c e = refl
-      right false false c e = e
-
       pointer : (c d : Option Kind) → kind_of e.note.ctype ≡ c → kinds_allow kind_is_tested c d ≡ true → GivesRange ((part_of f).value p vs k)
       pointer (Some kind.Raw) (Some j) is q = different q
       pointer (Some kind.One) (Some j) is q = (h.value k).single is
@@ -300,13 +298,6 @@ module _ (globals : Globals) (s : Setting) (g : Program) (mode : Mode) (knows : 
       pointer None d is q = different q
       pointer (Some c) None is q = different q
 
-      by : (n : Bool) → is_null e ≡ n → (m : Bool) → is_string e ≡ m → (a : Bool) → is_allocation e ≡ a
-          → (n || ((m && (is_terminated_kind (kind_of t) && is_char (element_of t))) || ((a && same_element t e.note.ctype) || takes_pointer kind_is_tested t e))) ≡ true → GivesRange ((part_of f).value p vs k)
-      by true n m c a d q = h.plain (left (is_null e) (is_string e) (is_allocation e) n) k
-      by false n true c a d q = h.plain (middle (is_null e) (is_string e) (is_allocation e) c) k
-      by false n false c true d q = h.plain (right (is_null e) (is_string e) (is_allocation e) d) k
-      by false n false c false d q = pointer (kind_of e.note.ctype) (kind_of t) refl (and_parts (same_element t e.note.ctype) _ q).1
-
   -- ---- what is plain
 
   abbrev R : NotedLayer → CType → State → ℕ → ℕ → Range
@@ -314,47 +305,39 @@ module _ (globals : Globals) (s : Setting) (g : Program) (mode : Mode) (knows : 
 
   abbrev Kept : NotedLayer → CType → ℕ → State → NodePart → Type 0
   Kept x t fresh at q =
-      (a : Note) (pos : Pos) → Noted t (pointer_range t (V x) 0 fresh at) a → (V x).fault pos fresh at ≡ None → (k : ℕ) → Holds t (R x t at) (q.value a pos p vs k)
+      (a : Note) (pos : Pos) → Noted t (pointer_range t (V x) 0 fresh at) a → (V x).fault pos fresh at ≡ None → (k : ℕ) → Holds (IsValue x t) t (R x t at) (q.value a pos p vs k)
 
   -- a node without a place
   only : (x y : NotedLayer) (t : CType) (fresh : ℕ) (at : State) → IsSame x y → PartsFormed y → is_there_form x ≡ false → Kept x t fresh at (node_parts (part_node y))
       → (is_plain_form x ≡ true → (a : Note) (pos : Pos) (k : ℕ) → GivesRange ((node_parts (part_node y)).value a pos p vs k)) → Judged x t fresh at (node_of y)
   only x y t fresh at same parts none value plain =
-      made x y t fresh at same parts (record { value = value; plain = plain; place = λ h. different (sym none ∙ h); address = λ h. different (sym none ∙ h) })
+      made x y t fresh at same parts (record { value = value; plain = plain; place = λ h single. different (sym none ∙ h); address = λ h. different (sym none ∙ h) })
 
   -- ---- names
-
-  local_formed : (u : CType) (j : ℕ) (r : Range) → F (local_in p vs u j r)
-  local_formed u j (range.Known low high) = tt
-  local_formed u j range.Missing = tt
-  local_formed u j range.Any = tt
-
-  local_gives : (u : CType) (j : ℕ) (r : Range) → is_missing r ≡ false → (r ≡ range.Any → ⊥) → GivesRange (local_in p vs u j r)
-  local_gives u j (range.Known low high) m n = tt
-  local_gives u j range.Missing m n = unlike m
-  local_gives u j range.Any m n = absurd (n refl)
 
   local_holds : (j : ℕ) (t : CType) (fresh : ℕ) (at : State) → HasType globals vs mode (Node-F.Name (name.Local j)) t → Kept (Node-F.Name (name.Local j)) t fresh at (node_parts (part_node (Node-F.Name (name.Local j))))
   local_holds j t fresh at row a pos noted fine k =
       let L : Range = range_of_local frame j at.widened in
       let known : is_checked_kind (kind_of t) ≡ true → is_missing L ≡ false → GivesRange (local_in p vs a.ctype j a.range) =
-      λ c m. subst (λ r. GivesRange (local_in p vs a.ctype j r)) (sym (noted.range (checked_pointer t c) ∙ if_true (is_pointer t) L (checked_pointer t c))) (local_gives a.ctype j L m (no_any frame j at.widened)) in
+      λ c m. subst (λ r. GivesRange (local_in p vs a.ctype j r)) (sym (noted.range (checked_pointer t c) ∙ if_true (is_pointer t) L (checked_pointer t c))) (local_gives s a.ctype j L m (no_any frame j at.widened)) in
       record {
-        formed = local_formed a.ctype j a.range;
+        formed = λ v. local_formed g s a.ctype j a.range;
         ranged = λ c first next m. known c (chosen (is_pointer t) L m);
         single = λ is. known (ap is_checked_kind is) (knows.ones j t row is at.widened);
       }
 
-  static_by : (j : ℕ) (t : CType) (at : State) (pos : Pos) → KnowsStatic s g t j → (o : Option Kind) → array_of p j ≡ o → Holds t (R (Node-F.Name (name.Static j)) t at) (static_in p t pos j o)
+  static_by : (j : ℕ) (t : CType) (at : State) (pos : Pos) → KnowsStatic s g t j → (o : Option Kind) → array_of p j ≡ o
+      → Holds (IsValue (Node-F.Name (name.Static j)) t) t (R (Node-F.Name (name.Static j)) t at) (static_in p t pos j o)
   static_by j t at pos h None is =
-      read_holds t t (R (Node-F.Name (name.Static j)) t at) (count_of_static p t (name.Static j)) (object_place p t pos j) (h.there, tt, tt)
+      read_holds t (R (Node-F.Name (name.Static j)) t at) (count_of_static p t (name.Static j)) (object_place p t pos j) (object_formed g s j t pos h is) (λ v. there_scalar (Node-F.Name (name.Static j)) t refl v)
+      (λ n e. (let c = h.fixed is n e in (c.0, fixed_room g through.Named n (Number (address_of p j)) c.1)))
       (λ c none first next. behind (is_pointer t) (range_of_name frame (name.Static j) t (own_numbers (V (Node-F.Name (name.Static j))) first next at).value at.widened)
       (h.ranged is none (own_numbers (V (Node-F.Name (name.Static j))) first next at).value at.widened))
       (λ one none. h.single is one none)
-  static_by j t at pos h (Some kind.Raw) is = unchecked t (R (Node-F.Name (name.Static j)) t at) (Number (address_of p j)) tt (ap is_checked_kind (h.array kind.Raw is).0)
+  static_by j t at pos h (Some kind.Raw) is = unchecked t (R (Node-F.Name (name.Static j)) t at) (Number (address_of p j)) (λ v. tt) (ap is_checked_kind (h.array kind.Raw is).0)
   static_by j t at pos h (Some kind.One) is = absurd ((h.array kind.One is).1 refl)
-  static_by j t at pos h (Some kind.Arr) is = always t (R (Node-F.Name (name.Static j)) t at) (Array (address_of p j) (bytes_of p j)) tt tt
-  static_by j t at pos h (Some kind.Nt) is = always t (R (Node-F.Name (name.Static j)) t at) (Array (address_of p j) (bytes_of p j)) tt tt
+  static_by j t at pos h (Some kind.Arr) is = always t (R (Node-F.Name (name.Static j)) t at) (Array (address_of p j) (bytes_of p j)) (λ v. tt) tt
+  static_by j t at pos h (Some kind.Nt) is = always t (R (Node-F.Name (name.Static j)) t at) (Array (address_of p j) (bytes_of p j)) (λ v. tt) tt
 
   static_claims : (j : ℕ) (t : CType) (fresh : ℕ) (at : State) → HasType globals vs mode (Node-F.Name (name.Static j)) t
       → Claims (V (Node-F.Name (name.Static j))) (Node-F.Name (name.Static j)) t fresh at (node_parts (part_node (Node-F.Name (name.Static j))))
@@ -362,19 +345,19 @@ module _ (globals : Globals) (s : Setting) (g : Program) (mode : Mode) (knows : 
       let h = knows.statics j t row in
       record {
         value = λ a pos noted fine k.
-            subst (λ u. Holds t (R (Node-F.Name (name.Static j)) t at) (static_in p u pos j (array_of p j))) (sym noted.ctype) (static_by j t at pos h (array_of p j) refl);
+            subst (λ u. Holds (IsValue (Node-F.Name (name.Static j)) t) t (R (Node-F.Name (name.Static j)) t at) (static_in p u pos j (array_of p j))) (sym noted.ctype) (static_by j t at pos h (array_of p j) refl);
         plain = λ e. different e;
-        place = λ there a pos is fine k. (h.there, tt, tt);
+        place = λ there single a pos is fine k. subst (λ u. Q t (object_place p u pos j)) (sym is) (object_formed g s j t pos h single);
         address = λ there a pos is fine k. record { formed = (h.there, tt, tt); ranged = λ m own first next r. tt };
       }
 
   -- ---- what is read through a pointer
 
-  element_holds : (t u : CType) (r : ℕ → ℕ → Range) (q : Place) → u ≡ t → Q q
-      → ((first next : ℕ) → (own : ℕ) × (r first next ≡ (if is_pointer t then range_by_type (kind_of t) own else range.Missing))) → Holds t r (read_at p.layout u (count_of_kind (kind_of u)) q)
-  element_holds t u r q is h ranges =
-      subst (λ z. Holds t r (read_at p.layout z (count_of_kind (kind_of z)) q)) (sym is)
-      (read_holds t t r (count_of_kind (kind_of t)) q h
+  element_holds : {V : Type 0} (t u : CType) (r : ℕ → ℕ → Range) (q : Place) → u ≡ t → Q t q → (V → is_scalar t ≡ true)
+      → ((first next : ℕ) → (own : ℕ) × (r first next ≡ (if is_pointer t then range_by_type (kind_of t) own else range.Missing))) → Holds V t r (read_at p.layout u (count_of_kind (kind_of u)) q)
+  element_holds {V} t u r q is h scalar ranges =
+      subst (λ z. Holds V t r (read_at p.layout z (count_of_kind (kind_of z)) q)) (sym is)
+      (read_holds t r (count_of_kind (kind_of t)) q h scalar (λ n e. (let c = kind_fixed t n e in (c.0, fixed_room g q.access.through n q.pointer c.1)))
       (λ c none first next. (let one = ranges first next in
       ap is_missing one.1 ∙ behind (is_pointer t) (range_by_type (kind_of t) one.0) (count_missing (kind_of t) one.0 none)))
       (λ one none. one_counts t one none))
@@ -382,31 +365,40 @@ module _ (globals : Globals) (s : Setting) (g : Program) (mode : Mode) (knows : 
   safe_kind : (e : NotedExpr) → EachExpr IsPart e → is_pointer e.note.ctype ≡ true → mode ≡ Checked → is_checked_kind (kind_of e.note.ctype) ≡ true
   safe_kind e w pointer checked = no_raw_kind e.note.ctype ((every_here-Expr Name Note AnyLimits AnyNode IsPart e w).safe checked) pointer
 
+  -- what a pointer points to is a place, also of a type that it begins with
+  target_formed : (e f : NotedExpr) (t u : CType) (pos : Pos) (fresh : ℕ) (at : State) (k : ℕ) → Made e at f → access_fault (view frame e) pos fresh at ≡ None → is_scalar e.note.ctype ≡ true
+      → Q u (target_place p.layout (part_of f).ctype pos ((part_of f).value p vs k))
+  target_formed e f t u pos fresh at k h fine scalar =
+      element_formed g p.layout u (part_of f).ctype pos integer.Int ((part_of f).value p vs k) (Number 0) (access e f pos fresh at k h fine) ((h.value k).formed (inr scalar)) tt
+
   deref_claims : (e f : NotedExpr) (t : CType) (fresh : ℕ) (at : State) → EachExpr IsPart e → HasType globals vs mode (Node-F.Un op.Deref e) t → Made e at f
       → Claims (V (Node-F.Un op.Deref e)) (Node-F.Un op.Deref e) t fresh at (node_parts (part_node (Node-F.Un op.Deref f)))
   deref_claims e f t fresh at w row h = record {
     value = λ a pos noted fine k.
-        element_holds t a.ctype (R (Node-F.Un op.Deref e) t at) (target_place p.layout (part_of f).ctype pos ((part_of f).value p vs k)) noted.ctype
-        (access e f pos fresh at k h fine, (h.value k).formed, tt) (λ first next. ((own_numbers (V (Node-F.Un op.Deref e)) first next at).value, refl));
+        element_holds t a.ctype (R (Node-F.Un op.Deref e) t at) (target_place p.layout (part_of f).ctype pos ((part_of f).value p vs k)) noted.ctype (target_formed e f t t pos fresh at k h fine (scalar))
+        (λ v. there_scalar (Node-F.Un op.Deref e) t refl v) (λ first next. ((own_numbers (V (Node-F.Un op.Deref e)) first next at).value, refl));
     plain = λ x. different x;
-    place = λ there a pos is fine k. (access e f pos fresh at k h fine, (h.value k).formed, tt);
+    place = λ there single a pos is fine k. target_formed e f t t pos fresh at k h fine scalar;
     address = λ there a pos is fine k. record {
-      formed = (h.value k).formed;
+      formed = (h.value k).formed (inr scalar);
       ranged = λ m own first next r. (h.value k).ranged (safe_kind e w (target_pointer e.note.ctype t row) m) first next r;
     };
   }
+    where
+      scalar : is_scalar e.note.ctype ≡ true
+      scalar = pointer_scalar e.note.ctype (target_pointer e.note.ctype t row)
 
   index_claims : (e f i j : NotedExpr) (t : CType) (fresh : ℕ) (at : State) → EachExpr IsPart e → HasType globals vs mode (Node-F.Index e i) t → Made e at f → Made i at j
       → Claims (V (Node-F.Index e i)) (Node-F.Index e i) t fresh at (node_parts (part_node (Node-F.Index f j)))
   index_claims e f i j t fresh at w row h d = record {
     value = λ a pos noted fine k.
         element_holds t a.ctype (R (Node-F.Index e i) t at)
-        (element_place p.layout (part_of f).ctype pos (integer_of (part_of j).ctype) ((part_of f).value p vs k) ((part_of j).value p vs (k + (part_of f).literals))) noted.ctype
-        (access e f pos fresh at k h fine, (h.value k).formed, (d.value (k + (part_of f).literals)).formed) (λ first next. ((own_numbers (V (Node-F.Index e i)) first next at).value, refl));
+        (element_place p.layout (part_of f).ctype pos (integer_of (part_of j).ctype) ((part_of f).value p vs k) ((part_of j).value p vs (k + (part_of f).literals))) noted.ctype (placed pos fine k)
+        (λ v. there_scalar (Node-F.Index e i) t refl v) (λ first next. ((own_numbers (V (Node-F.Index e i)) first next at).value, refl));
     plain = λ x. different x;
-    place = λ there a pos is fine k. (access e f pos fresh at k h fine, (h.value k).formed, (d.value (k + (part_of f).literals)).formed);
+    place = λ there single a pos is fine k. placed pos fine k;
     address = λ there a pos is fine k. (let v = (part_of f).value p vs k in let x = (part_of j).value p vs (k + (part_of f).literals) in record {
-      formed = operands_formed g p.layout op.Add (part_of f).ctype (part_of j).ctype pos v x (h.value k).formed (d.value (k + (part_of f).literals)).formed;
+      formed = operands_formed g p.layout op.Add (part_of f).ctype (part_of j).ctype pos v x ((h.value k).formed (inr scalars.0)) ((d.value (k + (part_of f).literals)).formed (inr scalars.1));
       ranged = λ m own first next r.
           subst (λ z. GivesRange (of_operands p.layout op.Add z (part_of j).ctype pos v x)) (sym h.type)
           (subst (λ z. GivesRange (of_operands p.layout op.Add e.note.ctype z pos v x)) (sym d.type)
@@ -414,64 +406,75 @@ module _ (globals : Globals) (s : Setting) (g : Program) (mode : Mode) (knows : 
           ((h.value k).ranged (safe_kind e w (index_pointer e.note.ctype i.note.ctype t row) m) first next (not_chosen (is_raw_kind (kind_of (view frame e).ctype)) ((view frame e).range first next at) r))));
     });
   }
+    where
+      scalars : (is_scalar e.note.ctype ≡ true) × (is_scalar i.note.ctype ≡ true)
+      scalars = index_scalar e.note.ctype i.note.ctype t row
+
+      placed : (pos : Pos) → access_fault (view frame e) pos fresh at ≡ None → (k : ℕ)
+          → Q t (element_place p.layout (part_of f).ctype pos (integer_of (part_of j).ctype) ((part_of f).value p vs k) ((part_of j).value p vs (k + (part_of f).literals)))
+      placed pos fine k =
+          element_formed g p.layout t (part_of f).ctype pos (integer_of (part_of j).ctype) ((part_of f).value p vs k) ((part_of j).value p vs (k + (part_of f).literals)) (access e f pos fresh at k h fine)
+          ((h.value k).formed (inr scalars.0)) ((d.value (k + (part_of f).literals)).formed (inr scalars.1))
 
   -- ---- members
 
-  member_holds : (u t v : CType) (n : Name) (r : ℕ → ℕ → Range) (q : Place) (c : CType) → c ≡ u → KnowsMember s u t n → Q q
+  member_holds : {W : Type 0} (u t v : CType) (n : Name) (r : ℕ → ℕ → Range) (q : Place) (c : CType) → c ≡ u → v ≡ t → KnowsMember s u t n → Q u q → is_scalar u ≡ false
       → ((first next : ℕ) → (own : Own) × (r first next ≡ (if is_pointer t then range_of_member frame.structs t (member_in n (out-CType u)) own else range.Missing)))
-      → Holds t r (read_at p.layout v (count_of_member p.layout (tag_of c) n) q)
-  member_holds u t v n r q c is knows h ranges =
-      subst (λ z. Holds t r (read_at p.layout v (count_of_member p.layout (tag_of z) n) q)) (sym is)
-      (read_holds t v r (count_of_member p.layout (tag_of u) n) q h
+      → Holds W t r (read_at p.layout v (count_of_member p.layout (tag_of c) n) (member_place p.layout (tag_of c) n q))
+  member_holds {W} u t v n r q c is same knows h bare ranges =
+      subst (λ z. Holds W t r (read_at p.layout v (count_of_member p.layout (tag_of z) n) (member_place p.layout (tag_of z) n q))) (sym is)
+      (subst (λ z. Holds W t r (read_at p.layout z (count_of_member p.layout (tag_of u) n) (member_place p.layout (tag_of u) n q))) (sym same)
+      (read_holds t r (count_of_member p.layout (tag_of u) n) (member_place p.layout (tag_of u) n q) (member_formed g p.layout u t (tag_of u) n q h bare knows.scalar knows.part) (λ x. knows.scalar)
+      (λ m e. (let b = knows.counted m e in (b.0, counted_room g p.layout u q m h bare b.1)))
       (λ checked none first next. (let one = ranges first next in
       ap is_missing one.1 ∙ behind (is_pointer t) (range_of_member frame.structs t (member_in n (out-CType u)) one.0) (knows.ranged none one.0)))
-      (λ one none. knows.single one none))
+      (λ one none. knows.single one none)))
 
   dot_claims : (e f : NotedExpr) (n : Name) (spot : Pos) (t : CType) (fresh : ℕ) (at : State) → EachExpr IsPart e → HasType globals vs mode (Node-F.Dot e n spot) t → Made e at f
       → Claims (V (Node-F.Dot e n spot)) (Node-F.Dot e n spot) t fresh at (node_parts (part_node (Node-F.Dot f n spot)))
   dot_claims e f n spot t fresh at w row h =
-      let there : is_there e ≡ true = knows.structures e.note.ctype t n row (out-Node Name Note e.node) mode (every_here-Expr Name Note AnyLimits AnyNode IsPart e w).row in
+      let there : is_there e ≡ true = knows.structures e.note.ctype t n row (out-Node Name Note e.node) mode (row_of e w) in
+      let bare : is_scalar e.note.ctype ≡ false = struct_bare e.note.ctype (dot_struct globals.structs e.note.ctype t n row) in
+      let single : IsSingle p (out-Node Name Note e.node) = struct_single globals s g knows mode (out-Node Name Note e.node) e.note.ctype (row_of e w) bare in
+      let known = knows.members e.note.ctype t n row in
       record {
         value = λ a pos noted fine k.
-            member_holds e.note.ctype t a.ctype n (R (Node-F.Dot e n spot) t at) (member_place p.layout (tag_of (part_of f).ctype) n ((part_of f).place p vs k)) (part_of f).ctype h.type
-            (knows.members e.note.ctype t n row) (h.place there k)
+            member_holds e.note.ctype t a.ctype n (R (Node-F.Dot e n spot) t at) ((part_of f).place p vs k) (part_of f).ctype h.type noted.ctype known (h.place there single k) bare
             (λ first next. (let own = own_numbers (V (Node-F.Dot e n spot)) first next at in
             (own, ap (λ u. if is_pointer t then range_of_member frame.structs t (member_in n (out-CType u)) own else range.Missing) (view_type e))));
         plain = λ x. different x;
-        place = λ it a pos is fine k. h.place there k;
-        address = λ it a pos is fine k. record { formed = h.place there k; ranged = λ m own first next r. tt };
+        place = λ it u a pos is fine k.
+            subst (λ z. Q t (member_place p.layout (tag_of z) n ((part_of f).place p vs k))) (sym h.type)
+            (member_formed g p.layout e.note.ctype t (tag_of e.note.ctype) n ((part_of f).place p vs k) (h.place there single k) bare known.scalar known.part);
+        address = λ it a pos is fine k. (let q = h.place there single k in record { formed = (q.access, q.pointer, q.index); ranged = λ m own first next r. tt });
       }
 
   arrow_claims : (e f : NotedExpr) (n : Name) (spot : Pos) (t : CType) (fresh : ℕ) (at : State) → HasType globals vs mode (Node-F.Arrow e n spot) t → Made e at f
       → Claims (V (Node-F.Arrow e n spot)) (Node-F.Arrow e n spot) t fresh at (node_parts (part_node (Node-F.Arrow f n spot)))
   arrow_claims e f n spot t fresh at row h = record {
     value = λ a pos noted fine k.
-        member_holds (element_of e.note.ctype) t a.ctype n (R (Node-F.Arrow e n spot) t at)
-        (member_place p.layout (tag_of (element_of (part_of f).ctype)) n (target_place p.layout (part_of f).ctype pos ((part_of f).value p vs k))) (element_of (part_of f).ctype) (ap element_of h.type)
-        (knows.members (element_of e.note.ctype) t n row) (access e f pos fresh at k h fine, (h.value k).formed, tt)
+        member_holds (element_of e.note.ctype) t a.ctype n (R (Node-F.Arrow e n spot) t at) (target_place p.layout (part_of f).ctype pos ((part_of f).value p vs k))
+        (element_of (part_of f).ctype) (ap element_of h.type) noted.ctype known (target_formed e f t (element_of e.note.ctype) pos fresh at k h fine scalar) bare
         (λ first next. (let own = own_numbers (V (Node-F.Arrow e n spot)) first next at in
         (own, ap (λ u. if is_pointer t then range_of_member frame.structs t (member_in n (out-CType (element_of u))) own else range.Missing) (view_type e))));
     plain = λ x. different x;
-    place = λ it a pos is fine k. (access e f pos fresh at k h fine, (h.value k).formed, tt);
-    address = λ it a pos is fine k. record { formed = (access e f pos fresh at k h fine, (h.value k).formed, tt); ranged = λ m own first next r. tt };
+    place = λ it u a pos is fine k.
+        subst (λ z. Q t (member_place p.layout (tag_of (element_of z)) n (target_place p.layout (part_of f).ctype pos ((part_of f).value p vs k)))) (sym h.type)
+        (member_formed g p.layout (element_of e.note.ctype) t (tag_of (element_of e.note.ctype)) n (target_place p.layout (part_of f).ctype pos ((part_of f).value p vs k))
+        (target_formed e f t (element_of e.note.ctype) pos fresh at k h fine scalar) bare known.scalar known.part);
+    address = λ it a pos is fine k. record { formed = (access e f pos fresh at k h fine, (h.value k).formed (inr scalar), tt); ranged = λ m own first next r. tt };
   }
+    where
+      known : KnowsMember s (element_of e.note.ctype) t n
+      known = knows.members (element_of e.note.ctype) t n row
+
+      scalar : is_scalar e.note.ctype ≡ true
+      scalar = arrow_scalar globals.structs e.note.ctype t n row
+
+      bare : is_scalar (element_of e.note.ctype) ≡ false
+      bare = struct_bare (element_of e.note.ctype) (dot_struct globals.structs (element_of e.note.ctype) t n row)
 
   -- ---- addresses
-
-  abbrev named_there : Name → Bool
-  named_there m = is_there_form {A = Note} {L = NotedLimits} {M = NotedNode} {E = NotedExpr} (Node-F.Name m)
-
-  address_there : (x : NotedLayer) → (is_object_form globals x || is_placed_form x) ≡ true → is_there_form x ≡ true
-  address_there (Node-F.Name n) h = let o = knows.objects n (by (is_no_array (object_named globals n)) h) in ap named_there o.1
-    where
-      by : (b : Bool) → (b || false) ≡ true → b ≡ true
-      by true e = refl
-      by false e = different e
-  address_there (Node-F.Un op.Deref e) h = refl
-  address_there (Node-F.Index e f) h = refl
-  address_there (Node-F.Dot e n at) h = refl
-  address_there (Node-F.Arrow e n at) h = refl
-  address_there x h = different h
 
   address_holds : (e f : NotedExpr) (t : CType) (fresh : ℕ) (at : State) → HasType globals vs mode (Node-F.Un op.Address e) t → MadeOperand e at f
       → Kept (Node-F.Un op.Address e) t fresh at (node_parts (part_node (Node-F.Un op.Address f)))
@@ -484,25 +487,27 @@ module _ (globals : Globals) (s : Setting) (g : Program) (mode : Mode) (knows : 
       raw_one e = absurd cc
 
       of_mode : (m : Mode) → mode ≡ m → t ≡ ctype.Pointer (address_kind m) e.note.ctype → Reached (λ own first next. (view frame e).address own first next at) ((part_of f).address p vs k)
-          → Holds t (R (Node-F.Un op.Address e) t at) ((part_of f).address p vs k)
+          → Holds (IsValue (Node-F.Un op.Address e) t) t (R (Node-F.Un op.Address e) t at) ((part_of f).address p vs k)
       of_mode Checked is type r = record {
-        formed = r.formed;
+        formed = λ v. r.formed;
         ranged = λ c first next m. r.ranged is (own_numbers (V (Node-F.Un op.Address e)) first next at) first next (chosen (is_pointer t) ((view frame e).address (own_numbers (V (Node-F.Un op.Address e)) first next at) first next at) m);
         single = λ one. arr_one (sym (ap kind_of type ∙ pointer_kind kind.Arr e.note.ctype) ∙ one);
       }
       of_mode Unchecked is type r = record {
-        formed = r.formed;
+        formed = λ v. r.formed;
         ranged = λ c first next m. different (sym (ap is_checked_kind (ap kind_of type ∙ pointer_kind kind.Raw e.note.ctype)) ∙ c);
         single = λ one. raw_one (sym (ap kind_of type ∙ pointer_kind kind.Raw e.note.ctype) ∙ one);
       }
 
-      by : (b : Bool) → has_address globals e ≡ b → (if b then Some (ctype.Pointer (address_kind mode) e.note.ctype) else None) ≡ Some t → Holds t (R (Node-F.Un op.Address e) t at) ((part_of f).address p vs k)
-      by true is q = of_mode mode refl (sym (some_same q)) (h.address (address_there (out-Node Name Note e.node) is) k)
+      by : (b : Bool) → has_address globals e ≡ b → (if b then Some (ctype.Pointer (address_kind mode) e.note.ctype) else None) ≡ Some t
+          → Holds (IsValue (Node-F.Un op.Address e) t) t (R (Node-F.Un op.Address e) t at) ((part_of f).address p vs k)
+      by true is q = of_mode mode refl (sym (some_same q)) (h.address (address_there globals s g knows (out-Node Name Note e.node) is) k)
       by false is q = none_is q
 
   -- ---- sums
 
-  module _ (e f i j : NotedExpr) (t : CType) (fresh : ℕ) (at : State) (pos : Pos) (k : ℕ) (h : Made e at f) (d : Made i at j) where
+  module _ (e f i j : NotedExpr) (t : CType) (fresh : ℕ) (at : State) (pos : Pos) (k : ℕ) (h : Made e at f) (d : Made i at j)
+      (scalars : (is_scalar e.note.ctype ≡ true) × (is_scalar i.note.ctype ≡ true)) where
     abbrev v : Expr
     v = (part_of f).value p vs k
 
@@ -517,7 +522,7 @@ module _ (globals : Globals) (s : Setting) (g : Program) (mode : Mode) (knows : 
         subst (λ u. GivesRange (of_operands p.layout o u (part_of j).ctype pos v z)) (sym h.type) (subst (λ u. GivesRange (of_operands p.layout o e.note.ctype u pos v z)) (sym d.type) give)
 
     formed : (o : TreeOp) → F (typed o)
-    formed o = operands_formed g p.layout o (part_of f).ctype (part_of j).ctype pos v z (h.value k).formed (d.value (k + (part_of f).literals)).formed
+    formed o = operands_formed g p.layout o (part_of f).ctype (part_of j).ctype pos v z ((h.value k).formed (inr scalars.0)) ((d.value (k + (part_of f).literals)).formed (inr scalars.1))
 
     abbrev Inner : ℕ → ℕ → Range
     Inner first next = range_of_operand (view frame e) (view frame i) first next at
@@ -535,25 +540,28 @@ module _ (globals : Globals) (s : Setting) (g : Program) (mode : Mode) (knows : 
         (d.value (k + (part_of f).literals)).ranged (ap (λ u. is_checked_kind (kind_of u)) (sym same) ∙ c) (capped first (view frame e).values) (fresh_behind (view frame e) next at)
         (if_second (is_pointer (view frame e).ctype) ((view frame e).range first next at) ((view frame i).range (capped first (view frame e).values) (fresh_behind (view frame e) next at) at) (ap is_pointer (view_type e) ∙ q) m)
 
-    add_holds : HasType globals vs mode (Node-F.Bin op.Add e i) t → Holds t (R (Node-F.Bin op.Add e i) t at) (typed op.Add)
+    add_holds : HasType globals vs mode (Node-F.Bin op.Add e i) t → Holds (IsValue (Node-F.Bin op.Add e i) t) t (R (Node-F.Bin op.Add e i) t at) (typed op.Add)
     add_holds row =
         let sum = sum_is p.layout e.note.ctype i.note.ctype t v z pos row in
         record {
-          formed = formed op.Add;
+          formed = λ v. formed op.Add;
           ranged = λ c first next m. as_noted op.Add (sum.given c (from_left c first next (inner first next m)) (from_right c first next (inner first next m)));
           single = λ one. absurd (sum.no_one one);
         }
 
-    sub_holds : HasType globals vs mode (Node-F.Bin op.Sub e i) t → Holds t (R (Node-F.Bin op.Sub e i) t at) (typed op.Sub)
+    sub_holds : HasType globals vs mode (Node-F.Bin op.Sub e i) t → Holds (IsValue (Node-F.Bin op.Sub e i) t) t (R (Node-F.Bin op.Sub e i) t at) (typed op.Sub)
     sub_holds row =
         let difference = difference_is p.layout e.note.ctype i.note.ctype t v z pos row in
         record {
-          formed = formed op.Sub;
+          formed = λ v. formed op.Sub;
           ranged = λ c first next m. as_noted op.Sub (difference.given c (from_left c first next (inner first next m)));
           single = λ one. absurd (difference.no_one one);
         }
 
   -- ---- rows
+
+  both_scalar : (o : TreeOp) (e i : NotedExpr) (t : CType) → EachExpr IsPart e → EachExpr IsPart i → HasType globals vs mode (Node-F.Bin o e i) t → (is_scalar e.note.ctype ≡ true) × (is_scalar i.note.ctype ≡ true)
+  both_scalar o e i t w x row = binary_scalar e.note.ctype i.note.ctype t o (is_null e) (is_null i) (null_of e w) (null_of i x) row
 
   -- ---- nodes
 
@@ -564,11 +572,11 @@ module _ (globals : Globals) (s : Setting) (g : Program) (mode : Mode) (knows : 
   abbrev Arguments : List NotedExpr → List NotedExpr → Type 0
   Arguments es fs = AllFormed fs × (length fs ≡ length es)
 
-  arguments_step : (ks : List KeptExpr) → AllEach IsPart (firsts ks) → (fresh : ℕ) (at : State) → Gives (Arguments (firsts ks)) (all_judged (map (view frame) (firsts ks)) fresh at)
-  arguments_step [] w fresh at = (tt, refl)
-  arguments_step (k ∷ ks) w fresh at =
+  arguments_step : (ks : List KeptExpr) → AllEach IsPart (firsts ks) → AreValued (firsts ks) → (fresh : ℕ) (at : State) → Gives (Arguments (firsts ks)) (all_judged (map (view frame) (firsts ks)) fresh at)
+  arguments_step [] w v fresh at = (tt, refl)
+  arguments_step (k ∷ ks) w v fresh at =
       bound (Made k.0 at) (Arguments (firsts (k ∷ ks))) _ _ (k.1.judged w.0 fresh at) (λ f h.
-      bound (Arguments (firsts ks)) (Arguments (firsts (k ∷ ks))) _ _ (arguments_step ks w.1 _ at) (λ fs i. (((λ n. (h.value n).formed), i.0), ap suc i.1)))
+      bound (Arguments (firsts ks)) (Arguments (firsts (k ∷ ks))) _ _ (arguments_step ks w.1 v.1 _ at) (λ fs i. (((λ n. (h.value n).formed v.0), i.0), ap suc i.1)))
 
   abbrev Step : NotedLayer → CType → ℕ → State → Type 0
   Step x t fresh at = Gives (Judged x t fresh at) (node_judged frame (viewed_node x) t fresh at)
@@ -587,13 +595,13 @@ module _ (globals : Globals) (s : Setting) (g : Program) (mode : Mode) (knows : 
 
   node_step : (y : Node-F Name Note KeptLimits KeptNode KeptExpr) → NodeParts IsPart (inner_node y) → (t : CType) → HasType globals vs mode (inner_node y) t → (fresh : ℕ) (at : State) → Step (inner_node y) t fresh at
   node_step (Node-F.Number n u) w t row fresh at =
-      only (Node-F.Number n u) (Node-F.Number n u) t fresh at (refl, refl) tt refl (λ a pos noted fine k. no_kind t (R (Node-F.Number n u) t at) (Number n) tt (number_kind u t row)) (λ h a pos k. zero n h)
+      only (Node-F.Number n u) (Node-F.Number n u) t fresh at (refl, refl) tt refl (λ a pos noted fine k. no_kind t (R (Node-F.Number n u) t at) (Number n) (λ v. tt) (number_kind u t row)) (λ h a pos k. zero n h)
   node_step (Node-F.Text bytes) w t row fresh at =
-      only (Node-F.Text bytes) (Node-F.Text bytes) t fresh at (refl, refl) tt refl (λ a pos noted fine k. always t (R (Node-F.Text bytes) t at) (Array (address_of p k) (length bytes)) tt tt) (λ h a pos k. tt)
-  node_step Node-F.Null w t row fresh at = only Node-F.Null Node-F.Null t fresh at (refl, refl) tt refl (λ a pos noted fine k. always t (R Node-F.Null t at) (Number 0) tt refl) (λ h a pos k. refl)
+      only (Node-F.Text bytes) (Node-F.Text bytes) t fresh at (refl, refl) tt refl (λ a pos noted fine k. always t (R (Node-F.Text bytes) t at) (Array (address_of p k) (length bytes)) (λ v. tt) tt) (λ h a pos k. tt)
+  node_step Node-F.Null w t row fresh at = only Node-F.Null Node-F.Null t fresh at (refl, refl) tt refl (λ a pos noted fine k. always t (R Node-F.Null t at) (Number 0) (λ v. tt) refl) (λ h a pos k. refl)
   node_step (Node-F.Name (name.Local j)) w t row fresh at = only (Node-F.Name (name.Local j)) (Node-F.Name (name.Local j)) t fresh at (refl, refl) tt refl (local_holds j t fresh at row) (λ h. different h)
   node_step (Node-F.Name (name.Static j)) w t row fresh at = made (Node-F.Name (name.Static j)) (Node-F.Name (name.Static j)) t fresh at (refl, refl) tt (static_claims j t fresh at row)
-  node_step (Node-F.Name n) w t row fresh at = only (Node-F.Name n) (Node-F.Name n) t fresh at (refl, refl) tt refl (λ a pos noted fine k. always t (R (Node-F.Name n) t at) outside tt refl) (λ h. different h)
+  node_step (Node-F.Name n) w t row fresh at = only (Node-F.Name n) (Node-F.Name n) t fresh at (refl, refl) tt refl (λ a pos noted fine k. always t (R (Node-F.Name n) t at) outside (λ v. tt) refl) (λ h. different h)
   node_step (Node-F.Un op.Deref e) w t row fresh at =
       bound (Made e.0 at) (Judged (Node-F.Un op.Deref e.0) t fresh at) _ _ (e.1.judged w fresh at) (λ f h.
       made (Node-F.Un op.Deref e.0) (Node-F.Un op.Deref f) t fresh at (refl, refl) tt (deref_claims e.0 f t fresh at w row h))
@@ -603,22 +611,24 @@ module _ (globals : Globals) (s : Setting) (g : Program) (mode : Mode) (knows : 
   node_step (Node-F.Un o e) w t row fresh at =
       bound (Made e.0 at) (Judged (Node-F.Un o e.0) t fresh at) _ _ (e.1.judged w fresh at) (λ f h.
       only (Node-F.Un o e.0) (Node-F.Un o f) t fresh at (refl, refl) tt refl
-      (λ a pos noted fine k. no_kind t (R (Node-F.Un o e.0) t at) (unary o pos ((part_of f).value p vs k)) (unary_formed g o pos ((part_of f).value p vs k) (h.value k).formed) (unary_kind o e.0.note.ctype t row (λ x. absurd cc)))
+      (λ a pos noted fine k. no_kind t (R (Node-F.Un o e.0) t at) (unary o pos ((part_of f).value p vs k)) (λ v. unary_formed g o pos ((part_of f).value p vs k) ((h.value k).formed (inr (unary_scalar o e.0.note.ctype t row)))) (unary_kind o e.0.note.ctype t row (λ x. absurd cc)))
       (λ x. different x))
   node_step (Node-F.Bin op.Add e i) w t row fresh at =
       bound (Made e.0 at) (Judged (Node-F.Bin op.Add e.0 i.0) t fresh at) _ _ (e.1.judged w.0 fresh at) (λ f h.
       bound (Made i.0 at) (Judged (Node-F.Bin op.Add e.0 i.0) t fresh at) _ _ (i.1.judged w.1 (fresh_behind (view frame e.0) fresh at) at) (λ j d.
-      only (Node-F.Bin op.Add e.0 i.0) (Node-F.Bin op.Add f j) t fresh at (refl, refl) tt refl (λ a pos noted fine k. add_holds e.0 f i.0 j t fresh at pos k h d row) (λ x. different x)))
+      only (Node-F.Bin op.Add e.0 i.0) (Node-F.Bin op.Add f j) t fresh at (refl, refl) tt refl (λ a pos noted fine k. add_holds e.0 f i.0 j t fresh at pos k h d (both_scalar op.Add e.0 i.0 t w.0 w.1 row) row) (λ x. different x)))
   node_step (Node-F.Bin op.Sub e i) w t row fresh at =
       bound (Made e.0 at) (Judged (Node-F.Bin op.Sub e.0 i.0) t fresh at) _ _ (e.1.judged w.0 fresh at) (λ f h.
       bound (Made i.0 at) (Judged (Node-F.Bin op.Sub e.0 i.0) t fresh at) _ _ (i.1.judged w.1 (fresh_behind (view frame e.0) fresh at) at) (λ j d.
-      only (Node-F.Bin op.Sub e.0 i.0) (Node-F.Bin op.Sub f j) t fresh at (refl, refl) tt refl (λ a pos noted fine k. sub_holds e.0 f i.0 j t fresh at pos k h d row) (λ x. different x)))
+      only (Node-F.Bin op.Sub e.0 i.0) (Node-F.Bin op.Sub f j) t fresh at (refl, refl) tt refl (λ a pos noted fine k. sub_holds e.0 f i.0 j t fresh at pos k h d (both_scalar op.Sub e.0 i.0 t w.0 w.1 row) row) (λ x. different x)))
   node_step (Node-F.Bin o e i) w t row fresh at =
       bound (Made e.0 at) (Judged (Node-F.Bin o e.0 i.0) t fresh at) _ _ (e.1.judged w.0 fresh at) (λ f h.
       bound (Made i.0 (right_point o (view frame e.0) at)) (Judged (Node-F.Bin o e.0 i.0) t fresh at) _ _ (i.1.judged w.1 (fresh_behind (view frame e.0) fresh at) (right_point o (view frame e.0) at)) (λ j d.
       only (Node-F.Bin o e.0 i.0) (Node-F.Bin o f j) t fresh at (refl, refl) tt refl
       (λ a pos noted fine k. no_kind t (R (Node-F.Bin o e.0 i.0) t at) (of_operands p.layout o (part_of f).ctype (part_of j).ctype pos ((part_of f).value p vs k) ((part_of j).value p vs (k + (part_of f).literals)))
-      (operands_formed g p.layout o (part_of f).ctype (part_of j).ctype pos ((part_of f).value p vs k) ((part_of j).value p vs (k + (part_of f).literals)) (h.value k).formed (d.value (k + (part_of f).literals)).formed)
+      (λ v. (let both = both_scalar o e.0 i.0 t w.0 w.1 row in
+      operands_formed g p.layout o (part_of f).ctype (part_of j).ctype pos ((part_of f).value p vs k) ((part_of j).value p vs (k + (part_of f).literals)) ((h.value k).formed (inr both.0))
+      ((d.value (k + (part_of f).literals)).formed (inr both.1))))
       (other_kind o e.0.note.ctype (is_null e.0) i.0.note.ctype (is_null i.0) t (λ x. x) row)) (λ x. different x)))
   node_step (Node-F.Pick e i o) w t row fresh at =
       bound (Made e.0 at) (Judged (Node-F.Pick e.0 i.0 o.0) t fresh at) _ _ (e.1.judged w.0 fresh at) (λ f h.
@@ -627,7 +637,8 @@ module _ (globals : Globals) (s : Setting) (g : Program) (mode : Mode) (knows : 
       only (Node-F.Pick e.0 i.0 o.0) (Node-F.Pick f j q) t fresh at (refl, refl) tt refl
       (λ a pos noted fine k. no_kind t (R (Node-F.Pick e.0 i.0 o.0) t at)
       (Choice ((part_of f).value p vs k) ((part_of j).value p vs (k + (part_of f).literals)) ((part_of q).value p vs (k + (part_of f).literals + (part_of j).literals)))
-      ((h.value k).formed, (d.value (k + (part_of f).literals)).formed, (c.value (k + (part_of f).literals + (part_of j).literals)).formed) (choice_kind e.0.note.ctype i.0.note.ctype o.0.note.ctype t row))
+      (λ v. (let all = choice_scalar e.0.note.ctype i.0.note.ctype o.0.note.ctype t row in
+      ((h.value k).formed (inr all.0), (d.value (k + (part_of f).literals)).formed (inr all.1), (c.value (k + (part_of f).literals + (part_of j).literals)).formed (inr all.2)))) (choice_kind e.0.note.ctype i.0.note.ctype o.0.note.ctype t row))
       (λ x. different x))))
   node_step (Node-F.Index e i) w t row fresh at =
       bound (Made e.0 at) (Judged (Node-F.Index e.0 i.0) t fresh at) _ _ (e.1.judged w.0 fresh at) (λ f h.
@@ -643,46 +654,47 @@ module _ (globals : Globals) (s : Setting) (g : Program) (mode : Mode) (knows : 
       bound (Made e.0 at) (Judged (Node-F.Cast x e.0) t fresh at) _ _ (e.1.judged w fresh at) (λ f h.
       only (Node-F.Cast x e.0) (Node-F.Cast x f) t fresh at (refl, refl) tt refl
       (λ a pos noted fine k. unchecked t (R (Node-F.Cast x e.0) t at) (cast (type_written x) (part_of f).ctype ((part_of f).value p vs k))
-      (cast_formed g (type_written x) (part_of f).ctype ((part_of f).value p vs k) (h.value k).formed) (ap (λ u. is_checked_kind (kind_of u)) row.1 ∙ cast_kind (type_written x) e.0.note.ctype (is_null e.0) row.0))
+      (λ v. cast_formed g (type_written x) (part_of f).ctype ((part_of f).value p vs k) ((h.value k).formed (inr (cast_scalar (type_written x) e.0.note.ctype (is_null e.0) (null_of e.0 w) row.0)))) (ap (λ u. is_checked_kind (kind_of u)) row.1 ∙ cast_kind (type_written x) e.0.note.ctype (is_null e.0) row.0))
       (λ z. different z))
   node_step (Node-F.Size x) w t row fresh at =
       only (Node-F.Size x) (Node-F.Size x) t fresh at (refl, refl) tt refl
-      (λ a pos noted fine k. no_kind t (R (Node-F.Size x) t at) (Number (size_of p.layout (type_written x))) tt (size_kind (type_written x) t row)) (λ h. different h)
+      (λ a pos noted fine k. no_kind t (R (Node-F.Size x) t at) (Number (size_of p.layout (type_written x))) (λ v. tt) (size_kind (type_written x) t row)) (λ h. different h)
   node_step (Node-F.Trusted x e None) w t row fresh at =
       bound (Made e.0 at) (Judged (Node-F.Trusted x e.0 None) t fresh at) _ _ (e.1.judged w.0 fresh at) (λ f h.
       only (Node-F.Trusted x e.0 None) (Node-F.Trusted x f None) t fresh at (refl, refl) tt refl
-      (λ a pos noted fine k. always t (R (Node-F.Trusted x e.0 None) t at) (Trusted (pointee_of p.layout (type_written x)) (form_if None) ((part_of f).value p vs k) (Number 1)) ((h.value k).formed, tt) tt) (λ z. different z))
+      (λ a pos noted fine k. always t (R (Node-F.Trusted x e.0 None) t at) (Trusted (pointee_of p.layout (type_written x)) (form_if None) ((part_of f).value p vs k) (Number 1)) (λ v. ((h.value k).formed (inr (same_scalar (type_written x) e.0.note.ctype row.1).1), tt)) tt) (λ z. different z))
   node_step (Node-F.Trusted x e (Some l)) w t row fresh at =
       bound (Made e.0 at) (Judged (Node-F.Trusted x e.0 (Some l.0)) t fresh at) _ _ (e.1.judged w.0 fresh at) (λ f h.
       some_limits (Judged (Node-F.Trusted x e.0 (Some l.0)) t fresh at) l w.1 _ _ at (λ m. Ok (node.Trusted x f m)) (λ m q.
       only (Node-F.Trusted x e.0 (Some l.0)) (Node-F.Trusted x f (Some m)) t fresh at (refl, refl) tt refl
       (λ a pos noted fine k. always t (R (Node-F.Trusted x e.0 (Some l.0)) t at)
       (Trusted (pointee_of p.layout (type_written x)) (part_of_limits m).form ((part_of f).value p vs k) ((part_of_limits m).elements (size_behind p.layout (type_written x)) p vs (k + (part_of f).literals)))
-      ((h.value k).formed, q (size_behind p.layout (type_written x)) (k + (part_of f).literals)) tt) (λ z. different z)))
+      (λ v. ((h.value k).formed (inr (same_scalar (type_written x) e.0.note.ctype row.1).1), q (size_behind p.layout (type_written x)) (k + (part_of f).literals))) tt) (λ z. different z)))
   node_step (Node-F.Tested x e None) w t row fresh at =
       bound (Made e.0 at) (Judged (Node-F.Tested x e.0 None) t fresh at) _ _ (e.1.judged w.0 fresh at) (λ f h.
       only (Node-F.Tested x e.0 None) (Node-F.Tested x f None) t fresh at (refl, refl) tt refl
       (λ a pos noted fine k. always t (R (Node-F.Tested x e.0 None) t at) (Tested (size_behind p.layout (type_written x)) (form_if None) pos ((part_of f).value p vs k) (Number 1))
-      (tested_by e.0 f pos fresh at k (type_written x) h fine row.1, (h.value k).formed, tt) tt) (λ z. different z))
+      (λ v. (tested_by e.0 f pos fresh at k (type_written x) h fine row.1, (h.value k).formed (tested (type_written x) e.0 row.1), tt)) tt) (λ z. different z))
   node_step (Node-F.Tested x e (Some l)) w t row fresh at =
       bound (Made e.0 at) (Judged (Node-F.Tested x e.0 (Some l.0)) t fresh at) _ _ (e.1.judged w.0 fresh at) (λ f h.
       some_limits (Judged (Node-F.Tested x e.0 (Some l.0)) t fresh at) l w.1 _ _ at (λ m. Ok (node.Tested x f m)) (λ m q.
       only (Node-F.Tested x e.0 (Some l.0)) (Node-F.Tested x f (Some m)) t fresh at (refl, refl) tt refl
       (λ a pos noted fine k. always t (R (Node-F.Tested x e.0 (Some l.0)) t at)
       (Tested (size_behind p.layout (type_written x)) (part_of_limits m).form pos ((part_of f).value p vs k) ((part_of_limits m).elements (size_behind p.layout (type_written x)) p vs (k + (part_of f).literals)))
-      (tested_by e.0 f pos fresh at k (type_written x) h fine row.1, (h.value k).formed, q (size_behind p.layout (type_written x)) (k + (part_of f).literals)) tt) (λ z. different z)))
+      (λ v. (tested_by e.0 f pos fresh at k (type_written x) h fine row.1, (h.value k).formed (tested (type_written x) e.0 row.1), q (size_behind p.layout (type_written x)) (k + (part_of f).literals))) tt)
+      (λ z. different z)))
   node_step (Node-F.Call n es) w t row fresh at =
-      bound (Arguments (firsts es)) (Judged (inner_node (Node-F.Call n es)) t fresh at) _ _ (arguments_step es w fresh at) (λ fs h.
-      only (inner_node (Node-F.Call n es)) (Node-F.Call n fs) t fresh at (refl, ap (λ m. Some (n, m)) h.1) h.0 refl (λ a pos noted fine k. always t (R (inner_node (Node-F.Call n es)) t at) outside tt refl) (λ z. different z))
+      bound (Arguments (firsts es)) (Judged (inner_node (Node-F.Call n es)) t fresh at) _ _ (arguments_step es w (arguments_valued mode row.0.params (firsts es) row.2) fresh at) (λ fs h.
+      only (inner_node (Node-F.Call n es)) (Node-F.Call n fs) t fresh at (refl, ap (λ m. Some (n, m)) h.1) h.0 refl (λ a pos noted fine k. always t (R (inner_node (Node-F.Call n es)) t at) outside (λ v. tt) refl) (λ z. different z))
   node_step (Node-F.Calloc x e u) w t row fresh at =
       bound (Made e.0 at) (Judged (Node-F.Calloc x e.0 u) t fresh at) _ _ (e.1.judged w fresh at) (λ f h.
-      only (Node-F.Calloc x e.0 u) (Node-F.Calloc x f u) t fresh at (refl, refl) (λ k. (h.value k).formed) refl (λ a pos noted fine k. always t (R (Node-F.Calloc x e.0 u) t at) outside tt refl) (λ z a pos k. refl))
+      only (Node-F.Calloc x e.0 u) (Node-F.Calloc x f u) t fresh at (refl, refl) (λ k. (h.value k).formed (inr (integer_scalar e.0.note.ctype row.counted))) refl
+      (λ a pos noted fine k. always t (R (Node-F.Calloc x e.0 u) t at) outside (λ v. tt) refl) (λ z a pos k. refl))
 
   -- ---- bounds of casts
 
-  kept : {A : Type 0} (P : A → Type 0) (b : Bool) (code : ℕ) (at : Pos) (o : Outcome A) → Gives P o → Gives P (unless b code at o)
-  kept P true code at o h = tt
-  kept P false code at o h = h
+  counted : (e : NotedExpr) → is_integer (view frame e).ctype ≡ true → IsValued e
+  counted e h = inr (integer_scalar e.note.ctype (ap is_integer (sym (view_type e)) ∙ h))
 
   limits_made : (y : LimitsLayer) → ((n k : ℕ) → F ((limits_parts (part_limits y)).elements n p vs k)) → Elements (limits_of y)
   limits_made y h n k =
@@ -693,11 +705,12 @@ module _ (globals : Globals) (s : Setting) (g : Program) (mode : Mode) (knows : 
       → Gives Elements (limits_judged (viewed_limits (inner_limits y)) size fresh at)
   limits_step (Limits-F.Count e pos) w size fresh at =
       bound (Made e.0 at) Elements _ _ (e.1.judged w fresh at) (λ f h.
-      kept Elements (not (counts_elements (view frame e.0))) bad_limits pos (Ok (limits.Count f pos)) (limits_made (Limits-F.Count f pos) (λ n k. (h.value k).formed)))
+      if_kept Elements (counts_elements (view frame e.0)) bad_limits pos (Ok (limits.Count f pos)) (λ c. limits_made (Limits-F.Count f pos) (λ n k. (h.value k).formed (counted e.0 c))))
   limits_step (Limits-F.ByteCount e pos) w size fresh at =
       bound (Made e.0 at) Elements _ _ (e.1.judged w fresh at) (λ f h.
-      kept Elements (not (counts_bytes size (view frame e.0))) bad_limits pos (Ok (limits.ByteCount f pos))
-      (limits_made (Limits-F.ByteCount f pos) (λ n k. elements_formed g n (part_of f).ctype pos ((part_of f).value p vs k) (h.value k).formed)))
+      if_kept Elements (counts_bytes size (view frame e.0)) bad_limits pos (Ok (limits.ByteCount f pos))
+      (λ c. limits_made (Limits-F.ByteCount f pos) (λ n k. elements_formed g n (part_of f).ctype pos ((part_of f).value p vs k)
+      ((h.value k).formed (counted e.0 (and_parts (is_integer (view frame e.0).ctype) _ c).0)))))
   limits_step (Limits-F.Between e i pos) w size fresh at = bound (Made e.0 at) Elements _ _ (e.1.judged w.0 fresh at) (λ f h. bound (Made i.0 at) Elements _ _ (i.1.judged w.1 _ at) (λ j d. tt))
   limits_step (Limits-F.Unknown pos) w size fresh at = tt
 
@@ -724,13 +737,6 @@ module _ (globals : Globals) (s : Setting) (g : Program) (mode : Mode) (knows : 
   not_faulted P None a h = h refl
   not_faulted P (Some r) a h = tt
 
-  noted_type : (a : Note) (r : Range) → (noted_range a r).ctype ≡ a.ctype
-  noted_type a r = by (is_pointer a.ctype)
-    where
-      by : (b : Bool) → (if b then record a { range = r } else a).ctype ≡ a.ctype
-      by true = refl
-      by false = refl
-
   noted_is : (a : Note) (r : Range) → Noted a.ctype r (noted_range a r)
   noted_is a r = record { ctype = noted_type a r; range = λ h. by (is_pointer a.ctype) h }
     where
@@ -755,9 +761,9 @@ module _ (globals : Globals) (s : Setting) (g : Program) (mode : Mode) (knows : 
             (h.judged (inside IsPart e w) e.note.ctype (every_here-Expr Name Note AnyLimits AnyNode IsPart e w).row fresh at) (λ m c.
             not_faulted (MadeBy W e at) (N.fault e.pos fresh at) (expr_made e.pos e.note r m) (λ fine. record {
               type = ap (λ (q : Part). q.ctype) (parted r m) ∙ noted_type e.note r;
-              value = λ k. subst (λ (q : Part). Holds e.note.ctype (λ first next. W.range first next at) (q.value p vs k)) (sym (parted r m)) (c.claims.value a e.pos (noted_is e.note r) fine k);
+              value = λ k. subst (λ (q : Part). Holds (IsValued e) e.note.ctype (λ first next. W.range first next at) (q.value p vs k)) (sym (parted r m)) (c.claims.value a e.pos (noted_is e.note r) fine k);
               plain = λ it k. subst (λ (q : Part). GivesRange (q.value p vs k)) (sym (parted r m)) (c.claims.plain it a e.pos k);
-              place = λ it k. subst (λ (q : Part). Q (q.place p vs k)) (sym (parted r m)) (c.claims.place it a e.pos (noted_type e.note r) fine k);
+              place = λ it single k. subst (λ (q : Part). Q e.note.ctype (q.place p vs k)) (sym (parted r m)) (c.claims.place it single a e.pos (noted_type e.note r) fine k);
               same = c.same;
               parts = c.parts;
             })));

@@ -1,4 +1,5 @@
-//! The program of a text that the phases accept is well formed: what it names is there, and checked pointers have ranges.
+//! The program of a text that the phases accept is well formed: what it names is there and has room, and checked pointers have
+//! ranges.
 #![tactic(auto)]
 
 mod laws;

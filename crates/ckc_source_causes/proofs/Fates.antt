@@ -1,5 +1,5 @@
 -- What becomes of the parts of a step: each has a value, stops at a check, or is stuck for a cause.
-use Rattle.std.proofs.Common.{◌≡◌, ◌⊎◌, ◌∙◌, inl, inr, refl, ap, ℕ, Bool, true, false, List, [], ◌∷◌, ◌++◌, map}
+use Rattle.std.proofs.Common.{◌≡◌, ◌⊎◌, ◌∙◌, inl, inr, refl, ℕ, Bool, true, false, List, [], ◌∷◌, ◌++◌, map}
 use Rattle.std.specs.Prelude.{◌==◌, if◌then◌else◌, Option, Some, None, Result, Ok, Err, slice_index}
 use Rattle.ckc_base.specs.declared.arithmetic.Width.{Width}
 use Rattle.ckc_base.specs.declared.runtime_checks.Check.TheVariants as check
@@ -16,15 +16,15 @@ use Rattle.ckc_source.specs.declared.program.Interface.{Interface}
 use Rattle.ckc_source.specs.declared.program.Shape.{Shape}
 use Rattle.ckc_source.specs.declared.stmt.Kept.{Kept}
 use Rattle.ckc_source.specs.declared.stmt.Kept.TheVariants as kept
-use Rattle.ckc_source.specs.Blocks.{Block, changed, fresh, lies_in}
+use Rattle.ckc_source.specs.Blocks.{Block, block_of, changed, fresh, lies_in}
 use Rattle.ckc_source.specs.Code.{Expr, Target, Nothing, Variable, Memory, Right, Fresh, Program}
 use Rattle.ckc_source.specs.Code as code
 use Rattle.ckc_source.specs.Eval.{Store, given, stops, element, place_in, reads_limited, evaluated, all_evaluated}
 use Rattle.ckc_source.specs.States.{State}
 use Rattle.ckc_source.specs.Steps.{store_of, terminator_at, aims_at, aimed, allowed, with_blocks, writes, Write, all_written, Drawn, allocated, drawn, Planned, and_then_written, planned, bundled, writes_allowed, reads_interfaces, kept_place, reads_result, hands}
-use Rattle.ckc_source_causes.specs.WellFormed.{AreWellFormed, AreWellFormedAssigns, IsWellFormedExpr, IsWellFormedRight, IsWellFormedTarget}
-use Rattle.ckc_source_causes.specs.Causes.{IsNowhere, HasUntrueLimits, Then, AtElement, HasCause, OneHasCause, TargetHasCause, RightHasCause, AssignHasCause, InterfaceHasCause, ResultHasCause, IsKeptNowhere, HandingHasCause}
-use Rattle.ckc_source_causes.proofs.Stuck.{IsStuck, has_cause, one_has_cause, untrue_limits}
+use Rattle.ckc_source_causes.specs.WellFormed.{AreWellFormed, AreWellFormedAssigns, IsWellFormedExpr, IsWellFormedKept, IsWellFormedRight, IsWellFormedTarget}
+use Rattle.ckc_source_causes.specs.Causes.{IsNowhere, HasUntrueLimits, HoldsObjects, Then, AtElement, HasCause, OneHasCause, TargetHasCause, RightHasCause, AssignHasCause, InterfaceHasCause, ResultHasCause, HandingHasCause}
+use Rattle.ckc_source_causes.proofs.Stuck.{IsStuck, Misses, has_cause, misses, one_has_cause, untrue_limits}
 use Rattle.ckc_source_causes.proofs.Given.{judged}
 use Rattle.ckc_source_causes.proofs.Later.{AreKept, kept_itself, kept_again, kept_behind, kept_changed, lies_kept}
 
@@ -155,38 +155,46 @@ allocated_later s to count = grown_later s to count (heap_has_room s.next count 
 
 -- ---- assignments
 
-module _ (p : Program) (shapes : List Shape) where
-  pub evaluated_fate : (s : State) (e : Expr) → IsWellFormedExpr p e → Fate (HasCause (store_of shapes s) e) Any (evaluated (store_of shapes s) e)
-  evaluated_fate s e w = fate_of (HasCause (store_of shapes s) e) (evaluated (store_of shapes s) e) (has_cause p (store_of shapes s) e w)
+-- the objects of a program are the first blocks
+abbrev pub AreThere : Program → List Block → Type 0
+AreThere p bs = AreKept (map block_of p.objects) bs
 
-  aims_fate : (s : State) (width : Width) (access : Access) (v : Value) (a : ℕ)
-      → Fate (IsNowhere (store_of shapes s) width (place_in a access.offset)) (IsPlaced s.blocks) (aims_at (store_of shapes s) width access v.range a)
-  aims_fate s width access v a = by (lies_in width (place_in a access.offset) s.blocks) refl
+module _ (p : Program) (shapes : List Shape) where
+  pub holding : (s : State) → AreThere p s.blocks → HoldsObjects p (store_of shapes s)
+  holding s h width a e = lies_kept width a (map block_of p.objects) s.blocks h e
+
+  pub evaluated_fate : (s : State) (e : Expr) → AreThere p s.blocks → IsWellFormedExpr p e → Fate (HasCause (store_of shapes s) e) Any (evaluated (store_of shapes s) e)
+  evaluated_fate s e h w = fate_of (HasCause (store_of shapes s) e) (evaluated (store_of shapes s) e) (has_cause p (store_of shapes s) (holding s h) e w)
+
+  aims_fate : (s : State) (width : Width) (access : Access) (v : Value) (a : ℕ) → Misses (store_of shapes s) access.through width (place_in a access.offset)
+      → Fate (IsNowhere (store_of shapes s) access.through width (place_in a access.offset)) (IsPlaced s.blocks) (aims_at (store_of shapes s) width access v.range a)
+  aims_fate s width access v a miss = by (lies_in width (place_in a access.offset) s.blocks) refl
     where
       by : (b : Bool) → lies_in width (place_in a access.offset) s.blocks ≡ b
-          → Fate (IsNowhere (store_of shapes s) width (place_in a access.offset)) (IsPlaced s.blocks)
+          → Fate (IsNowhere (store_of shapes s) access.through width (place_in a access.offset)) (IsPlaced s.blocks)
           (if b then Ok (place.Memory (place_in a access.offset) width (terminator_at access.through v.range a access.at)) else Err Stuck)
       by true is = is
-      by false is = is
+      by false is = miss is
 
-  pub aimed_fate : (s : State) (t : Target) → IsWellFormedTarget p t → Fate (TargetHasCause (store_of shapes s) t) (IsPlaced s.blocks) (aimed (store_of shapes s) t)
-  aimed_fate s Nothing w = tt
-  aimed_fate s (Variable x width) w = tt
-  aimed_fate s (Memory width access e i) w =
+  pub aimed_fate : (s : State) (t : Target) → AreThere p s.blocks → IsWellFormedTarget p t → Fate (TargetHasCause (store_of shapes s) t) (IsPlaced s.blocks) (aimed (store_of shapes s) t)
+  aimed_fate s Nothing h w = tt
+  aimed_fate s (Variable x width) h w = tt
+  aimed_fate s (Memory width access e i) h w =
       let st : Store = store_of shapes s in
-      let N : Value → Value → Type 0 = λ v k. AtElement access v k (λ a. IsNowhere st width (place_in a access.offset)) in
+      let N : Value → Value → Type 0 = λ v k. AtElement access v k (λ a. IsNowhere st access.through width (place_in a access.offset)) in
       fate_then (HasCause st e) Any (λ v. HasCause st i ⊎ Then (evaluated st i) (N v)) (IsPlaced s.blocks) (evaluated st e)
-      (λ v. given (evaluated st i) (λ k. given (element access v k.number) (aims_at st width access v.range))) (evaluated_fate s e w.1) (λ v there u.
-      fate_then (HasCause st i) Any (N v) (IsPlaced s.blocks) (evaluated st i) (λ k. given (element access v k.number) (aims_at st width access v.range)) (evaluated_fate s i w.2) (λ k here z.
-      fate_second Any (λ a. IsNowhere st width (place_in a access.offset)) (IsPlaced s.blocks) (element access v k.number) (aims_at st width access v.range)
-      (fate_of ⊥ (element access v k.number) (judged p st e v access.through access k.number w.0 there)) (λ a is y. aims_fate s width access v a)))
+      (λ v. given (evaluated st i) (λ k. given (element access v k.number) (aims_at st width access v.range))) (evaluated_fate s e h w.1) (λ v there u.
+      fate_then (HasCause st i) Any (N v) (IsPlaced s.blocks) (evaluated st i) (λ k. given (element access v k.number) (aims_at st width access v.range)) (evaluated_fate s i h w.2) (λ k here z.
+      fate_second Any (λ a. IsNowhere st access.through width (place_in a access.offset)) (IsPlaced s.blocks) (element access v k.number) (aims_at st width access v.range)
+      (fate_of ⊥ (element access v k.number) (judged p st e v access.through access k.number w.0.0 there))
+      (λ a is y. aims_fate s width access v a (misses p st (holding s h) access.through access e v k.number width access.offset a w.0.1 there is))))
 
-  drawn_fate : (s : State) (right : Right) → IsWellFormedRight p right → Fate (RightHasCause (store_of shapes s) right) (λ (d : Drawn). IsLater s d.state) (drawn shapes s right)
-  drawn_fate s (code.Value e) w =
-      fate_first (HasCause (store_of shapes s) e) Any (λ (d : Drawn). IsLater s d.state) (evaluated (store_of shapes s) e) (λ v. Ok (record { number = v.number; state = s })) (evaluated_fate s e w)
+  drawn_fate : (s : State) (right : Right) → AreThere p s.blocks → IsWellFormedRight p right → Fate (RightHasCause (store_of shapes s) right) (λ (d : Drawn). IsLater s d.state) (drawn shapes s right)
+  drawn_fate s (code.Value e) h w =
+      fate_first (HasCause (store_of shapes s) e) Any (λ (d : Drawn). IsLater s d.state) (evaluated (store_of shapes s) e) (λ v. Ok (record { number = v.number; state = s })) (evaluated_fate s e h w)
       (λ v is u. later_itself s)
-  drawn_fate s (Fresh to e) w =
-      fate_first (HasCause (store_of shapes s) e) Any (λ (d : Drawn). IsLater s d.state) (evaluated (store_of shapes s) e) (λ v. Ok (allocated s to v.number)) (evaluated_fate s e w)
+  drawn_fate s (Fresh to e) h w =
+      fate_first (HasCause (store_of shapes s) e) Any (λ (d : Drawn). IsLater s d.state) (evaluated (store_of shapes s) e) (λ v. Ok (allocated s to v.number)) (evaluated_fate s e h w)
       (λ v is u. allocated_later s to v.number)
 
   -- what is planned goes to places that the blocks have then
@@ -194,28 +202,28 @@ module _ (p : Program) (shapes : List Shape) where
     pub later : IsLater s q.state
     pub placed : ArePlaced q.state.blocks q.writes
 
-  planned_fate : (s : State) (assigns : List (Target × Right)) → AreWellFormedAssigns p assigns → Fate (AssignHasCause shapes s assigns) (IsPlanned s) (planned shapes s assigns)
-  planned_fate s [] w = record { later = later_itself s; placed = tt }
-  planned_fate s (a ∷ rest) w =
+  planned_fate : (s : State) (assigns : List (Target × Right)) → AreThere p s.blocks → AreWellFormedAssigns p assigns → Fate (AssignHasCause shapes s assigns) (IsPlanned s) (planned shapes s assigns)
+  planned_fate s [] o w = record { later = later_itself s; placed = tt }
+  planned_fate s (a ∷ rest) o w =
       let st : Store = store_of shapes s in
       fate_then (TargetHasCause st a.0) (IsPlaced s.blocks) (λ to. RightHasCause st a.1 ⊎ Then (drawn shapes s a.1) (λ d. Then (allowed to d.number) (λ written. AssignHasCause shapes d.state rest))) (IsPlanned s)
-      (aimed st a.0) (λ to. given (drawn shapes s a.1) (λ d. given (allowed to d.number) (λ to. given (planned shapes d.state rest) (λ p. Ok (and_then_written to d.number p))))) (aimed_fate s a.0 w.0) (λ to there h.
+      (aimed st a.0) (λ to. given (drawn shapes s a.1) (λ d. given (allowed to d.number) (λ to. given (planned shapes d.state rest) (λ p. Ok (and_then_written to d.number p))))) (aimed_fate s a.0 o w.0) (λ to there h.
       fate_then (RightHasCause st a.1) (λ (d : Drawn). IsLater s d.state) (λ d. Then (allowed to d.number) (λ written. AssignHasCause shapes d.state rest)) (IsPlanned s)
-      (drawn shapes s a.1) (λ d. given (allowed to d.number) (λ to. given (planned shapes d.state rest) (λ p. Ok (and_then_written to d.number p)))) (drawn_fate s a.1 w.1) (λ d is l.
+      (drawn shapes s a.1) (λ d. given (allowed to d.number) (λ to. given (planned shapes d.state rest) (λ p. Ok (and_then_written to d.number p)))) (drawn_fate s a.1 o w.1) (λ d is l.
       fate_second (IsPlaced s.blocks) (λ written. AssignHasCause shapes d.state rest) (IsPlanned s) (allowed to d.number) (λ to. given (planned shapes d.state rest) (λ p. Ok (and_then_written to d.number p)))
       (allowed_fate s.blocks to d.number h) (λ at here k.
-      fate_first (AssignHasCause shapes d.state rest) (IsPlanned d.state) (IsPlanned s) (planned shapes d.state rest) (λ p. Ok (and_then_written at d.number p)) (planned_fate d.state rest w.2) (λ q there z. record {
+      fate_first (AssignHasCause shapes d.state rest) (IsPlanned d.state) (IsPlanned s) (planned shapes d.state rest) (λ p. Ok (and_then_written at d.number p)) (planned_fate d.state rest (kept_again (map block_of p.objects) s.blocks d.state.blocks o l.blocks) w.2) (λ q there z. record {
         later = later_again s d.state q.state l z.later;
         placed = (placed_kept s.blocks q.state.blocks at (kept_again s.blocks d.state.blocks q.state.blocks l.blocks z.later.blocks) k, z.placed);
       }))))
 
-  pub bundled_fate : (s : State) (assigns : List (Target × Right)) → AreWellFormedAssigns p assigns → Fate (AssignHasCause shapes s assigns) (IsLater s) (bundled shapes s assigns)
-  bundled_fate s assigns w =
-      fate_first (AssignHasCause shapes s assigns) (IsPlanned s) (IsLater s) (planned shapes s assigns) (λ q. all_written q.writes q.state) (planned_fate s assigns w) (λ q is h.
+  pub bundled_fate : (s : State) (assigns : List (Target × Right)) → AreThere p s.blocks → AreWellFormedAssigns p assigns → Fate (AssignHasCause shapes s assigns) (IsLater s) (bundled shapes s assigns)
+  bundled_fate s assigns o w =
+      fate_first (AssignHasCause shapes s assigns) (IsPlanned s) (IsLater s) (planned shapes s assigns) (λ q. all_written q.writes q.state) (planned_fate s assigns o w) (λ q is h.
       fate_map ⊥ ⊥ (IsLater q.state) (IsLater s) (all_written q.writes q.state) (all_written_fate q.writes q.state h.placed) (λ x. x) (λ v k. later_again s q.state v h.later k))
 
-  pub arguments_fate : (s : State) (es : List Expr) → AreWellFormed p es → Fate (OneHasCause (store_of shapes s) es) Any (all_evaluated (store_of shapes s) es)
-  arguments_fate s es w = fate_of (OneHasCause (store_of shapes s) es) (all_evaluated (store_of shapes s) es) (one_has_cause p (store_of shapes s) es w)
+  pub arguments_fate : (s : State) (es : List Expr) → AreThere p s.blocks → AreWellFormed p es → Fate (OneHasCause (store_of shapes s) es) Any (all_evaluated (store_of shapes s) es)
+  arguments_fate s es h w = fate_of (OneHasCause (store_of shapes s) es) (all_evaluated (store_of shapes s) es) (one_has_cause p (store_of shapes s) (holding s h) es w)
 
 -- ---- calls
 
@@ -233,26 +241,14 @@ result_fate shapes s (Some limits) entry n =
     let st : Store = record { shapes = shapes; blocks = s.blocks; locals = entry } in
     fate_first (HasUntrueLimits st limits n) Any Any (reads_limited st limits n) (λ v. Ok v.number) (fate_of (HasUntrueLimits st limits n) (reads_limited st limits n) (untrue_limits st limits n)) (λ v is u. tt)
 
-kept_fate : (st : Store) (target : Kept) (n : ℕ) (s : State) → st.blocks ≡ s.blocks → Fate (IsKeptNowhere st target) (IsLater s) (writes (kept_place target) n s)
-kept_fate st (kept.Local x width) n s same = record { blocks = kept_itself s.blocks; work = refl; callers = refl }
-kept_fate st (kept.Static a width) n s same = by (lies_in width a s.blocks) refl
-  where
-    by : (b : Bool) → lies_in width a s.blocks ≡ b → Fate (IsNowhere st width a) (IsLater s) (with_blocks s (if b then Some (map (changed width a n) s.blocks) else None))
-    by true e = record { blocks = kept_changed width a n s.blocks; work = refl; callers = refl }
-    by false e = ap (λ bs. lies_in width a bs) same ∙ e
+kept_fate : (p : Program) (target : Kept) (n : ℕ) (s : State) → AreThere p s.blocks → IsWellFormedKept p (Some target) → Fate ⊥ (IsLater s) (writes (kept_place target) n s)
+kept_fate p (kept.Local x width) n s h w = record { blocks = kept_itself s.blocks; work = refl; callers = refl }
+kept_fate p (kept.Static a width) n s h w = writes_fate (place.Memory a width None) n s (lies_kept width a (map block_of p.objects) s.blocks h w)
 
-pub hands_fate : (shapes : List Shape) (s : State) (limits : Option Limits) (entry : List ℕ) (target : Option Kept) (n : ℕ)
+pub hands_fate : (p : Program) (shapes : List Shape) (s : State) (limits : Option Limits) (entry : List ℕ) (target : Option Kept) (n : ℕ) → AreThere p s.blocks → IsWellFormedKept p target
     → Fate (HandingHasCause (record { shapes = shapes; blocks = s.blocks; locals = entry }) limits target n) (IsLater s) (hands shapes s limits entry target n)
-hands_fate shapes s limits entry None n = later_itself s
-hands_fate shapes s limits entry (Some target) n =
+hands_fate p shapes s limits entry None n h w = later_itself s
+hands_fate p shapes s limits entry (Some target) n h w =
     let st : Store = record { shapes = shapes; blocks = s.blocks; locals = entry } in
-    fate_map (ResultHasCause st limits n ⊎ Then (reads_result shapes s limits entry n) (λ m. IsKeptNowhere st target)) (ResultHasCause st limits n ⊎ IsKeptNowhere st target) (IsLater s) (IsLater s)
-    (hands shapes s limits entry (Some target) n)
-    (fate_then (ResultHasCause st limits n) Any (λ m. IsKeptNowhere st target) (IsLater s) (reads_result shapes s limits entry n) (λ m. writes (kept_place target) m s) (result_fate shapes s limits entry n)
-    (λ m is u. kept_fate st target m s refl)) less (λ v h. h)
-  where
-    less : ResultHasCause (record { shapes = shapes; blocks = s.blocks; locals = entry }) limits n
-        ⊎ Then (reads_result shapes s limits entry n) (λ m. IsKeptNowhere (record { shapes = shapes; blocks = s.blocks; locals = entry }) target)
-        → ResultHasCause (record { shapes = shapes; blocks = s.blocks; locals = entry }) limits n ⊎ IsKeptNowhere (record { shapes = shapes; blocks = s.blocks; locals = entry }) target
-    less (inl x) = inl x
-    less (inr x) = inr x.2
+    fate_first (ResultHasCause st limits n) Any (IsLater s) (reads_result shapes s limits entry n) (λ m. writes (kept_place target) m s) (result_fate shapes s limits entry n)
+    (λ m is u. kept_fate p target m s h w)

@@ -1,5 +1,5 @@
 -- In each state of a run of a well formed program, a step that is stuck is stuck for a cause.
-use Rattle.std.proofs.Common.{◌≡◌, ◌⊎◌, inl, inr, refl, sym, subst, ℕ, zero, suc, ◌^◌, Bool, true, false, List, [], ◌∷◌, ◌++◌}
+use Rattle.std.proofs.Common.{◌≡◌, ◌⊎◌, inl, inr, refl, sym, subst, ℕ, zero, suc, ◌^◌, Bool, true, false, List, [], ◌∷◌, ◌++◌, map}
 use Rattle.std.specs.Prelude.{All, ◌==◌, ◌%◌, ◌-◌, if◌then◌else◌, Option, Some, None, Result, Ok, Err, slice_get}
 use Rattle.std.proofs.lemmas.List.Elements.{All-head, All-tail}
 use Rattle.ckc_base.specs.declared.places.Pos.{Pos}
@@ -14,14 +14,16 @@ use Rattle.ckc_source.specs.declared.outcome.Halt.TheVariants as halt
 use Rattle.ckc_source.specs.declared.outcome.Place.{Place}
 use Rattle.ckc_source.specs.declared.outcome.Value.{Value}
 use Rattle.ckc_source.specs.declared.stmt.Kept.{Kept}
+use Rattle.ckc_source.specs.Blocks.{block_of}
 use Rattle.ckc_source.specs.Code.{Expr, Target, Right, Code, End, Assign, Bundle, Get, Put, Call, If, Loop, Break, Continue, Return, Check, Function, Program}
 use Rattle.ckc_source.specs.Eval.{Store, evaluated, all_evaluated}
 use Rattle.ckc_source.specs.Source.{first_state, function_at, source, source_system}
 use Rattle.ckc_source.specs.States.{Caller, State, Work, Rest, Turn, active, entered, settled}
 use Rattle.ckc_source.specs.Steps.{store_of, aimed, bundled, comes_to, and_moves, at_work, writes_allowed, gets, puts, in_call, reads_interfaces, enters, calls, hands, returns, acts, works, source_step}
-use Rattle.ckc_source_causes.specs.WellFormed.{AreWellFormedAssigns, HasParams, HasStepsInBody, HasWellFormedBody, IsWellFormed, IsWellFormedExpr}
+use Rattle.ckc_source_causes.specs.WellFormed.{AreWellFormedAssigns, HasParams, HasStepsInBody, HasWellFormedBody, IsWellFormed, IsWellFormedExpr, IsWellFormedKept}
 use Rattle.ckc_source_causes.specs.Causes.{Then, HasCause, OneHasCause, TargetHasCause, AssignHasCause, InterfaceHasCause, EntryHasCause, HandingHasCause, ReturnHasCause, StatementHasCause, WorkHasCause, IsStuckForCause}
-use Rattle.ckc_source_causes.proofs.Fates.{Any, Fate, fate_map, IsLater, IsPlaced, aimed_fate, arguments_fate, bundled_fate, evaluated_fate, hands_fate, interfaces_fate, writes_allowed_fate}
+use Rattle.ckc_source_causes.proofs.Fates.{Any, AreThere, Fate, fate_map, IsLater, IsPlaced, aimed_fate, arguments_fate, bundled_fate, evaluated_fate, hands_fate, interfaces_fate, writes_allowed_fate}
+use Rattle.ckc_source_causes.proofs.Later.{kept_again, kept_itself}
 use Rattle.ckc_source_causes.proofs.Settled.{AreFormed, AreReady, IsActing, IsFormed, settled_ready}
 
 all_get : {X : Type 0} (P : X → Type 0) (xs : List X) (k : ℕ) (x : X) → All P xs → slice_get xs k ≡ Some x → P x
@@ -34,12 +36,13 @@ module _ (p : Program) (formed : IsWellFormed p) where
 
   abbrev AreWaiting : List Caller → Type 0
   AreWaiting [] = Unit {0}
-  AreWaiting (caller ∷ callers) = AreFormed p caller.frame.work × AreWaiting callers
+  AreWaiting (caller ∷ callers) = AreFormed p caller.frame.work × IsWellFormedKept p caller.target × AreWaiting callers
 
   -- what holds of each state of a run
   record IsRunning (s : State) : Type 0 where
     pub work : AreFormed p s.frame.work
     pub callers : AreWaiting s.callers
+    pub blocks : AreThere p s.blocks
 
   -- the same of what a step leads to, which is stuck for this cause if it is stuck
   abbrev Moved : Type 0 → Move Event State → Type 0
@@ -73,40 +76,45 @@ module _ (p : Program) (formed : IsWellFormed p) where
   first_moved C P (Err halt.Stuck) f h next = h
 
   later_running : (s u : State) → IsRunning s → IsLater s u → IsRunning u
-  later_running s u h l = record { work = subst (AreFormed p) (sym l.work) h.work; callers = subst AreWaiting (sym l.callers) h.callers }
+  later_running s u h l = record {
+    work = subst (AreFormed p) (sym l.work) h.work;
+    callers = subst AreWaiting (sym l.callers) h.callers;
+    blocks = kept_again (map block_of p.objects) s.blocks u.blocks h.blocks l.blocks;
+  }
 
   at_running : (s : State) (work : List Work) → IsRunning s → AreFormed p work → IsRunning (at_work s work)
-  at_running s work h w = record { work = w; callers = h.callers }
+  at_running s work h w = record { work = w; callers = h.callers; blocks = h.blocks }
 
   -- ---- calls
 
-  enters_moved : (s : State) (target : Option Kept) (callee : ℕ) (values : List ℕ) (count : ℕ) (o : Option Function) → slice_get p.functions callee ≡ o → HasParams count o → IsRunning s
+  enters_moved : (s : State) (target : Option Kept) (callee : ℕ) (values : List ℕ) (count : ℕ) (o : Option Function) → slice_get p.functions callee ≡ o → HasParams count o → IsWellFormedKept p target → IsRunning s
       → Moved (EntryHasCause p s target callee values) (enters p.shapes s target values o)
-  enters_moved s target callee values count None is there h = absurd there
-  enters_moved s target callee values count (Some f) is there h =
+  enters_moved s target callee values count None is there kept h = absurd there
+  enters_moved s target callee values count (Some f) is there kept h =
       let st : Store = store_of p.shapes (in_call s target values f) in
       moved_map (InterfaceHasCause st f.interfaces) (EntryHasCause p s target callee values) (enters p.shapes s target values (Some f))
       (first_moved (InterfaceHasCause st f.interfaces) Any (reads_interfaces st f.interfaces) (λ u. Goes [] (in_call s target values f)) (interfaces_fate st f.interfaces) (λ u k. record {
         work = ((all_get (HasWellFormedBody p) p.functions callee f formed.bodies is, all_get HasStepsInBody p.functions callee f formed.steps is), tt);
-        callers = (h.work, h.callers);
+        callers = (h.work, kept, h.callers);
+        blocks = h.blocks;
       })) (λ c. (f, is, c))
 
-  calls_moved : (s : State) (target : Option Kept) (callee : ℕ) (at : Pos) (values : List ℕ) (count : ℕ) → HasParams count (slice_get p.functions callee) → IsRunning s
+  calls_moved : (s : State) (target : Option Kept) (callee : ℕ) (at : Pos) (values : List ℕ) (count : ℕ) → HasParams count (slice_get p.functions callee) → IsWellFormedKept p target → IsRunning s
       → Moved (EntryHasCause p s target callee values) (calls p s target callee at values)
-  calls_moved s target callee at values count there h = by (has_room (active s))
+  calls_moved s target callee at values count there kept h = by (has_room (active s))
     where
       by : (room : Bool) → Moved (EntryHasCause p s target callee values) (if room then enters p.shapes s target values (slice_get p.functions callee) else Halts [] (standing.Stopped check.Depth at))
-      by true = enters_moved s target callee values count (slice_get p.functions callee) refl there h
+      by true = enters_moved s target callee values count (slice_get p.functions callee) refl there kept h
       by false = tt
 
-  returns_moved : (s : State) (callers : List Caller) (n : ℕ) → AreWaiting callers → Moved (ReturnHasCause p.shapes s callers n) (returns p.shapes s callers n)
-  returns_moved s [] n h = tt
-  returns_moved s (caller ∷ callers) n h =
+  returns_moved : (s : State) (callers : List Caller) (n : ℕ) → AreThere p s.blocks → AreWaiting callers → Moved (ReturnHasCause p.shapes s callers n) (returns p.shapes s callers n)
+  returns_moved s [] n o h = tt
+  returns_moved s (caller ∷ callers) n o h =
       let u : State = record s { frame = caller.frame; callers = callers } in
       let C : Type 0 = HandingHasCause (record { shapes = p.shapes; blocks = s.blocks; locals = s.frame.entry }) s.frame.function.result caller.target n in
       comes_moved C [] (hands p.shapes u s.frame.function.result s.frame.entry caller.target n)
-      (fate_map C C (IsLater u) IsRunning (hands p.shapes u s.frame.function.result s.frame.entry caller.target n) (hands_fate p.shapes u s.frame.function.result s.frame.entry caller.target n) (λ c. c)
-      (λ v l. later_running u v (record { work = h.0; callers = h.1 }) l))
+      (fate_map C C (IsLater u) IsRunning (hands p.shapes u s.frame.function.result s.frame.entry caller.target n) (hands_fate p p.shapes u s.frame.function.result s.frame.entry caller.target n o h.1) (λ c. c)
+      (λ v l. later_running u v (record { work = h.0; callers = h.2; blocks = o }) l))
 
   -- ---- steps
 
@@ -116,16 +124,16 @@ module _ (p : Program) (formed : IsWellFormed p) where
 
   gets_moved : (s : State) (to : Place) (input : List ℕ) → IsPlaced s.blocks to → IsRunning s → Moved ⊥ (gets s to input)
   gets_moved s to [] placed h = written_moved (Got None ∷ []) to (2 ^ 32 - 1) s placed h
-  gets_moved s to (b ∷ rest) placed h = written_moved (Got (Some b) ∷ []) to b (record s { input = rest }) placed (record { work = h.work; callers = h.callers })
+  gets_moved s to (b ∷ rest) placed h = written_moved (Got (Some b) ∷ []) to b (record s { input = rest }) placed (record { work = h.work; callers = h.callers; blocks = h.blocks })
 
   assigns_moved : (s : State) (assigns : List (Target × Right)) → AreWellFormedAssigns p assigns → IsRunning s → Moved (AssignHasCause p.shapes s assigns) (comes_to [] (bundled p.shapes s assigns))
   assigns_moved s assigns w h =
       let C : Type 0 = AssignHasCause p.shapes s assigns in
-      comes_moved C [] (bundled p.shapes s assigns) (fate_map C C (IsLater s) IsRunning (bundled p.shapes s assigns) (bundled_fate p p.shapes s assigns w) (λ c. c) (λ u l. later_running s u h l))
+      comes_moved C [] (bundled p.shapes s assigns) (fate_map C C (IsLater s) IsRunning (bundled p.shapes s assigns) (bundled_fate p p.shapes s assigns h.blocks w) (λ c. c) (λ u l. later_running s u h l))
 
   -- a condition, or another value on which it depends how the run goes on
-  value_moved : (s : State) (e : Expr) (f : Value → Move Event State) → IsWellFormedExpr p e → ((v : Value) → Moved ⊥ (f v)) → Moved (HasCause (store_of p.shapes s) e) (and_moves (evaluated (store_of p.shapes s) e) f)
-  value_moved s e f w next = first_moved (HasCause (store_of p.shapes s) e) Any (evaluated (store_of p.shapes s) e) f (evaluated_fate p p.shapes s e w) (λ v u. next v)
+  value_moved : (s : State) (e : Expr) (f : Value → Move Event State) → AreThere p s.blocks → IsWellFormedExpr p e → ((v : Value) → Moved ⊥ (f v)) → Moved (HasCause (store_of p.shapes s) e) (and_moves (evaluated (store_of p.shapes s) e) f)
+  value_moved s e f o w next = first_moved (HasCause (store_of p.shapes s) e) Any (evaluated (store_of p.shapes s) e) f (evaluated_fate p p.shapes s e o w) (λ v u. next v)
 
   if_moved : (b : Bool) (one two : Move Event State) → Moved ⊥ one → Moved ⊥ two → Moved ⊥ (if b then one else two)
   if_moved true one two h k = h
@@ -144,36 +152,36 @@ module _ (p : Program) (formed : IsWellFormed p) where
       assigns_moved (at_work s (Rest rest ∷ work)) ((target, right) ∷ []) (f.0.0, f.0.1, tt) (at_running s (Rest rest ∷ work) h ((f.0.2, f.1), w))
   acts_moved s work (Bundle spot assigns rest) h a f w = assigns_moved (at_work s (Rest rest ∷ work)) assigns f.0.0 (at_running s (Rest rest ∷ work) h ((f.0.1, f.1), w))
   acts_moved s work (Get spot target rest) h a f w =
-      first_moved (TargetHasCause (store_of p.shapes s) target) (IsPlaced s.blocks) (aimed (store_of p.shapes s) target) (λ to. gets (at_work s (Rest rest ∷ work)) to s.input) (aimed_fate p p.shapes s target f.0.0)
+      first_moved (TargetHasCause (store_of p.shapes s) target) (IsPlaced s.blocks) (aimed (store_of p.shapes s) target) (λ to. gets (at_work s (Rest rest ∷ work)) to s.input) (aimed_fate p p.shapes s target h.blocks f.0.0)
       (λ to placed. gets_moved (at_work s (Rest rest ∷ work)) to s.input placed (at_running s (Rest rest ∷ work) h ((f.0.1, f.1), w)))
   acts_moved s work (Put spot target e rest) h a f w =
       then_moved (TargetHasCause (store_of p.shapes s) target) (IsPlaced s.blocks) (λ to. HasCause (store_of p.shapes s) e) (aimed (store_of p.shapes s) target)
-      (λ to. and_moves (evaluated (store_of p.shapes s) e) (λ v. puts (at_work s (Rest rest ∷ work)) to v.number)) (aimed_fate p p.shapes s target f.0.0) (λ to is placed.
-      value_moved s e (λ v. puts (at_work s (Rest rest ∷ work)) to v.number) f.0.1
+      (λ to. and_moves (evaluated (store_of p.shapes s) e) (λ v. puts (at_work s (Rest rest ∷ work)) to v.number)) (aimed_fate p p.shapes s target h.blocks f.0.0) (λ to is placed.
+      value_moved s e (λ v. puts (at_work s (Rest rest ∷ work)) to v.number) h.blocks f.0.1
       (λ v. written_moved (Puts (v.number % 256) ∷ []) to (v.number % 256) (at_work s (Rest rest ∷ work)) placed (at_running s (Rest rest ∷ work) h ((f.0.2, f.1), w))))
   acts_moved s work (Call spot target callee es rest) h a f w =
       then_moved (OneHasCause (store_of p.shapes s) es) Any (EntryHasCause p (at_work s (Rest rest ∷ work)) target callee) (all_evaluated (store_of p.shapes s) es)
-      (calls p (at_work s (Rest rest ∷ work)) target callee spot.at) (arguments_fate p p.shapes s es f.0.2)
-      (λ values is u. calls_moved (at_work s (Rest rest ∷ work)) target callee spot.at values _ f.0.1 (at_running s (Rest rest ∷ work) h ((f.0.3, f.1), w)))
+      (calls p (at_work s (Rest rest ∷ work)) target callee spot.at) (arguments_fate p p.shapes s es h.blocks f.0.2)
+      (λ values is u. calls_moved (at_work s (Rest rest ∷ work)) target callee spot.at values _ f.0.1 f.0.0 (at_running s (Rest rest ∷ work) h ((f.0.3, f.1), w)))
   acts_moved s work (If spot e one two rest) h a f w =
-      value_moved s e (λ v. Goes [] (at_work s (Rest (if v.number == 0 then two else one) ∷ Rest rest ∷ work))) f.0.0
+      value_moved s e (λ v. Goes [] (at_work s (Rest (if v.number == 0 then two else one) ∷ Rest rest ∷ work))) h.blocks f.0.0
       (λ v. at_running s (Rest (if v.number == 0 then two else one) ∷ Rest rest ∷ work) h (chosen_formed (v.number == 0) one two (f.0.1, f.1.0) (f.0.2, f.1.1), ((f.0.3, f.1.2), w)))
   acts_moved s work (Loop spot e body step rest) h a f w =
-      value_moved s e (λ v. Goes [] (at_work s (if v.number == 0 then Rest rest ∷ work else Rest body ∷ Turn (Loop spot e body step rest) ∷ work))) f.0.0
+      value_moved s e (λ v. Goes [] (at_work s (if v.number == 0 then Rest rest ∷ work else Rest body ∷ Turn (Loop spot e body step rest) ∷ work))) h.blocks f.0.0
       (λ v. at_running s (if v.number == 0 then Rest rest ∷ work else Rest body ∷ Turn (Loop spot e body step rest) ∷ work) h
       (looped_formed (v.number == 0) (Rest rest ∷ work) (Rest body ∷ Turn (Loop spot e body step rest) ∷ work) ((f.0.3, f.1.3), w) ((f.0.1, f.1.1), (tt, f, w))))
   acts_moved s work (Return spot e rest) h a f w =
       then_moved (HasCause (store_of p.shapes s) e) Any (λ v. ReturnHasCause p.shapes s s.callers v.number) (evaluated (store_of p.shapes s) e) (λ v. returns p.shapes s s.callers v.number)
-      (evaluated_fate p p.shapes s e f.0.0) (λ v is u. returns_moved s s.callers v.number h.callers)
+      (evaluated_fate p p.shapes s e h.blocks f.0.0) (λ v is u. returns_moved s s.callers v.number h.blocks h.callers)
   acts_moved s work (Check spot e rest) h a f w =
-      value_moved s e (λ v. if v.number == 0 then Halts [] (standing.Stopped check.Dynamic spot.at) else Goes [] (at_work s (Rest rest ∷ work))) f.0.0
+      value_moved s e (λ v. if v.number == 0 then Halts [] (standing.Stopped check.Dynamic spot.at) else Goes [] (at_work s (Rest rest ∷ work))) h.blocks f.0.0
       (λ v. if_moved (v.number == 0) (Halts [] (standing.Stopped check.Dynamic spot.at)) (Goes [] (at_work s (Rest rest ∷ work))) tt (at_running s (Rest rest ∷ work) h ((f.0.1, f.1), w)))
   acts_moved s work End h a f w = absurd a
   acts_moved s work (Break rest) h a f w = absurd a
   acts_moved s work (Continue rest) h a f w = absurd a
 
   works_moved : (s : State) (work : List Work) → IsRunning s → AreReady p work → Moved (WorkHasCause p s work) (works p s work)
-  works_moved s [] h r = returns_moved s s.callers 0 h.callers
+  works_moved s [] h r = returns_moved s s.callers 0 h.blocks h.callers
   works_moved s (Rest c ∷ work) h r = acts_moved s work c h r.0 r.1 r.2
   works_moved s (Turn c ∷ work) h r = absurd r
 
@@ -205,6 +213,7 @@ module _ (p : Program) (formed : IsWellFormed p) where
       by (Some f) is there = record {
         work = ((all_get (HasWellFormedBody p) p.functions p.main f formed.bodies is, all_get HasStepsInBody p.functions p.main f formed.steps is), tt);
         callers = tt;
+        blocks = kept_itself (map block_of p.objects);
       }
       by None is there = absurd there
 

@@ -1,5 +1,5 @@
 -- An expression of a well formed program that is stuck is stuck for a cause.
-use Rattle.std.proofs.Common.{◌≡◌, ◌⊎◌, ◌∙◌, inl, inr, refl, sym, ap, ℕ, Bool, true, false}
+use Rattle.std.proofs.Common.{◌≡◌, ◌⊎◌, ◌∙◌, inl, inr, refl, sym, ap, subst, ℕ, Bool, true, false}
 use Rattle.std.specs.Prelude.{◌≢◌, ◌==◌, ◌&&◌, ◌||◌, ◌-◌, ◌%◌, ◌+ℤ◌, if◌then◌else◌, ℤ, pos, List, [], ◌∷◌, slice_index, Option, Some, None, Result, Ok, Err}
 use Rattle.std.specs.List.{list_any}
 use Rattle.std.proofs.lemmas.Bool.{eqb-true}
@@ -16,6 +16,8 @@ use Rattle.ckc_source.specs.declared.expr.Limits.{Limits}
 use Rattle.ckc_source.specs.declared.expr.Operation.{Operation}
 use Rattle.ckc_source.specs.declared.expr.Pointee.{Pointee}
 use Rattle.ckc_source.specs.declared.expr.Shift.{Shift}
+use Rattle.ckc_source.specs.declared.expr.Through.{Through}
+use Rattle.ckc_source.specs.declared.expr.Through.TheVariants as through
 use Rattle.ckc_source.specs.declared.outcome.Halt.{Halt}
 use Rattle.ckc_source.specs.declared.outcome.Halt.TheVariants.{Stuck}
 use Rattle.ckc_source.specs.declared.outcome.Range.{Range}
@@ -23,10 +25,10 @@ use Rattle.ckc_source.specs.declared.outcome.Range.TheVariants.{Without}
 use Rattle.ckc_source.specs.declared.outcome.Value.{Value}
 use Rattle.ckc_source.specs.Blocks.{Block, found, has, number_at, is_aligned, lies_in, loaded}
 use Rattle.ckc_source.specs.Code.{Expr, Number, Local, Limited, Array, Load, Member, Address, Moved, Added, Binary, And, Or, Choice, Narrow, Bare, Tested, Trusted, Program}
-use Rattle.ckc_source.specs.Eval.{Store, given, given_both, given_some, stops, plain, ranged, spanned, reads_within, reads, at_address, end_address, reads_limited, element, place_in, loads, counted, loads_pointer, moved_exactly, moves_checked, moves, operates, tests, trusts, accessed, evaluated, all_evaluated}
+use Rattle.ckc_source.specs.Eval.{Store, given, given_both, given_some, stops, plain, ranged, spanned, reads_within, reads, at_address, end_address, reads_limited, element, element_through, place_in, loads, counted, loads_pointer, moved_exactly, moves_checked, moves, operates, tests, trusts, accessed, evaluated, all_evaluated}
 use Rattle.ckc_source.specs.Words.{exact, width_of, as_address, elements_behind, truth, computed, divides}
-use Rattle.ckc_source_causes.specs.WellFormed.{IsWellFormedAccess, IsWellFormedExpr, AreWellFormed}
-use Rattle.ckc_source_causes.specs.Causes.{IsNowhere, IsTrueRange, IsUntrue, HasUntrueLimits, Then, HasNoCount, IsNoPointer, OfBoth, AtElement, HasCause, OneHasCause}
+use Rattle.ckc_source_causes.specs.WellFormed.{HasRoom, HasRoomForCount, IsWellFormedAccess, IsWellFormedExpr, AreWellFormed}
+use Rattle.ckc_source_causes.specs.Causes.{HoldsObjects, IsNowhere, IsTrueRange, IsUntrue, HasUntrueLimits, Then, HasNoCount, IsNoPointer, OfBoth, AtElement, HasCause, OneHasCause}
 use Rattle.ckc_source_causes.proofs.Given.{given_value, judged, cast_judged}
 
 no_zero : true ≡ false → ⊥
@@ -95,35 +97,45 @@ untrue s to n low high e = (not_null, not_true)
 pub untrue_limits : (s : Store) (limits : Limits) (n : ℕ) → IsStuck (reads_limited s limits n) → HasUntrueLimits s limits n
 untrue_limits s limits n e = untrue s limits.to n (end_address s.locals limits.to.size n limits.lower) (end_address s.locals limits.to.size n limits.upper) e
 
-loads_nowhere : (s : Store) (width : Width) (a : ℕ) → IsStuck (loads s width a) → IsNowhere s width a
+loads_nowhere : (s : Store) (width : Width) (a : ℕ) → IsStuck (loads s width a) → lies_in width a s.blocks ≡ false
 loads_nowhere s width a e = by (stuck_some (loaded width a s.blocks) plain e)
   where
-    by : (loaded width a s.blocks ≡ None) ⊎ ((v : ℕ) × (loaded width a s.blocks ≡ Some v) × IsStuck (plain v)) → IsNowhere s width a
+    by : (loaded width a s.blocks ≡ None) ⊎ ((v : ℕ) × (loaded width a s.blocks ≡ Some v) × IsStuck (plain v)) → lies_in width a s.blocks ≡ false
     by (inl none) = unloaded width a s.blocks none
     by (inr some) = no_stuck some.2
 
-no_count : (s : Store) (begin : ℕ) (many : Count) → IsStuck (counted s begin many) → HasNoCount s begin many
-no_count s begin (count.Fixed n) e = no_stuck e
-no_count s begin (count.Member offset form add) e = by (loaded (width_of form) (place_in begin offset) s.blocks) refl e
+-- an access that no block has is nowhere
+abbrev pub Misses : Store → Through → Width → ℕ → Type 0
+Misses s how width a = lies_in width a s.blocks ≡ false → IsNowhere s how width a
+
+-- the same of the member that keeps a number of elements
+abbrev CountMisses : Store → Through → ℕ → Count → Type 0
+CountMisses s how begin (count.Fixed n) = Unit {0}
+CountMisses s how begin (count.Member offset form add) = Misses s how (width_of form) (place_in begin offset)
+
+no_count : (s : Store) (how : Through) (begin : ℕ) (many : Count) → CountMisses s how begin many → IsStuck (counted s begin many) → HasNoCount s how begin many
+no_count s how begin (count.Fixed n) miss e = no_stuck e
+no_count s how begin (count.Member offset form add) miss e = by (loaded (width_of form) (place_in begin offset) s.blocks) refl e
   where
-    by : (o : Option ℕ) → loaded (width_of form) (place_in begin offset) s.blocks ≡ o → IsStuck (given_some o (λ m. Ok (exact form m +ℤ add))) → HasNoCount s begin (count.Member offset form add)
-    by None is f = unloaded (width_of form) (place_in begin offset) s.blocks is
+    by : (o : Option ℕ) → loaded (width_of form) (place_in begin offset) s.blocks ≡ o → IsStuck (given_some o (λ m. Ok (exact form m +ℤ add))) → HasNoCount s how begin (count.Member offset form add)
+    by None is f = miss (unloaded (width_of form) (place_in begin offset) s.blocks is)
     by (Some m) is f = no_stuck f
 
 -- a pointer that memory has is read
 abbrev pub pointed : Store → Pointee → Count → ℕ → ℕ → Result Value Halt
 pointed s to many begin n = given (counted s begin many) (λ m. reads s.shapes s.blocks to n (pos n) (elements_behind n to.size m))
 
-no_pointer : (s : Store) (to : Pointee) (many : Count) (begin a : ℕ) → IsStuck (loads_pointer s to many begin a) → IsNoPointer s to many begin a
-no_pointer s to many begin a e = by (stuck_some (loaded Word a s.blocks) _ e)
+no_pointer : (s : Store) (how : Through) (to : Pointee) (many : Count) (begin a : ℕ) → Misses s how Word a → CountMisses s how begin many → IsStuck (loads_pointer s to many begin a)
+    → IsNoPointer s how to many begin a
+no_pointer s how to many begin a miss lacks e = by (stuck_some (loaded Word a s.blocks) _ e)
   where
-    by : (loaded Word a s.blocks ≡ None) ⊎ ((n : ℕ) × (loaded Word a s.blocks ≡ Some n) × IsStuck (pointed s to many begin n)) → IsNoPointer s to many begin a
-    by (inl none) = inl (unloaded Word a s.blocks none)
+    by : (loaded Word a s.blocks ≡ None) ⊎ ((n : ℕ) × (loaded Word a s.blocks ≡ Some n) × IsStuck (pointed s to many begin n)) → IsNoPointer s how to many begin a
+    by (inl none) = inl (miss (unloaded Word a s.blocks none))
     by (inr some) =
         inr (
           some.0,
           some.1,
-          after (counted s begin many) _ (HasNoCount s begin many) (λ m. IsUntrue s to some.0 (pos some.0) (elements_behind some.0 to.size m)) (no_count s begin many)
+          after (counted s begin many) _ (HasNoCount s how begin many) (λ m. IsUntrue s to some.0 (pos some.0) (elements_behind some.0 to.size m)) (no_count s how begin many lacks)
               (λ m is f. untrue s to some.0 (pos some.0) (elements_behind some.0 to.size m) f) some.2,
         )
 
@@ -154,7 +166,43 @@ no_operates {X} operation is_signed at a b e = by (divides operation && (b == 0)
 
 -- ---- expressions
 
-module _ (p : Program) (s : Store) where
+module _ (p : Program) (s : Store) (holds : HoldsObjects p s) where
+  -- an access by name goes to the object that it names
+  pub named_is : (e : Expr) (v : Value) (width : Width) (offset a : ℕ) → HasRoom p through.Named width offset e → evaluated s e ≡ Ok v → ◌≡◌ {A = Result ℕ Halt} (Ok v.number) (Ok a) → lies_in width (place_in a offset) s.blocks ≡ true
+  named_is (Number n) v width offset a room is goes =
+      let number : n ≡ v.number = cc in
+      let at : v.number ≡ a = cc in
+      subst (λ x. lies_in width (place_in x offset) s.blocks ≡ true) (number ∙ at) (holds width (place_in n offset) room)
+  named_is (Local x) v width offset a room is goes = absurd room
+  named_is (Limited x limits) v width offset a room is goes = absurd room
+  named_is (Array at bytes) v width offset a room is goes = absurd room
+  named_is (Load w access e i) v width offset a room is goes = absurd room
+  named_is (Member to many access e i) v width offset a room is goes = absurd room
+  named_is (Address bytes access e i) v width offset a room is goes = absurd room
+  named_is (Moved shift e i) v width offset a room is goes = absurd room
+  named_is (Added shift i e) v width offset a room is goes = absurd room
+  named_is (Binary operation is_signed at b c) v width offset a room is goes = absurd room
+  named_is (And b c) v width offset a room is goes = absurd room
+  named_is (Or b c) v width offset a room is goes = absurd room
+  named_is (Choice b c d) v width offset a room is goes = absurd room
+  named_is (Narrow e) v width offset a room is goes = absurd room
+  named_is (Bare e) v width offset a room is goes = absurd room
+  named_is (Tested size form at e k) v width offset a room is goes = absurd room
+  named_is (Trusted to form e k) v width offset a room is goes = absurd room
+
+  pub misses : (how : Through) (access : Access) (e : Expr) (v : Value) (i : ℕ) (width : Width) (offset a : ℕ) → HasRoom p how width offset e → evaluated s e ≡ Ok v → element_through how access v i ≡ Ok a
+      → Misses s how width (place_in a offset)
+  misses through.Named access e v i width offset a room is goes none = no_zero (sym (named_is e v width offset a room is goes) ∙ none)
+  misses through.Raw access e v i width offset a room is goes none = none
+  misses through.One access e v i width offset a room is goes none = none
+  misses through.Array access e v i width offset a room is goes none = none
+  misses through.Terminated access e v i width offset a room is goes none = none
+
+  count_misses : (many : Count) (access : Access) (e : Expr) (v : Value) (i a : ℕ) → HasRoomForCount p access.through many e → evaluated s e ≡ Ok v → element access v i ≡ Ok a
+      → CountMisses s access.through a many
+  count_misses (count.Fixed n) access e v i a room is goes = tt
+  count_misses (count.Member offset form add) access e v i a room is goes = misses access.through access e v i (width_of form) offset a room is goes
+
   -- of two parts
   both : (e f : Expr) (go : Value → Value → Result Value Halt) (P : Value → Value → Type 0) → (IsStuck (evaluated s e) → HasCause s e) → (IsStuck (evaluated s f) → HasCause s f)
       → ((v k : Value) → evaluated s e ≡ Ok v → IsStuck (go v k) → P v k) → IsStuck (given_both (evaluated s e) (evaluated s f) go) → OfBoth s e f (HasCause s e) (HasCause s f) P
@@ -164,13 +212,14 @@ module _ (p : Program) (s : Store) where
 
   -- an access whose address is judged
   reached : (access : Access) (e i : Expr) (go : ℕ → Result Value Halt) (P : ℕ → Type 0) → IsWellFormedAccess p access.through e → (IsStuck (evaluated s e) → HasCause s e) → (IsStuck (evaluated s i) → HasCause s i)
-      → ((a : ℕ) → IsStuck (go a) → P a) → IsStuck (accessed access (evaluated s e) (evaluated s i) go) → OfBoth s e i (HasCause s e) (HasCause s i) (λ v k. AtElement access v k P)
+      → ((v : Value) (k a : ℕ) → evaluated s e ≡ Ok v → element access v k ≡ Ok a → IsStuck (go a) → P a) → IsStuck (accessed access (evaluated s e) (evaluated s i) go)
+      → OfBoth s e i (HasCause s e) (HasCause s i) (λ v k. AtElement access v k P)
   reached access e i go P formed first second last is =
       both e i (λ v k. given (element access v k.number) go) (λ v k. AtElement access v k P) first second (λ v k there x. by v k there (stuck_given (element access v k.number) go x)) is
     where
       by : (v k : Value) → evaluated s e ≡ Ok v → IsStuck (element access v k.number) ⊎ Then (element access v k.number) (λ a. IsStuck (go a)) → AtElement access v k P
       by v k there (inl x) = absurd (judged p s e v access.through access k.number formed there x)
-      by v k there (inr x) = (x.0, x.1, last x.0 x.2)
+      by v k there (inr x) = (x.0, x.1, last v k.number x.0 there x.1 x.2)
 
   -- an address is not read
   addressed : (access : Access) (e i : Expr) → OfBoth s e i (HasCause s e) (HasCause s i) (λ v k. AtElement access v k (λ a. ⊥)) → OfBoth s e i (HasCause s e) (HasCause s i) (λ v k. ⊥)
@@ -210,13 +259,14 @@ module _ (p : Program) (s : Store) where
   has_cause (Limited x limits) w is = untrue_limits s limits (slice_index s.locals x) is
   has_cause (Array at bytes) w is = no_stuck is
   has_cause (Load width access e i) w is =
-      reached access e i (λ a. loads s width (place_in a access.offset)) (λ a. IsNowhere s width (place_in a access.offset)) w.0 (has_cause e w.1) (has_cause i w.2)
-      (λ a x. loads_nowhere s width (place_in a access.offset) x) is
+      reached access e i (λ a. loads s width (place_in a access.offset)) (λ a. IsNowhere s access.through width (place_in a access.offset)) w.0.0 (has_cause e w.1) (has_cause i w.2)
+      (λ v k a there goes x. misses access.through access e v k width access.offset a w.0.1 there goes (loads_nowhere s width (place_in a access.offset) x)) is
   has_cause (Member to many access e i) w is =
-      reached access e i (λ a. loads_pointer s to many a (place_in a access.offset)) (λ a. IsNoPointer s to many a (place_in a access.offset)) w.0 (has_cause e w.1) (has_cause i w.2)
-      (λ a x. no_pointer s to many a (place_in a access.offset) x) is
+      reached access e i (λ a. loads_pointer s to many a (place_in a access.offset)) (λ a. IsNoPointer s access.through to many a (place_in a access.offset)) w.0.0.0 (has_cause e w.1) (has_cause i w.2)
+      (λ v k a there goes x.
+      no_pointer s access.through to many a (place_in a access.offset) (misses access.through access e v k Word access.offset a w.0.0.1 there goes) (count_misses many access e v k a w.0.1 there goes) x) is
   has_cause (Address bytes access e i) w is =
-      addressed access e i (reached access e i (λ a. spanned (place_in a access.offset) bytes) (λ a. ⊥) w.0 (has_cause e w.1) (has_cause i w.2) (λ a x. no_stuck x) is)
+      addressed access e i (reached access e i (λ a. spanned (place_in a access.offset) bytes) (λ a. ⊥) w.0 (has_cause e w.1) (has_cause i w.2) (λ v k a there goes x. no_stuck x) is)
   has_cause (Moved shift e i) w is = both e i (λ v k. moves shift v k.number) (λ v k. ⊥) (has_cause e w.0) (has_cause i w.1) (λ v k there x. no_moves shift v k.number x) is
   has_cause (Added shift i e) w is = both i e (λ k v. moves shift v k.number) (λ k v. ⊥) (has_cause i w.0) (has_cause e w.1) (λ k v there x. no_moves shift v k.number x) is
   has_cause (Binary operation is_signed at a b) w is =

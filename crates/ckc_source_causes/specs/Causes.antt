@@ -1,5 +1,5 @@
--- Why a step of a program is stuck (Checked C specification 0.9, section 3): it goes to what no block has, or it reads a
--- checked pointer whose bounds are not true. Parts are asked for from left to right, each only where those before it have a
+-- Why a step of a program is stuck (Checked C specification 0.9, section 3): it goes through a pointer to what no block has, or
+-- it reads a checked pointer whose bounds are not true. Parts are asked for from left to right, each only where those before it have a
 -- value.
 use Rattle.std.specs.Prelude.{◌≡◌, ◌≢◌, ◌⊎◌, ℕ, ℤ, pos, true, false, List, [], ◌∷◌, slice_index, slice_get, Option, Some, None, Result, Ok}
 use Rattle.ckc_base.specs.declared.arithmetic.Width.{Width}
@@ -11,12 +11,13 @@ use Rattle.ckc_source.specs.declared.expr.Count.{Count}
 use Rattle.ckc_source.specs.declared.expr.Count.TheVariants as count
 use Rattle.ckc_source.specs.declared.expr.Limits.{Limits}
 use Rattle.ckc_source.specs.declared.expr.Pointee.{Pointee}
+use Rattle.ckc_source.specs.declared.expr.Through.{Through}
+use Rattle.ckc_source.specs.declared.expr.Through.TheVariants as through
 use Rattle.ckc_source.specs.declared.outcome.Halt.{Halt}
 use Rattle.ckc_source.specs.declared.outcome.Value.{Value}
 use Rattle.ckc_source.specs.declared.program.Interface.{Interface}
 use Rattle.ckc_source.specs.declared.program.Shape.{Shape}
 use Rattle.ckc_source.specs.declared.stmt.Kept.{Kept}
-use Rattle.ckc_source.specs.declared.stmt.Kept.TheVariants as kept
 use Rattle.ckc_source.specs.Blocks.{lies_in, loaded}
 use Rattle.ckc_source.specs.Code.{Expr, Number, Local, Limited, Array, Load, Member, Address, Moved, Added, Binary, And, Or, Choice, Narrow, Bare, Tested, Trusted, Target, Nothing, Variable, Memory, Right, Fresh, Code, End, Assign, Bundle, Get, Put, Call, If, Loop, Break, Continue, Return, Check, Program}
 use Rattle.ckc_source.specs.Code as code
@@ -26,12 +27,14 @@ use Rattle.ckc_source.specs.Source.{first_state, source, source_system}
 use Rattle.ckc_source.specs.States.{Work, Rest, Turn, Caller, State, settled}
 use Rattle.ckc_source.specs.Steps.{store_of, aimed, allowed, drawn, at_work, in_call}
 use Rattle.ckc_source.specs.Words.{exact, width_of, elements_behind}
+use Rattle.ckc_source_causes.specs.WellFormed.{LiesInObject}
 
 -- ---- the two causes
 
--- An access at an address is misaligned, or lies in no block.
-abbrev pub IsNowhere : Store → Width → ℕ → Type 0
-IsNowhere s width a = lies_in width a s.blocks ≡ false
+-- An access through a pointer, at an address, is misaligned or lies in no block. One by name always lies in its object.
+abbrev pub IsNowhere : Store → Through → Width → ℕ → Type 0
+IsNowhere s through.Named width a = ⊥
+IsNowhere s how width a = lies_in width a s.blocks ≡ false
 
 -- the range from one address to another is that of a pointer n into some run of elements
 abbrev pub IsTrueRange : Store → Pointee → ℕ → ℤ → ℤ → Type 0
@@ -54,16 +57,16 @@ Then {A} r P = (v : A) × (r ≡ Ok v) × P v
 -- ---- expressions
 
 -- the number of elements of a pointer is kept by a member of the structure that begins there, and that lies nowhere
-abbrev pub HasNoCount : Store → ℕ → Count → Type 0
-HasNoCount s begin (count.Fixed n) = ⊥
-HasNoCount s begin (count.Member offset form add) = IsNowhere s (width_of form) (place_in begin offset)
+abbrev pub HasNoCount : Store → Through → ℕ → Count → Type 0
+HasNoCount s how begin (count.Fixed n) = ⊥
+HasNoCount s how begin (count.Member offset form add) = IsNowhere s how (width_of form) (place_in begin offset)
 
 -- A pointer in memory cannot be read: it lies nowhere, or the number of its elements does, or its range is not true.
-abbrev pub IsNoPointer : Store → Pointee → Count → (begin a : ℕ) → Type 0
-IsNoPointer s to many begin a =
-    IsNowhere s Word a
+abbrev pub IsNoPointer : Store → Through → Pointee → Count → (begin a : ℕ) → Type 0
+IsNoPointer s how to many begin a =
+    IsNowhere s how Word a
     ⊎ ((n : ℕ) × (loaded Word a s.blocks ≡ Some n)
-    × (HasNoCount s begin many ⊎ Then (counted s begin many) (λ m. IsUntrue s to n (pos n) (elements_behind n to.size m))))
+    × (HasNoCount s how begin many ⊎ Then (counted s begin many) (λ m. IsUntrue s to n (pos n) (elements_behind n to.size m))))
 
 -- Of two parts the first one is stuck for a cause, or the second one is, or this holds of their values.
 abbrev pub OfBoth : Store → (e f : Expr) → (C D : Type 0) → (Value → Value → Type 0) → Type 0
@@ -80,10 +83,10 @@ HasCause s (Local x) = ⊥
 HasCause s (Limited x limits) = HasUntrueLimits s limits (slice_index s.locals x)
 HasCause s (Array at bytes) = ⊥
 HasCause s (Load width access p i) =
-    OfBoth s p i (HasCause s p) (HasCause s i) (λ v k. AtElement access v k (λ a. IsNowhere s width (place_in a access.offset)))
+    OfBoth s p i (HasCause s p) (HasCause s i) (λ v k. AtElement access v k (λ a. IsNowhere s access.through width (place_in a access.offset)))
 HasCause s (Member to many access p i) =
     OfBoth s p i (HasCause s p) (HasCause s i)
-    (λ v k. AtElement access v k (λ a. IsNoPointer s to many a (place_in a access.offset)))
+    (λ v k. AtElement access v k (λ a. IsNoPointer s access.through to many a (place_in a access.offset)))
 HasCause s (Address bytes access p i) = OfBoth s p i (HasCause s p) (HasCause s i) (λ v k. ⊥)
 HasCause s (Moved shift p i) = OfBoth s p i (HasCause s p) (HasCause s i) (λ v k. ⊥)
 HasCause s (Added shift i p) = OfBoth s i p (HasCause s i) (HasCause s p) (λ v k. ⊥)
@@ -111,7 +114,7 @@ abbrev pub TargetHasCause : Store → Target → Type 0
 TargetHasCause s Nothing = ⊥
 TargetHasCause s (Variable x width) = ⊥
 TargetHasCause s (Memory width access p i) =
-    OfBoth s p i (HasCause s p) (HasCause s i) (λ v k. AtElement access v k (λ a. IsNowhere s width (place_in a access.offset)))
+    OfBoth s p i (HasCause s p) (HasCause s i) (λ v k. AtElement access v k (λ a. IsNowhere s access.through width (place_in a access.offset)))
 
 -- what is assigned
 abbrev pub RightHasCause : Store → Right → Type 0
@@ -146,16 +149,10 @@ abbrev pub ResultHasCause : Store → Option Limits → ℕ → Type 0
 ResultHasCause s None n = ⊥
 ResultHasCause s (Some limits) n = HasUntrueLimits s limits n
 
--- the result of a call goes to a static object that lies nowhere
-abbrev pub IsKeptNowhere : Store → Kept → Type 0
-IsKeptNowhere s (kept.Local x width) = ⊥
-IsKeptNowhere s (kept.Static a width) = IsNowhere s width a
-
--- A result goes to where its caller keeps it: its limits are not true, with the values that the parameters had at the entry,
--- or that place lies nowhere.
+-- A result goes to where its caller keeps it: its limits are not true, with the values that the parameters had at the entry.
 abbrev pub HandingHasCause : Store → Option Limits → Option Kept → ℕ → Type 0
 HandingHasCause s limits None n = ⊥
-HandingHasCause s limits (Some target) n = ResultHasCause s limits n ⊎ IsKeptNowhere s target
+HandingHasCause s limits (Some target) n = ResultHasCause s limits n
 
 -- a call returns a value to the call that waits for it
 abbrev pub ReturnHasCause : List Shape → State → List Caller → ℕ → Type 0
@@ -192,6 +189,10 @@ abbrev pub WorkHasCause : Program → State → List Work → Type 0
 WorkHasCause p s [] = ReturnHasCause p.shapes s s.callers 0
 WorkHasCause p s (Rest rest ∷ work) = StatementHasCause p s work rest
 WorkHasCause p s (Turn rest ∷ work) = ⊥
+
+-- What lies in an object of the program lies in a block of the store.
+abbrev pub HoldsObjects : Program → Store → Type 0
+HoldsObjects p s = (width : Width) (a : ℕ) → LiesInObject p width a → lies_in width a s.blocks ≡ true
 
 -- The next step of a state is stuck for a cause.
 abbrev pub IsStuckForCause : Program → State → Type 0

@@ -1,15 +1,24 @@
 -- Programs that are well formed: what an access, a bounds cast or a call names is there. An access through a checked
 -- pointer, and a cast that tests bounds, has a pointer that is null or has a range; an access by name goes to an object of
--- the program; a call names a function and has as many arguments as that has parameters.
-use Rattle.std.specs.Prelude.{◌≡◌, ℕ, ◌≤◌, List, [], ◌∷◌, length, slice_get, Option, Some, None, All}
+-- the program, and what it reads or writes lies in it; a call names a function and has as many arguments as that has
+-- parameters.
+use Rattle.std.specs.Prelude.{◌≡◌, ℕ, ◌≤◌, true, List, [], ◌∷◌, map, length, slice_get, Option, Some, None, All}
 use Rattle.std.specs.List.{Contains}
+use Rattle.ckc_base.specs.declared.arithmetic.Width.{Width}
+use Rattle.ckc_base.specs.declared.arithmetic.Width.TheVariants.{Word}
 use Rattle.ckc_base.specs.Lists.{AreBytes}
 use Rattle.ckc_base.specs.MemoryMap.{first_place}
+use Rattle.ckc_source.specs.declared.expr.Access.{Access}
+use Rattle.ckc_source.specs.declared.expr.Count.{Count}
+use Rattle.ckc_source.specs.declared.expr.Count.TheVariants as count
 use Rattle.ckc_source.specs.declared.expr.Through.{Through}
 use Rattle.ckc_source.specs.declared.expr.Through.TheVariants as through
 use Rattle.ckc_source.specs.declared.program.Object.{Object}
 use Rattle.ckc_source.specs.declared.stmt.Kept.{Kept}
 use Rattle.ckc_source.specs.declared.stmt.Kept.TheVariants as kept
+use Rattle.ckc_source.specs.Blocks.{block_of, lies_in}
+use Rattle.ckc_source.specs.Eval.{place_in}
+use Rattle.ckc_source.specs.Words.{width_of}
 use Rattle.ckc_source.specs.Code.{Expr, Number, Local, Limited, Array, Load, Member, Address, Moved, Added, Binary, And, Or, Choice, Narrow, Bare, Tested, Trusted, Target, Nothing, Variable, Memory, Right, Value, Fresh, Code, End, Assign, Bundle, Get, Put, Call, If, Loop, Break, Continue, Return, Check, Function, Program}
 use Rattle.ckc_source_causes.specs.Ranges.{GivesRange}
 
@@ -39,6 +48,31 @@ IsWellFormedAccess p through.One pointer = GivesRange pointer
 IsWellFormedAccess p through.Array pointer = GivesRange pointer
 IsWellFormedAccess p through.Terminated pointer = GivesRange pointer
 
+-- an access at an address is aligned and lies in an object of the program
+abbrev pub LiesInObject : Program → Width → ℕ → Type 0
+LiesInObject p width a = lies_in width a (map block_of p.objects) ≡ true
+
+-- the same of what lies so many bytes after the begin of the object that a pointer names
+abbrev pub LiesInNamed : Program → Width → ℕ → Expr → Type 0
+LiesInNamed p width offset (Number a) = LiesInObject p width (place_in a offset)
+LiesInNamed p width offset _ = ⊥
+
+-- What an access of a width reads or writes, so many bytes after the begin of its element, lies in an object if it goes there
+-- by name.
+abbrev pub HasRoom : Program → Through → Width → ℕ → Expr → Type 0
+HasRoom p through.Named width offset pointer = LiesInNamed p width offset pointer
+HasRoom p _ width offset pointer = Unit {0}
+
+-- so does the member that keeps the number of elements of a pointer
+abbrev pub HasRoomForCount : Program → Through → Count → Expr → Type 0
+HasRoomForCount p how (count.Fixed n) pointer = Unit {0}
+HasRoomForCount p how (count.Member offset form add) pointer = HasRoom p how (width_of form) offset pointer
+
+-- an access that is read or written
+abbrev pub IsWellFormedCell : Program → Width → Access → Expr → Type 0
+IsWellFormedCell p width access pointer =
+    IsWellFormedAccess p access.through pointer × HasRoom p access.through width access.offset pointer
+
 -- ---- expressions
 
 -- Each access in an expression is well formed, and each cast in it that tests bounds has a pointer that is null or has a
@@ -49,9 +83,9 @@ IsWellFormedExpr p (Local x) = Unit {0}
 IsWellFormedExpr p (Limited x limits) = Unit {0}
 IsWellFormedExpr p (Array at bytes) = Unit {0}
 IsWellFormedExpr p (Load width access e i) =
-    IsWellFormedAccess p access.through e × IsWellFormedExpr p e × IsWellFormedExpr p i
-IsWellFormedExpr p (Member to count access e i) =
-    IsWellFormedAccess p access.through e × IsWellFormedExpr p e × IsWellFormedExpr p i
+    IsWellFormedCell p width access e × IsWellFormedExpr p e × IsWellFormedExpr p i
+IsWellFormedExpr p (Member to many access e i) =
+    (IsWellFormedCell p Word access e × HasRoomForCount p access.through many e) × IsWellFormedExpr p e × IsWellFormedExpr p i
 IsWellFormedExpr p (Address bytes access e i) =
     IsWellFormedAccess p access.through e × IsWellFormedExpr p e × IsWellFormedExpr p i
 IsWellFormedExpr p (Moved shift e i) = IsWellFormedExpr p e × IsWellFormedExpr p i
@@ -77,7 +111,7 @@ abbrev pub IsWellFormedTarget : Program → Target → Type 0
 IsWellFormedTarget p Nothing = Unit {0}
 IsWellFormedTarget p (Variable x width) = Unit {0}
 IsWellFormedTarget p (Memory width access e i) =
-    IsWellFormedAccess p access.through e × IsWellFormedExpr p e × IsWellFormedExpr p i
+    IsWellFormedCell p width access e × IsWellFormedExpr p e × IsWellFormedExpr p i
 
 -- what is assigned
 abbrev pub IsWellFormedRight : Program → Right → Type 0
@@ -89,11 +123,11 @@ abbrev pub AreWellFormedAssigns : Program → List (Target × Right) → Type 0
 AreWellFormedAssigns p [] = Unit {0}
 AreWellFormedAssigns p (a ∷ rest) = IsWellFormedTarget p a.0 × IsWellFormedRight p a.1 × AreWellFormedAssigns p rest
 
--- The result of a call goes to a local, or to an object of the program.
+-- The result of a call goes to a local, or to an object of the program, and lies in it.
 abbrev pub IsWellFormedKept : Program → Option Kept → Type 0
 IsWellFormedKept p None = Unit {0}
 IsWellFormedKept p (Some (kept.Local x width)) = Unit {0}
-IsWellFormedKept p (Some (kept.Static a width)) = HasObjectAt p a
+IsWellFormedKept p (Some (kept.Static a width)) = LiesInObject p width a
 
 -- Statements and those after them are well formed. A call names a function of the program, with as many arguments as that
 -- has parameters.

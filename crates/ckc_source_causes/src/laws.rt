@@ -11,7 +11,7 @@ ghost use Rattle.ckc_source.specs.Code.{Expr, Program};
 ghost use Rattle.ckc_source.specs.Eval.{Store, evaluated, element_through, tests};
 ghost use Rattle.ckc_source_causes.specs.Ranges.{GivesRange, IsNullOrRanged};
 ghost use Rattle.ckc_source_causes.specs.WellFormed.{IsWellFormed, IsWellFormedAccess, IsWellFormedExpr};
-ghost use Rattle.ckc_source_causes.specs.Causes.{HasCause, IsStuckForCauseAlone};
+ghost use Rattle.ckc_source_causes.specs.Causes.{HasCause, HoldsObjects, IsStuckForCauseAlone};
 
 /// The value of an expression that gives a range, if it has one, is null or has a range. So an access of a well formed program
 /// is never stuck where its address is judged, and neither is the test of a bounds cast.
@@ -25,14 +25,14 @@ pub fn ranges_are_given()
         (k : ℕ) → GivesRange e → evaluated s e ≡ Ok v → tests size form at v k ≢ Err Stuck }
 {}
 
-/// An expression of a well formed program that is stuck is stuck for a cause.
+/// An expression of a well formed program that is stuck is stuck for a cause, where the objects of the program are.
 pub fn expressions_are_stuck_for_a_cause()
-    ensures { (p : Program) (s : Store) (e : Expr) → IsWellFormedExpr p e
+    ensures { (p : Program) (s : Store) (e : Expr) → HoldsObjects p s → IsWellFormedExpr p e
         → evaluated s e ≡ Err Stuck → HasCause s e }
 {}
 
-/// A run of a well formed program is stuck only for a cause: its next step goes to what no block has, or reads a checked pointer
-/// whose bounds are not true.
+/// A run of a well formed program is stuck only for a cause: its next step goes through a pointer to what no block has, or reads a
+/// checked pointer whose bounds are not true.
 pub fn runs_are_stuck_for_a_cause()
     ensures { (p : Program) → IsWellFormed p → IsStuckForCauseAlone p }
 {}
