@@ -1,7 +1,7 @@
--- Why a step of a program is stuck (Checked C specification 0.9, section 3): it goes through a pointer to what no block has, or
--- it reads a checked pointer whose bounds are not true. Parts are asked for from left to right, each only where those before it have a
+-- Why a step of a program is stuck (Checked C specification 0.9, section 3): it goes through a `T *` to what no block has, or it
+-- reads a checked pointer whose bounds are not true. Parts are asked for from left to right, each only where those before it have a
 -- value.
-use Rattle.std.specs.Prelude.{◌≡◌, ◌≢◌, ◌⊎◌, ℕ, ℤ, pos, true, false, List, [], ◌∷◌, slice_index, slice_get, Option, Some, None, Result, Ok}
+use Rattle.std.specs.Prelude.{◌≡◌, ◌≢◌, ◌⊎◌, ℕ, ◌≤◌, ◌%◌, All, ℤ, pos, true, false, List, [], ◌∷◌, slice_index, slice_get, Option, Some, None, Result, Ok}
 use Rattle.ckc_base.specs.declared.arithmetic.Width.{Width}
 use Rattle.ckc_base.specs.declared.arithmetic.Width.TheVariants.{Word}
 use Rattle.ckc_base.specs.States.{state_at}
@@ -18,7 +18,8 @@ use Rattle.ckc_source.specs.declared.outcome.Value.{Value}
 use Rattle.ckc_source.specs.declared.program.Interface.{Interface}
 use Rattle.ckc_source.specs.declared.program.Shape.{Shape}
 use Rattle.ckc_source.specs.declared.stmt.Kept.{Kept}
-use Rattle.ckc_source.specs.Blocks.{lies_in, loaded}
+use Rattle.ckc_base.specs.Memory.{data_end}
+use Rattle.ckc_source.specs.Blocks.{Block, end_of, first_place, lies_in, loaded}
 use Rattle.ckc_source.specs.Code.{Expr, Number, Local, Limited, Array, Load, Member, Address, Moved, Added, Binary, And, Or, Choice, Narrow, Bare, Tested, Trusted, Target, Nothing, Variable, Memory, Right, Fresh, Code, End, Assign, Bundle, Get, Put, Call, If, Loop, Break, Continue, Return, Check, Program}
 use Rattle.ckc_source.specs.Code as code
 use Rattle.ckc_source.specs.Eval.{Store, element, place_in, counted, end_address, reads_limited, evaluated, all_evaluated}
@@ -27,14 +28,16 @@ use Rattle.ckc_source.specs.Source.{first_state, source, source_system}
 use Rattle.ckc_source.specs.States.{Work, Rest, Turn, Caller, State, settled}
 use Rattle.ckc_source.specs.Steps.{store_of, aimed, allowed, drawn, at_work, in_call}
 use Rattle.ckc_source.specs.Words.{exact, width_of, elements_behind}
+use Rattle.ckc_source_causes.specs.Layouts.{Layout}
 use Rattle.ckc_source_causes.specs.WellFormed.{LiesInObject}
 
 -- ---- the two causes
 
--- An access through a pointer, at an address, is misaligned or lies in no block. One by name always lies in its object.
+-- An access through a `T *`, at an address, is misaligned or lies in no block. One by name always lies in its object, and one
+-- through a checked pointer in the range of that.
 abbrev pub IsNowhere : Store → Through → Width → ℕ → Type 0
-IsNowhere s through.Named width a = ⊥
-IsNowhere s how width a = lies_in width a s.blocks ≡ false
+IsNowhere s through.Raw width a = lies_in width a s.blocks ≡ false
+IsNowhere s _ width a = ⊥
 
 -- the range from one address to another is that of a pointer n into some run of elements
 abbrev pub IsTrueRange : Store → Pointee → ℕ → ℤ → ℤ → Type 0
@@ -190,9 +193,18 @@ WorkHasCause p s [] = ReturnHasCause p.shapes s s.callers 0
 WorkHasCause p s (Rest rest ∷ work) = StatementHasCause p s work rest
 WorkHasCause p s (Turn rest ∷ work) = ⊥
 
--- What lies in an object of the program lies in a block of the store.
-abbrev pub HoldsObjects : Program → Store → Type 0
-HoldsObjects p s = (width : Width) (a : ℕ) → LiesInObject p width a → lies_in width a s.blocks ≡ true
+-- A block lies in the data region at a multiple of 4, and its elements have the size of their type.
+pub record LiesInData (l : Layout) (b : Block) : Type 0 where
+  pub first : first_place ≤ b.base
+  pub at : b.base % 4 ≡ 0
+  pub below : end_of b ≤ data_end
+  pub size : b.size ≡ l.size b.element
+
+-- A store holds the objects of the program: what lies in one lies in a block of the store. All its blocks lie in the data region.
+pub record HoldsObjects (p : Program) (l : Layout) (s : Store) : Type 0 where
+  pub shapes : s.shapes ≡ p.shapes
+  pub objects : (width : Width) (a : ℕ) → LiesInObject p width a → lies_in width a s.blocks ≡ true
+  pub blocks : All (LiesInData l) s.blocks
 
 -- The next step of a state is stuck for a cause.
 abbrev pub IsStuckForCause : Program → State → Type 0

@@ -1,3 +1,4 @@
+pub mod Layouts
 pub mod Ranges
 pub mod WellFormed
 pub mod Causes

@@ -3,4 +3,7 @@
 
 mod laws;
 
-pub use laws::{expressions_are_stuck_for_a_cause, ranges_are_given, runs_are_stuck_for_a_cause};
+pub use laws::{
+    checked_accesses_lie, expressions_are_stuck_for_a_cause, ranges_are_given,
+    runs_are_stuck_for_a_cause,
+};
