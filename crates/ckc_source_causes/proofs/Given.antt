@@ -23,47 +23,54 @@ use Rattle.ckc_source.specs.Blocks.{Block}
 use Rattle.ckc_source.specs.Eval.{Store, given, given_some, stops, plain, ranged, reads_within, reads, at_address, in_range, exact_element, element_through, element, place_in, loads_pointer, counted, moved_exactly, moves_checked, moves, end_address, tests_within, tests, accessed, evaluated}
 use Rattle.ckc_source.specs.Runs.{is_true}
 use Rattle.ckc_source.specs.Words.{exact, as_address, elements_behind}
-use Rattle.ckc_source_causes.specs.Ranges.{GivesRange, IsNullOrRanged}
-use Rattle.ckc_source_causes.specs.WellFormed.{IsWellFormedAccess}
+use Rattle.ckc_types.specs.declared.types.CType.{CType}
+use Rattle.ckc_source_causes.specs.Layouts.{Layout}
+use Rattle.ckc_source_causes.specs.Ranges.{GivesRange, IsNullOrRanged, LeadsTo}
+use Rattle.ckc_source_causes.specs.WellFormed.{UnlessRaw}
 
 -- a value that there is has this
-abbrev Holds : {A : Type 0} → (A → Type 0) → Result A Halt → Type 0
+abbrev pub Holds : {A : Type 0} → (A → Type 0) → Result A Halt → Type 0
 Holds P (Ok v) = P v
 Holds P (Err h) = Unit {0}
 
 abbrev Gives : Result Value Halt → Type 0
 Gives r = Holds IsNullOrRanged r
 
-next : {A : Type 0} (P : A → Type 0) (r : Result A Halt) (f : A → Result Value Halt) → Holds P r → ((a : A) → P a → Gives (f a)) → Gives (given r f)
-next P (Ok a) f p h = h a p
-next P (Err e) f p h = tt
+module _ {B : Type 0} (Q : B → Type 0) where
+  pub next : {A : Type 0} (P : A → Type 0) (r : Result A Halt) (f : A → Result B Halt) → Holds P r → ((a : A) → P a → Holds Q (f a)) → Holds Q (given r f)
+  next P (Ok a) f p h = h a p
+  next P (Err e) f p h = tt
 
-then_ : {A : Type 0} (r : Result A Halt) (f : A → Result Value Halt) → ((a : A) → Gives (f a)) → Gives (given r f)
-then_ (Ok a) f h = h a
-then_ (Err e) f h = tt
+  pub then_ : {A : Type 0} (r : Result A Halt) (f : A → Result B Halt) → ((a : A) → Holds Q (f a)) → Holds Q (given r f)
+  then_ (Ok a) f h = h a
+  then_ (Err e) f h = tt
 
-there : {A : Type 0} (o : Option A) (f : A → Result Value Halt) → ((a : A) → Gives (f a)) → Gives (given_some o f)
-there (Some a) f h = h a
-there None f h = tt
+  pub known : {A : Type 0} (r : Result A Halt) (f : A → Result B Halt) → ((a : A) → r ≡ Ok a → Holds Q (f a)) → Holds Q (given r f)
+  known (Ok a) f h = h a refl
+  known (Err e) f h = tt
 
-either_way : (b : Bool) (x y : Result Value Halt) → Gives x → Gives y → Gives (if b then x else y)
-either_way true x y g h = g
-either_way false x y g h = h
+  pub there : {A : Type 0} (o : Option A) (f : A → Result B Halt) → ((a : A) → Holds Q (f a)) → Holds Q (given_some o f)
+  there (Some a) f h = h a
+  there None f h = tt
+
+  pub either_way : (b : Bool) (x y : Result B Halt) → Holds Q x → Holds Q y → Holds Q (if b then x else y)
+  either_way true x y g h = g
+  either_way false x y g h = h
 
 within_gives : (shapes : List Shape) (blocks : List Block) (to : Pointee) (n : ℕ) (low high : ℤ) → Gives (reads_within shapes blocks to n low high)
-within_gives shapes blocks to n (pos low) (pos high) = either_way (is_true shapes blocks to n low high) (ranged n low high) (Err Stuck) (inr (low, high, refl)) tt
+within_gives shapes blocks to n (pos low) (pos high) = either_way IsNullOrRanged (is_true shapes blocks to n low high) (ranged n low high) (Err Stuck) (inr (low, high, refl)) tt
 within_gives shapes blocks to n (pos low) (negsuc high) = tt
 within_gives shapes blocks to n (negsuc low) (pos high) = tt
 within_gives shapes blocks to n (negsuc low) (negsuc high) = tt
 
 reads_gives : (shapes : List Shape) (blocks : List Block) (to : Pointee) (n : ℕ) (low high : ℤ) → Gives (reads shapes blocks to n low high)
-reads_gives shapes blocks to n low high = either_way (n == 0) (plain 0) (reads_within shapes blocks to n low high) (inl refl) (within_gives shapes blocks to n low high)
+reads_gives shapes blocks to n low high = either_way IsNullOrRanged (n == 0) (plain 0) (reads_within shapes blocks to n low high) (inl refl) (within_gives shapes blocks to n low high)
 
 span_gives : (a bytes : ℕ) → Gives (ranged a a bytes)
 span_gives a bytes = inr (a, bytes, refl)
 
 tests_gives : (range : Range) (at : Pos) (n : ℕ) (upper : ℤ) → Gives (tests_within range at n upper)
-tests_gives (Within low high) at n (pos upper) = either_way (nat_le low n && nat_le n upper && nat_le upper high) (ranged n n upper) (stops check.Cast at) (inr (n, upper, refl)) tt
+tests_gives (Within low high) at n (pos upper) = either_way IsNullOrRanged (nat_le low n && nat_le n upper && nat_le upper high) (ranged n n upper) (stops check.Cast at) (inr (n, upper, refl)) tt
 tests_gives (Within low high) at n (negsuc upper) = tt
 tests_gives Without at n upper = tt
 
@@ -81,7 +88,7 @@ moved_gives shift v i h = by (v.number == 0) refl
         → Gives (if b then stops check.Arith shift.at
         else given (at_address (as_address (moved_exactly shift v.number (exact shift.index i))) shift.at) (λ a. Ok (record { number = a; range = v.range })))
     by true e = tt
-    by false e = then_ (at_address (as_address (moved_exactly shift v.number (exact shift.index i))) shift.at) (λ a. Ok (record { number = a; range = v.range })) (λ a. keeps h e a)
+    by false e = then_ IsNullOrRanged (at_address (as_address (moved_exactly shift v.number (exact shift.index i))) shift.at) (λ a. Ok (record { number = a; range = v.range })) (λ a. keeps h e a)
 
 moves_gives : (shift : Shift) (v : Value) (i : ℕ) → IsTrue shift.checked → IsNullOrRanged v → Gives (moves shift v i)
 moves_gives shift v i checked h = by shift.checked checked
@@ -90,37 +97,37 @@ moves_gives shift v i checked h = by shift.checked checked
     by true c = moved_gives shift v i h
     by false c = absurd cc
 
-module _ (s : Store) where
+module _ (p : Program) (l : Layout) (s : Store) where
   accessed_gives : (access : Access) (p i : Result Value Halt) (go : ℕ → Result Value Halt) → ((a : ℕ) → Gives (go a)) → Gives (accessed access p i go)
-  accessed_gives access p i go h = then_ p _ (λ v. then_ i _ (λ k. then_ (element access v k.number) go h))
+  accessed_gives access p i go h = then_ IsNullOrRanged p _ (λ v. then_ IsNullOrRanged i _ (λ k. then_ IsNullOrRanged (element access v k.number) go h))
 
   pointer_gives : (to : Pointee) (count : Count) (begin a : ℕ) → Gives (loads_pointer s to count begin a)
-  pointer_gives to count begin a = there _ _ (λ n. then_ (counted s begin count) _ (λ m. reads_gives s.shapes s.blocks to n (pos n) (elements_behind n to.size m)))
+  pointer_gives to count begin a = there IsNullOrRanged _ _ (λ n. then_ IsNullOrRanged (counted s begin count) _ (λ m. reads_gives s.shapes s.blocks to n (pos n) (elements_behind n to.size m)))
 
-  pub gives : (e : Expr) → GivesRange e → Gives (evaluated s e)
-  gives (Number n) g = inl g
-  gives (Limited x limits) g =
+  gives : (t : CType) (last : Bool) (e : Expr) → GivesRange p l t last e → Gives (evaluated s e)
+  gives t last (Number n) g = inl g
+  gives t last (Limited x limits) g =
       let n = slice_index s.locals x in
       reads_gives s.shapes s.blocks limits.to n (end_address s.locals limits.to.size n limits.lower) (end_address s.locals limits.to.size n limits.upper)
-  gives (Array at bytes) g = span_gives at (at + bytes)
-  gives (Member to count access p i) g = accessed_gives access (evaluated s p) (evaluated s i) _ (λ a. pointer_gives to count a (place_in a access.offset))
-  gives (Address bytes access p i) g = accessed_gives access (evaluated s p) (evaluated s i) _ (λ a. span_gives (place_in a access.offset) (place_in a access.offset + bytes))
-  gives (Moved shift p i) g = next IsNullOrRanged (evaluated s p) _ (gives p g.1) (λ v h. then_ (evaluated s i) _ (λ k. moves_gives shift v k.number g.0 h))
-  gives (Added shift i p) g = then_ (evaluated s i) _ (λ k. next IsNullOrRanged (evaluated s p) _ (gives p g.1) (λ v h. moves_gives shift v k.number g.0 h))
-  gives (Choice c a b) g = then_ (evaluated s c) _ (λ x. either_way (x.number == 0) (evaluated s b) (evaluated s a) (gives b g.1) (gives a g.0))
-  gives (Tested size form at p k) g =
-      then_ (evaluated s p) _ (λ v. then_ (evaluated s k) _ (λ c. either_way (v.number == 0) (plain 0) _ (inl refl) (tests_gives v.range at v.number (elements_behind v.number size (exact form c.number)))))
-  gives (Trusted to form p k) g = then_ (evaluated s p) _ (λ v. then_ (evaluated s k) _ (λ c. reads_gives s.shapes s.blocks to v.number (pos v.number) (elements_behind v.number to.size (exact form c.number))))
-  gives (Local x) g = absurd g
-  gives (Load width access p i) g = absurd g
-  gives (Binary operation is_signed at a b) g = absurd g
-  gives (And a b) g = absurd g
-  gives (Or a b) g = absurd g
-  gives (Narrow e) g = absurd g
-  gives (Bare p) g = absurd g
+  gives t last (Array at bytes) g = span_gives at (at + bytes)
+  gives t last (Member to count access p i) g = accessed_gives access (evaluated s p) (evaluated s i) _ (λ a. pointer_gives to count a (place_in a access.offset))
+  gives t last (Address bytes access p i) g = accessed_gives access (evaluated s p) (evaluated s i) _ (λ a. span_gives (place_in a access.offset) (place_in a access.offset + bytes))
+  gives t last (Moved shift p i) g = next IsNullOrRanged IsNullOrRanged (evaluated s p) _ (gives t last p g.2) (λ v h. then_ IsNullOrRanged (evaluated s i) _ (λ k. moves_gives shift v k.number g.0 h))
+  gives t last (Added shift i p) g = then_ IsNullOrRanged (evaluated s i) _ (λ k. next IsNullOrRanged IsNullOrRanged (evaluated s p) _ (gives t last p g.2) (λ v h. moves_gives shift v k.number g.0 h))
+  gives t last (Choice c a b) g = then_ IsNullOrRanged (evaluated s c) _ (λ x. either_way IsNullOrRanged (x.number == 0) (evaluated s b) (evaluated s a) (gives t last b g.1) (gives t last a g.0))
+  gives t last (Tested size form at p k) g =
+      then_ IsNullOrRanged (evaluated s p) _ (λ v. then_ IsNullOrRanged (evaluated s k) _ (λ c. either_way IsNullOrRanged (v.number == 0) (plain 0) _ (inl refl) (tests_gives v.range at v.number (elements_behind v.number size (exact form c.number)))))
+  gives t last (Trusted to form p k) g = then_ IsNullOrRanged (evaluated s p) _ (λ v. then_ IsNullOrRanged (evaluated s k) _ (λ c. reads_gives s.shapes s.blocks to v.number (pos v.number) (elements_behind v.number to.size (exact form c.number))))
+  gives t last (Local x) g = absurd g
+  gives t last (Load width access p i) g = absurd g
+  gives t last (Binary operation is_signed at a b) g = absurd g
+  gives t last (And a b) g = absurd g
+  gives t last (Or a b) g = absurd g
+  gives t last (Narrow e) g = absurd g
+  gives t last (Bare p) g = absurd g
 
-  pub given_value : (e : Expr) (v : Value) → GivesRange e → evaluated s e ≡ Ok v → IsNullOrRanged v
-  given_value e v g is = subst Gives is (gives e g)
+  pub given_value : (t : CType) (last : Bool) (e : Expr) (v : Value) → GivesRange p l t last e → evaluated s e ≡ Ok v → IsNullOrRanged v
+  given_value t last e v g is = subst Gives is (gives t last e g)
 
 -- ---- what is judged
 
@@ -161,12 +168,17 @@ by_range last access v i (inr r) e = by (exact_element access v i) (exact_judged
 raw_judged : (a : ℕ) → ◌≡◌ {A = Result ℕ Halt} (Ok a) (Err Stuck) → ⊥
 raw_judged a e = cc
 
-pub judged : (p : Program) (s : Store) (e : Expr) (v : Value) (how : Through) (access : Access) (i : ℕ) → IsWellFormedAccess p how e → evaluated s e ≡ Ok v → element_through how access v i ≢ Err Stuck
-judged p s e v through.Named access i g is f = raw_judged _ f
-judged p s e v through.Raw access i g is f = raw_judged _ f
-judged p s e v through.One access i g is f = exact_judged access v i f
-judged p s e v through.Array access i g is f = by_range false access v i (given_value s e v g is) f
-judged p s e v through.Terminated access i g is f = by_range true access v i (given_value s e v g is) f
+-- An access that goes through a kind of pointer leads to elements of a type, unless it goes through a `T *`.
+abbrev pub Goes : Program → Layout → Through → Access → Expr → Expr → (CType → Type 0) → Type 0
+Goes p l how access e i P = UnlessRaw how ((t : CType) × (access.size ≡ l.size t) × LeadsTo p l how t e i × P t)
+
+pub judged : (p : Program) (l : Layout) (s : Store) (e i : Expr) (v : Value) (how : Through) (access : Access) (k : ℕ) (P : CType → Type 0) → Goes p l how access e i P → evaluated s e ≡ Ok v
+    → element_through how access v k ≢ Err Stuck
+judged p l s e i v through.Named access k P g is f = raw_judged _ f
+judged p l s e i v through.Raw access k P g is f = raw_judged _ f
+judged p l s e i v through.One access k P g is f = exact_judged access v k f
+judged p l s e i v through.Array access k P g is f = by_range false access v k (given_value p l s g.0 false e v g.2 is) f
+judged p l s e i v through.Terminated access k P g is f = by_range true access v k (given_value p l s g.0 true e v g.2 is) f
 
 pub cast_judged : (size : ℕ) (form : Integer) (at : Pos) (v : Value) (k : ℕ) → IsNullOrRanged v → tests size form at v k ≢ Err Stuck
 cast_judged size form at v k (inl zero) e = plainly (sym (ap (λ n. if n == 0 then plain 0 else tests_within v.range at v.number (elements_behind v.number size (exact form k))) zero) ∙ e)

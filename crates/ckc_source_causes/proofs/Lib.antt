@@ -1,4 +1,9 @@
+pub mod Same
+pub mod Numbers
+pub mod Elements
+pub mod Truths
 pub mod Given
+pub mod Checked
 pub mod Stuck
 pub mod Later
 pub mod Fates
