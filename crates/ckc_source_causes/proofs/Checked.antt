@@ -35,9 +35,10 @@ use Rattle.ckc_source.specs.Runs.{is_true}
 use Rattle.ckc_source.specs.Words.{exact, as_address, elements_behind}
 use Rattle.ckc_source_causes.specs.Layouts.{Layout, IsCellOf, IsInElement, PointsTo, HasElementsAt, NamesElements, LiesByType, IsLaidOutBy}
 use Rattle.ckc_source_causes.specs.Ranges.{GivesRange, GivesOne, IsObject, LeadsTo}
+use Rattle.ckc_source_causes.specs.WellFormed.{UnlessRaw}
 use Rattle.ckc_source_causes.specs.Causes.{HoldsObjects}
 use Rattle.ckc_source_causes.proofs.Elements.{IsElement, IsBefore, HasElements, in_place, part_lies, part_element, one_element, width_some}
-use Rattle.ckc_source_causes.proofs.Given.{Holds, next, then_, known, there, either_way}
+use Rattle.ckc_source_causes.proofs.Given.{Goes, Holds, next, then_, known, there, either_way}
 use Rattle.ckc_source_causes.proofs.Numbers.{away, moved_away, element_even, whole_before}
 use Rattle.ckc_source_causes.proofs.Truths.{true_elements}
 
@@ -226,7 +227,7 @@ module _ (s : Store) where
       (ap (λ b. elements_behind (base_address s.locals n b) limits.to.size (amount s.locals limits.upper.variable limits.upper.add)) one.upper_base
       ∙ ap (λ y. elements_behind n limits.to.size (amount s.locals y limits.upper.add)) one.upper_variable
       ∙ ap (λ z. elements_behind n limits.to.size z) one.upper_add.1 ∙ behind n limits.to.size (1 + one.upper_add.0))
-      (let more = one.upper_add.0 in subst (λ size. n + size ≤ n + limits.to.size * (1 + one.upper_add.0)) g.size (one_at_least n limits.to.size one.upper_add.0))
+      (subst (λ size. n + size ≤ n + limits.to.size * (1 + one.upper_add.0)) g.size (one_at_least n limits.to.size one.upper_add.0))
   ones p l t last (Member to many access e i) g one =
       then_ (HasOne (l.size t)) (evaluated s e) _ (λ v. then_ (HasOne (l.size t)) (evaluated s i) _ (λ k. then_ (HasOne (l.size t)) (element access v k.number) _ (λ a.
       there (HasOne (l.size t)) _ _ (λ n. subst (λ c. Holds (HasOne (l.size t)) (given (counted s a c) (λ m. reads s.shapes s.blocks to n (pos n) (elements_behind n to.size m)))) (sym one)
@@ -421,8 +422,16 @@ module _ (p : Program) (l : Layout) (s : Store) (laid : IsLaidOutBy p l) (holds 
 
   -- ---- cells
 
+  unless_raw : (how : Through) (X : Type 0) → UnlessRaw how X → how ≢ through.Raw → X
+  unless_raw through.Named X x h = x
+  unless_raw through.Raw X x h = absurd (h refl)
+  unless_raw through.One X x h = x
+  unless_raw through.Array X x h = x
+  unless_raw through.Terminated X x h = x
+
   -- What is read or written so far on in the element that an access goes to lies in a block, unless it goes through a `T *`.
-  pub cell_lies : (access : Access) (t : CType) (e i : Expr) (v k : Value) (a offset : ℕ) (width : Width) → access.size ≡ l.size t → LeadsTo p l access.through t e i → IsCellOf l t offset width
+  pub checked_lies : (access : Access) (e i : Expr) (v k : Value) (a offset : ℕ) (width : Width) → Goes p l access.through access e i (λ t. IsCellOf l t offset width) → access.through ≢ through.Raw
       → evaluated s e ≡ Ok v → evaluated s i ≡ Ok k → element access v k.number ≡ Ok a → lies_in width (place_in a offset) s.blocks ≡ true
-  cell_lies access t e i v k a offset width size g cell is here at =
-      leads_there access.through access t e i v k a size g (λ last h. subst (Holds (P l s t last)) is (has_range t last e h)) is here at offset width cell
+  checked_lies access e i v k a offset width g checked is here at =
+      let x = unless_raw access.through ((t : CType) × (access.size ≡ l.size t) × LeadsTo p l access.through t e i × IsCellOf l t offset width) g checked in
+      leads_there access.through access x.0 e i v k a x.1 x.2 (λ last h. subst (Holds (P l s x.0 last)) is (has_range x.0 last e h)) is here at offset width x.3

@@ -27,9 +27,12 @@ use Rattle.ckc_source.specs.Blocks.{Block, found, has, number_at, is_aligned, li
 use Rattle.ckc_source.specs.Code.{Expr, Number, Local, Limited, Array, Load, Member, Address, Moved, Added, Binary, And, Or, Choice, Narrow, Bare, Tested, Trusted, Program}
 use Rattle.ckc_source.specs.Eval.{Store, given, given_both, given_some, stops, plain, ranged, spanned, reads_within, reads, at_address, end_address, reads_limited, element, element_through, place_in, loads, counted, loads_pointer, moved_exactly, moves_checked, moves, operates, tests, trusts, accessed, evaluated, all_evaluated}
 use Rattle.ckc_source.specs.Words.{exact, width_of, as_address, elements_behind, truth, computed, divides}
-use Rattle.ckc_source_causes.specs.WellFormed.{HasRoom, HasRoomForCount, IsWellFormedAccess, IsWellFormedExpr, AreWellFormed}
+use Rattle.ckc_types.specs.declared.types.CType.{CType}
+use Rattle.ckc_source_causes.specs.Layouts.{Layout, IsCellOf, IsCountOf, IsLaidOutBy}
+use Rattle.ckc_source_causes.specs.WellFormed.{IsWellFormedExpr, AreWellFormed}
 use Rattle.ckc_source_causes.specs.Causes.{HoldsObjects, IsNowhere, IsTrueRange, IsUntrue, HasUntrueLimits, Then, HasNoCount, IsNoPointer, OfBoth, AtElement, HasCause, OneHasCause}
-use Rattle.ckc_source_causes.proofs.Given.{given_value, judged, cast_judged}
+use Rattle.ckc_source_causes.proofs.Checked.{checked_lies}
+use Rattle.ckc_source_causes.proofs.Given.{Goes, given_value, judged, cast_judged}
 
 no_zero : true ≡ false → ⊥
 no_zero e = cc
@@ -166,60 +169,48 @@ no_operates {X} operation is_signed at a b e = by (divides operation && (b == 0)
 
 -- ---- expressions
 
-module _ (p : Program) (s : Store) (holds : HoldsObjects p s) where
-  -- an access by name goes to the object that it names
-  pub named_is : (e : Expr) (v : Value) (width : Width) (offset a : ℕ) → HasRoom p through.Named width offset e → evaluated s e ≡ Ok v → ◌≡◌ {A = Result ℕ Halt} (Ok v.number) (Ok a) → lies_in width (place_in a offset) s.blocks ≡ true
-  named_is (Number n) v width offset a room is goes =
-      let number : n ≡ v.number = cc in
-      let at : v.number ≡ a = cc in
-      subst (λ x. lies_in width (place_in x offset) s.blocks ≡ true) (number ∙ at) (holds width (place_in n offset) room)
-  named_is (Local x) v width offset a room is goes = absurd room
-  named_is (Limited x limits) v width offset a room is goes = absurd room
-  named_is (Array at bytes) v width offset a room is goes = absurd room
-  named_is (Load w access e i) v width offset a room is goes = absurd room
-  named_is (Member to many access e i) v width offset a room is goes = absurd room
-  named_is (Address bytes access e i) v width offset a room is goes = absurd room
-  named_is (Moved shift e i) v width offset a room is goes = absurd room
-  named_is (Added shift i e) v width offset a room is goes = absurd room
-  named_is (Binary operation is_signed at b c) v width offset a room is goes = absurd room
-  named_is (And b c) v width offset a room is goes = absurd room
-  named_is (Or b c) v width offset a room is goes = absurd room
-  named_is (Choice b c d) v width offset a room is goes = absurd room
-  named_is (Narrow e) v width offset a room is goes = absurd room
-  named_is (Bare e) v width offset a room is goes = absurd room
-  named_is (Tested size form at e k) v width offset a room is goes = absurd room
-  named_is (Trusted to form e k) v width offset a room is goes = absurd room
+module _ (p : Program) (l : Layout) (s : Store) (laid : IsLaidOutBy p l) (holds : HoldsObjects p l s) where
+  -- what is read or written lies in a block, unless it is reached through a `T *`
+  pub misses : (access : Access) (e i : Expr) (v k : Value) (a offset : ℕ) (width : Width) → Goes p l access.through access e i (λ t. IsCellOf l t offset width) → evaluated s e ≡ Ok v → evaluated s i ≡ Ok k
+      → element access v k.number ≡ Ok a → Misses s access.through width (place_in a offset)
+  misses access e i v k a offset width g is here at = by access.through (λ checked. checked_lies p l s laid holds access e i v k a offset width g checked is here at)
+    where
+      by : (how : Through) → (how ≢ through.Raw → lies_in width (place_in a offset) s.blocks ≡ true) → Misses s how width (place_in a offset)
+      by through.Raw lies none = none
+      by through.Named lies none = no_zero (sym (lies (λ e. cc)) ∙ none)
+      by through.One lies none = no_zero (sym (lies (λ e. cc)) ∙ none)
+      by through.Array lies none = no_zero (sym (lies (λ e. cc)) ∙ none)
+      by through.Terminated lies none = no_zero (sym (lies (λ e. cc)) ∙ none)
 
-  pub misses : (how : Through) (access : Access) (e : Expr) (v : Value) (i : ℕ) (width : Width) (offset a : ℕ) → HasRoom p how width offset e → evaluated s e ≡ Ok v → element_through how access v i ≡ Ok a
-      → Misses s how width (place_in a offset)
-  misses through.Named access e v i width offset a room is goes none = no_zero (sym (named_is e v width offset a room is goes) ∙ none)
-  misses through.Raw access e v i width offset a room is goes none = none
-  misses through.One access e v i width offset a room is goes none = none
-  misses through.Array access e v i width offset a room is goes none = none
-  misses through.Terminated access e v i width offset a room is goes none = none
+  count_misses : (many : Count) (access : Access) (e i : Expr) (v k : Value) (a : ℕ) → Goes p l access.through access e i (λ t. IsCountOf l t many) → evaluated s e ≡ Ok v → evaluated s i ≡ Ok k
+      → element access v k.number ≡ Ok a → CountMisses s access.through a many
+  count_misses (count.Fixed n) access e i v k a g is here at = tt
+  count_misses (count.Member offset form add) access e i v k a g is here at = misses access e i v k a offset (width_of form) g is here at
 
-  count_misses : (many : Count) (access : Access) (e : Expr) (v : Value) (i a : ℕ) → HasRoomForCount p access.through many e → evaluated s e ≡ Ok v → element access v i ≡ Ok a
-      → CountMisses s access.through a many
-  count_misses (count.Fixed n) access e v i a room is goes = tt
-  count_misses (count.Member offset form add) access e v i a room is goes = misses access.through access e v i (width_of form) offset a room is goes
+  weaker : (how : Through) (access : Access) (e i : Expr) (Q R : CType → Type 0) → ((t : CType) → Q t → R t) → Goes p l how access e i Q → Goes p l how access e i R
+  weaker through.Raw access e i Q R f g = tt
+  weaker through.Named access e i Q R f g = (g.0, g.1, g.2, f g.0 g.3)
+  weaker through.One access e i Q R f g = (g.0, g.1, g.2, f g.0 g.3)
+  weaker through.Array access e i Q R f g = (g.0, g.1, g.2, f g.0 g.3)
+  weaker through.Terminated access e i Q R f g = (g.0, g.1, g.2, f g.0 g.3)
 
   -- of two parts
   both : (e f : Expr) (go : Value → Value → Result Value Halt) (P : Value → Value → Type 0) → (IsStuck (evaluated s e) → HasCause s e) → (IsStuck (evaluated s f) → HasCause s f)
-      → ((v k : Value) → evaluated s e ≡ Ok v → IsStuck (go v k) → P v k) → IsStuck (given_both (evaluated s e) (evaluated s f) go) → OfBoth s e f (HasCause s e) (HasCause s f) P
+      → ((v k : Value) → evaluated s e ≡ Ok v → evaluated s f ≡ Ok k → IsStuck (go v k) → P v k) → IsStuck (given_both (evaluated s e) (evaluated s f) go) → OfBoth s e f (HasCause s e) (HasCause s f) P
   both e f go P first second last is =
       after (evaluated s e) (λ v. given (evaluated s f) (go v)) (HasCause s e) (λ v. HasCause s f ⊎ Then (evaluated s f) (P v)) first
-      (λ v there x. after (evaluated s f) (go v) (HasCause s f) (P v) second (λ k here y. last v k there y) x) is
+      (λ v there x. after (evaluated s f) (go v) (HasCause s f) (P v) second (λ k here y. last v k there here y) x) is
 
   -- an access whose address is judged
-  reached : (access : Access) (e i : Expr) (go : ℕ → Result Value Halt) (P : ℕ → Type 0) → IsWellFormedAccess p access.through e → (IsStuck (evaluated s e) → HasCause s e) → (IsStuck (evaluated s i) → HasCause s i)
-      → ((v : Value) (k a : ℕ) → evaluated s e ≡ Ok v → element access v k ≡ Ok a → IsStuck (go a) → P a) → IsStuck (accessed access (evaluated s e) (evaluated s i) go)
+  reached : (access : Access) (e i : Expr) (Q : CType → Type 0) (go : ℕ → Result Value Halt) (P : ℕ → Type 0) → Goes p l access.through access e i Q → (IsStuck (evaluated s e) → HasCause s e) → (IsStuck (evaluated s i) → HasCause s i)
+      → ((v k : Value) (a : ℕ) → evaluated s e ≡ Ok v → evaluated s i ≡ Ok k → element access v k.number ≡ Ok a → IsStuck (go a) → P a) → IsStuck (accessed access (evaluated s e) (evaluated s i) go)
       → OfBoth s e i (HasCause s e) (HasCause s i) (λ v k. AtElement access v k P)
-  reached access e i go P formed first second last is =
-      both e i (λ v k. given (element access v k.number) go) (λ v k. AtElement access v k P) first second (λ v k there x. by v k there (stuck_given (element access v k.number) go x)) is
+  reached access e i Q go P formed first second last is =
+      both e i (λ v k. given (element access v k.number) go) (λ v k. AtElement access v k P) first second (λ v k there here x. by v k there here (stuck_given (element access v k.number) go x)) is
     where
-      by : (v k : Value) → evaluated s e ≡ Ok v → IsStuck (element access v k.number) ⊎ Then (element access v k.number) (λ a. IsStuck (go a)) → AtElement access v k P
-      by v k there (inl x) = absurd (judged p s e v access.through access k.number formed there x)
-      by v k there (inr x) = (x.0, x.1, last v k.number x.0 there x.1 x.2)
+      by : (v k : Value) → evaluated s e ≡ Ok v → evaluated s i ≡ Ok k → IsStuck (element access v k.number) ⊎ Then (element access v k.number) (λ a. IsStuck (go a)) → AtElement access v k P
+      by v k there here (inl x) = absurd (judged p l s e i v access.through access k.number Q formed there x)
+      by v k there here (inr x) = (x.0, x.1, last v k x.0 there here x.1 x.2)
 
   -- an address is not read
   addressed : (access : Access) (e i : Expr) → OfBoth s e i (HasCause s e) (HasCause s i) (λ v k. AtElement access v k (λ a. ⊥)) → OfBoth s e i (HasCause s e) (HasCause s i) (λ v k. ⊥)
@@ -253,24 +244,27 @@ module _ (p : Program) (s : Store) (holds : HoldsObjects p s) where
   chosen a b v one two true is x = inr (eqb-true v.number 0 is, two x)
   chosen a b v one two false is x = inl (λ zero. no_zero (sym (ap (λ n. n == 0) zero) ∙ is), one x)
 
-  pub has_cause : (e : Expr) → IsWellFormedExpr p e → IsStuck (evaluated s e) → HasCause s e
+  pub has_cause : (e : Expr) → IsWellFormedExpr p l e → IsStuck (evaluated s e) → HasCause s e
   has_cause (Number n) w is = no_stuck is
   has_cause (Local x) w is = no_stuck is
   has_cause (Limited x limits) w is = untrue_limits s limits (slice_index s.locals x) is
   has_cause (Array at bytes) w is = no_stuck is
   has_cause (Load width access e i) w is =
-      reached access e i (λ a. loads s width (place_in a access.offset)) (λ a. IsNowhere s access.through width (place_in a access.offset)) w.0.0 (has_cause e w.1) (has_cause i w.2)
-      (λ v k a there goes x. misses access.through access e v k width access.offset a w.0.1 there goes (loads_nowhere s width (place_in a access.offset) x)) is
+      reached access e i (λ t. IsCellOf l t access.offset width) (λ a. loads s width (place_in a access.offset)) (λ a. IsNowhere s access.through width (place_in a access.offset)) w.0 (has_cause e w.1) (has_cause i w.2)
+      (λ v k a there here goes x. misses access e i v k a access.offset width w.0 there here goes (loads_nowhere s width (place_in a access.offset) x)) is
   has_cause (Member to many access e i) w is =
-      reached access e i (λ a. loads_pointer s to many a (place_in a access.offset)) (λ a. IsNoPointer s access.through to many a (place_in a access.offset)) w.0.0.0 (has_cause e w.1) (has_cause i w.2)
-      (λ v k a there goes x.
-      no_pointer s access.through to many a (place_in a access.offset) (misses access.through access e v k Word access.offset a w.0.0.1 there goes) (count_misses many access e v k a w.0.1 there goes) x) is
+      let Q : CType → Type 0 = λ t. IsCellOf l t access.offset Word × IsCountOf l t many in
+      reached access e i Q (λ a. loads_pointer s to many a (place_in a access.offset)) (λ a. IsNoPointer s access.through to many a (place_in a access.offset)) w.0 (has_cause e w.1) (has_cause i w.2)
+      (λ v k a there here goes x.
+      no_pointer s access.through to many a (place_in a access.offset)
+      (misses access e i v k a access.offset Word (weaker access.through access e i Q (λ t. IsCellOf l t access.offset Word) (λ t h. h.0) w.0) there here goes)
+      (count_misses many access e i v k a (weaker access.through access e i Q (λ t. IsCountOf l t many) (λ t h. h.1) w.0) there here goes) x) is
   has_cause (Address bytes access e i) w is =
-      addressed access e i (reached access e i (λ a. spanned (place_in a access.offset) bytes) (λ a. ⊥) w.0 (has_cause e w.1) (has_cause i w.2) (λ v k a there goes x. no_stuck x) is)
-  has_cause (Moved shift e i) w is = both e i (λ v k. moves shift v k.number) (λ v k. ⊥) (has_cause e w.0) (has_cause i w.1) (λ v k there x. no_moves shift v k.number x) is
-  has_cause (Added shift i e) w is = both i e (λ k v. moves shift v k.number) (λ k v. ⊥) (has_cause i w.0) (has_cause e w.1) (λ k v there x. no_moves shift v k.number x) is
+      addressed access e i (reached access e i (λ t. Unit {0}) (λ a. spanned (place_in a access.offset) bytes) (λ a. ⊥) w.0 (has_cause e w.1) (has_cause i w.2) (λ v k a there here goes x. no_stuck x) is)
+  has_cause (Moved shift e i) w is = both e i (λ v k. moves shift v k.number) (λ v k. ⊥) (has_cause e w.0) (has_cause i w.1) (λ v k there here x. no_moves shift v k.number x) is
+  has_cause (Added shift i e) w is = both i e (λ k v. moves shift v k.number) (λ k v. ⊥) (has_cause i w.0) (has_cause e w.1) (λ k v there here x. no_moves shift v k.number x) is
   has_cause (Binary operation is_signed at a b) w is =
-      both a b (λ x y. operates operation is_signed at x.number y.number) (λ x y. ⊥) (has_cause a w.0) (has_cause b w.1) (λ x y there z. no_operates operation is_signed at x.number y.number z) is
+      both a b (λ x y. operates operation is_signed at x.number y.number) (λ x y. ⊥) (has_cause a w.0) (has_cause b w.1) (λ x y there here z. no_operates operation is_signed at x.number y.number z) is
   has_cause (And a b) w is =
       after (evaluated s a) (λ x. if x.number == 0 then plain 0 else given (evaluated s b) (λ y. plain (truth y.number))) (HasCause s a) (λ v. (v.number ≢ 0) × HasCause s b) (has_cause a w.0)
       (λ v there x. and_right b v (has_cause b w.1) (v.number == 0) refl x) is
@@ -283,10 +277,10 @@ module _ (p : Program) (s : Store) (holds : HoldsObjects p s) where
   has_cause (Narrow e) w is = alone e (λ v. record { number = v.number % 256; range = Without }) (has_cause e w) is
   has_cause (Bare e) w is = alone e (λ v. record { number = v.number; range = Without }) (has_cause e w) is
   has_cause (Tested size form at e k) w is =
-      both e k (λ v c. tests size form at v c.number) (λ v c. ⊥) (has_cause e w.1) (has_cause k w.2) (λ v c there x. cast_judged size form at v c.number (given_value s e v w.0 there) x) is
+      both e k (λ v c. tests size form at v c.number) (λ v c. ⊥) (has_cause e w.1) (has_cause k w.2) (λ v c there here x. cast_judged size form at v c.number (given_value p l s w.0.0 false e v w.0.1 there) x) is
   has_cause (Trusted to form e k) w is =
       both e k (λ v c. trusts s to form v.number c.number) (λ v c. IsUntrue s to v.number (pos v.number) (elements_behind v.number to.size (exact form c.number))) (has_cause e w.0) (has_cause k w.1)
-      (λ v c there x. untrue s to v.number (pos v.number) (elements_behind v.number to.size (exact form c.number)) x) is
+      (λ v c there here x. untrue s to v.number (pos v.number) (elements_behind v.number to.size (exact form c.number)) x) is
 
   others : (v : Value) (es : List Expr) → (IsStuck (all_evaluated s es) → OneHasCause s es) → IsStuck (given (all_evaluated s es) (λ ns. Ok (v.number ∷ ns))) → OneHasCause s es
   others v es more is = by (stuck_given (all_evaluated s es) (λ ns. Ok (v.number ∷ ns)) is)
@@ -295,7 +289,7 @@ module _ (p : Program) (s : Store) (holds : HoldsObjects p s) where
       by (inl x) = more x
       by (inr x) = no_stuck x.2
 
-  pub one_has_cause : (es : List Expr) → AreWellFormed p es → IsStuck (all_evaluated s es) → OneHasCause s es
+  pub one_has_cause : (es : List Expr) → AreWellFormed p l es → IsStuck (all_evaluated s es) → OneHasCause s es
   one_has_cause [] w is = no_stuck is
   one_has_cause (e ∷ es) w is =
       after (evaluated s e) (λ v. given (all_evaluated s es) (λ ns. Ok (v.number ∷ ns))) (HasCause s e) (λ v. OneHasCause s es) (has_cause e w.0)
