@@ -1,12 +1,17 @@
 -- Blocks stay where they are: a step changes their bytes alone, and adds blocks behind them.
-use Rattle.std.proofs.Common.{◌≡◌, ◌∙◌, refl, ap, ℕ, ◌+◌, Bool, true, false, List, [], ◌∷◌, ◌++◌, map, length}
-use Rattle.std.specs.Prelude.{◌-◌, ◌&&◌, ◌||◌, if◌then◌else◌, nat_le}
+use Rattle.std.proofs.Common.{◌≡◌, ◌∙◌, refl, sym, ap, subst, ℕ, ◌+◌, ◌*◌, ◌/◌, ◌%◌, ◌^◌, ◌≤◌, ◌<◌, Bool, true, false, List, [], ◌∷◌, ◌++◌, map, length, replicate, mul_comm, arith}
+use Rattle.std.specs.Prelude.{All, ◌-◌, ◌&&◌, ◌||◌, if◌then◌else◌, nat_le, nat_lt}
 use Rattle.std.specs.List.{list_any}
-use Rattle.std.proofs.lemmas.Bool.{and_parts}
+use Rattle.std.proofs.lemmas.Bool.{and_parts, leb-true}
+use Rattle.std.proofs.lemmas.List.{length-replicate}
+use Rattle.std.proofs.lemmas.List.Elements.{All-nil, All-cons, All-append, All-map, All-weaker}
 use Rattle.ckc_base.specs.declared.arithmetic.Width.{Width}
-use Rattle.ckc_base.specs.Memory.{width_bytes}
-use Rattle.ckc_source.specs.Blocks.{Block, changed, has, is_aligned, lies_in, with_number}
+use Rattle.ckc_base.specs.Memory.{data_end, heap_has_room, next_place, width_bytes}
+use Rattle.ckc_source.specs.declared.expr.Pointee.{Pointee}
+use Rattle.ckc_source.specs.Blocks.{Block, changed, end_of, first_place, fresh, has, is_aligned, lies_in, with_number}
 use Rattle.ckc_source.proofs.Keeping.{length_with}
+use Rattle.ckc_source_causes.specs.Layouts.{Layout}
+use Rattle.ckc_source_causes.specs.Causes.{LiesInData}
 
 -- a block with other bytes, as many
 pub record IsSame (b c : Block) : Type 0 where
@@ -90,3 +95,48 @@ pub lies_kept : (width : Width) (a : ℕ) (bs cs : List Block) → AreKept bs cs
 lies_kept width a bs cs h e =
     let both = and_parts (is_aligned width a) (list_any (has width a) bs) e in
     ap (λ b. b && list_any (has width a) cs) both.0 ∙ any_kept width a bs cs h both.1
+
+-- ---- blocks that lie in the data region go on to do so
+
+-- all blocks lie there, and so will the next one, if there is room for it
+pub record LieInData (l : Layout) (bs : List Block) (next : ℕ) : Type 0 where
+  pub blocks : All (LiesInData l) bs
+  pub first : first_place ≤ next
+  pub at : next % 4 ≡ 0
+
+same_data : (l : Layout) (b c : Block) → IsSame b c → LiesInData l b → LiesInData l c
+same_data l b c h k = record {
+  first = subst (λ (n : ℕ). first_place ≤ n) (sym h.base) k.first;
+  at = subst (λ n. n % 4 ≡ 0) (sym h.base) k.at;
+  below = subst (λ (n : ℕ). n ≤ data_end) (sym (ap (λ n. n + length c.bytes) h.base ∙ ap (λ n. b.base + n) h.many)) k.below;
+  size = h.size ∙ k.size ∙ ap l.size (sym h.element);
+}
+
+pub data_changed : (l : Layout) (width : Width) (a n : ℕ) (bs : List Block) (next : ℕ) → LieInData l bs next → LieInData l (map (changed width a n) bs) next
+data_changed l width a n bs next h = record {
+  blocks = All-map (LiesInData l) (changed width a n) bs
+      (All-weaker (LiesInData l) (λ b. LiesInData l (changed width a n b)) (λ b k. same_data l b (changed width a n b) (changed_same width a n b (has width a b)) k) bs h.blocks);
+  first = h.first;
+  at = h.at;
+}
+
+pub data_behind : (l : Layout) (to : Pointee) (count : ℕ) (bs : List Block) (next : ℕ) → to.size ≡ l.size to.element → heap_has_room next count to.size ≡ true → LieInData l bs next
+    → LieInData l (bs ++ fresh to next count ∷ []) (next_place next count to.size)
+data_behind l to count bs next size room h = record {
+  blocks = All-append (LiesInData l) bs (fresh to next count ∷ []) h.blocks (All-cons (LiesInData l) (fresh to next count) [] (record { first = h.first; at = h.at; below = below; size = size }) (All-nil (LiesInData l)));
+  first = let first = h.first in past next (count * to.size) first;
+  at = even next (count * to.size);
+}
+  where
+    below : end_of (fresh to next count) ≤ data_end
+    below =
+        let fits = leb-true (next + count * to.size) data_end (and_parts (nat_lt 0 count && nat_lt count (2 ^ 31)) (nat_le (next + count * to.size) data_end) room).1 in
+        let many = length-replicate {A = ℕ} (to.size * count) 0 in
+        let turned = mul_comm to.size count in
+        omega arith
+
+    past : (a k : ℕ) → first_place ≤ a → first_place ≤ (a + k + 15) / 8 * 8
+    past a k h = omega arith
+
+    even : (a k : ℕ) → ((a + k + 15) / 8 * 8) % 4 ≡ 0
+    even a k = omega arith

@@ -6,6 +6,7 @@ pub mod Given
 pub mod Checked
 pub mod Stuck
 pub mod Later
+pub mod First
 pub mod Fates
 pub mod Settled
 pub mod Running
