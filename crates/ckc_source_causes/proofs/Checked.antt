@@ -310,18 +310,19 @@ module _ (p : Program) (l : Layout) (s : Store) (laid : IsLaidOutBy p l) (holds 
 
 -- ---- ranges
 
-abbrev P : Layout → Store → CType → Bool → Value → Type 0
-P l s t last v = HasRange l s.blocks t last v
+-- the same, with the blocks of a store
+abbrev HasRangeIn : Layout → Store → CType → Bool → Value → Type 0
+HasRangeIn l s t last v = HasRange l s.blocks t last v
 
 module _ (p : Program) (l : Layout) (s : Store) (laid : IsLaidOutBy p l) (holds : HoldsObjects p l s) where
-  reads_has : (t : CType) (last : Bool) (to : Pointee) → PointsTo l t last to → (n : ℕ) (low high : ℤ) → Holds (P l s t last) (reads s.shapes s.blocks to n low high)
-  reads_has t last to points n low high = either_way (P l s t last) (n == 0) (plain 0) (reads_within s.shapes s.blocks to n low high) (inl refl) (by low high)
+  reads_has : (t : CType) (last : Bool) (to : Pointee) → PointsTo l t last to → (n : ℕ) (low high : ℤ) → Holds (HasRangeIn l s t last) (reads s.shapes s.blocks to n low high)
+  reads_has t last to points n low high = either_way (HasRangeIn l s t last) (n == 0) (plain 0) (reads_within s.shapes s.blocks to n low high) (inl refl) (by low high)
     where
-      tested : (low high : ℕ) (b : Bool) → is_true s.shapes s.blocks to n low high ≡ b → Holds (P l s t last) (if b then ranged n low high else Err Stuck)
+      tested : (low high : ℕ) (b : Bool) → is_true s.shapes s.blocks to n low high ≡ b → Holds (HasRangeIn l s t last) (if b then ranged n low high else Err Stuck)
       tested low high true e = inr (low, high, refl, true_elements p l laid s.blocks holds.blocks t to n low high last points (sym (ap (λ x. is_true x s.blocks to n low high) holds.shapes) ∙ e))
       tested low high false e = tt
 
-      by : (low high : ℤ) → Holds (P l s t last) (reads_within s.shapes s.blocks to n low high)
+      by : (low high : ℤ) → Holds (HasRangeIn l s t last) (reads_within s.shapes s.blocks to n low high)
       by (pos low) (pos high) = tested low high (is_true s.shapes s.blocks to n low high) refl
       by (pos low) (negsuc high) = tt
       by (negsuc low) (pos high) = tt
@@ -381,19 +382,19 @@ module _ (p : Program) (l : Layout) (s : Store) (laid : IsLaidOutBy p l) (holds 
 
   -- ---- expressions
 
-  pub has_range : (t : CType) (last : Bool) (e : Expr) → GivesRange p l t last e → Holds (P l s t last) (evaluated s e)
+  pub has_range : (t : CType) (last : Bool) (e : Expr) → GivesRange p l t last e → Holds (HasRangeIn l s t last) (evaluated s e)
   has_range t last (Number n) g = inl g
   has_range t last (Limited x limits) g =
       let n = slice_index s.locals x in
       reads_has t last limits.to g n (end_address s.locals limits.to.size n limits.lower) (end_address s.locals limits.to.size n limits.upper)
   has_range t last (Array at bytes) g = inr (at, at + bytes, refl, array_elements p l s laid holds t last at bytes g)
   has_range t last (Member to many access e i) g =
-      then_ (P l s t last) (evaluated s e) _ (λ v. then_ (P l s t last) (evaluated s i) _ (λ k. then_ (P l s t last) (element access v k.number) _ (λ a.
-      there (P l s t last) _ _ (λ n. then_ (P l s t last) (counted s a many) _ (λ m. reads_has t last to g n (pos n) (elements_behind n to.size m))))))
+      then_ (HasRangeIn l s t last) (evaluated s e) _ (λ v. then_ (HasRangeIn l s t last) (evaluated s i) _ (λ k. then_ (HasRangeIn l s t last) (element access v k.number) _ (λ a.
+      there (HasRangeIn l s t last) _ _ (λ n. then_ (HasRangeIn l s t last) (counted s a many) _ (λ m. reads_has t last to g n (pos n) (elements_behind n to.size m))))))
   has_range t last (Address bytes access e i) g =
       let u = g.2.0 in
-      known (P l s t last) (evaluated s e) _ (λ v is. known (P l s t last) (evaluated s i) _ (λ k here. known (P l s t last) (element access v k.number) _ (λ a at.
-      let whole = leads_there access.through access u e i v k a g.2.1 g.2.3 (λ ends h. subst (Holds (P l s u ends)) is (has_range u ends e h)) is here at in
+      known (HasRangeIn l s t last) (evaluated s e) _ (λ v is. known (HasRangeIn l s t last) (evaluated s i) _ (λ k here. known (HasRangeIn l s t last) (element access v k.number) _ (λ a at.
+      let whole = leads_there access.through access u e i v k a g.2.1 g.2.3 (λ ends h. subst (Holds (HasRangeIn l s u ends)) is (has_range u ends e h)) is here at in
       let part = part_element l s.blocks u t a access.offset whole (subst (λ n. IsInElement l u access.offset n (l.is_wide t)) g.1 g.2.2) in
       inr (
         place_in a access.offset,
@@ -403,15 +404,15 @@ module _ (p : Program) (l : Layout) (s : Store) (laid : IsLaidOutBy p l) (holds 
             (subst (λ n. HasElements l s.blocks t false (place_in a access.offset) (place_in a access.offset) (place_in a access.offset + n)) (sym g.1) (one_element l s.blocks t (place_in a access.offset) part)),
       ))))
   has_range t last (Moved shift e i) g =
-      next (P l s t last) (P l s t last) (evaluated s e) _ (has_range t last e g.2) (λ v h. then_ (P l s t last) (evaluated s i) _ (λ k. moves_has l s.blocks t last shift v k.number g.0 g.1 h))
+      next (HasRangeIn l s t last) (HasRangeIn l s t last) (evaluated s e) _ (has_range t last e g.2) (λ v h. then_ (HasRangeIn l s t last) (evaluated s i) _ (λ k. moves_has l s.blocks t last shift v k.number g.0 g.1 h))
   has_range t last (Added shift i e) g =
-      then_ (P l s t last) (evaluated s i) _ (λ k. next (P l s t last) (P l s t last) (evaluated s e) _ (has_range t last e g.2) (λ v h. moves_has l s.blocks t last shift v k.number g.0 g.1 h))
+      then_ (HasRangeIn l s t last) (evaluated s i) _ (λ k. next (HasRangeIn l s t last) (HasRangeIn l s t last) (evaluated s e) _ (has_range t last e g.2) (λ v h. moves_has l s.blocks t last shift v k.number g.0 g.1 h))
   has_range t last (Choice c a b) g =
-      then_ (P l s t last) (evaluated s c) _ (λ x. either_way (P l s t last) (x.number == 0) (evaluated s b) (evaluated s a) (has_range t last b g.1) (has_range t last a g.0))
+      then_ (HasRangeIn l s t last) (evaluated s c) _ (λ x. either_way (HasRangeIn l s t last) (x.number == 0) (evaluated s b) (evaluated s a) (has_range t last b g.1) (has_range t last a g.0))
   has_range t last (Tested size form at e k) g =
-      next (P l s t last) (P l s t last) (evaluated s e) _ (has_range t last e g.1) (λ v h. then_ (P l s t last) (evaluated s k) _ (λ c. tests_has l s.blocks t last size form at v c.number h))
+      next (HasRangeIn l s t last) (HasRangeIn l s t last) (evaluated s e) _ (has_range t last e g.1) (λ v h. then_ (HasRangeIn l s t last) (evaluated s k) _ (λ c. tests_has l s.blocks t last size form at v c.number h))
   has_range t last (Trusted to form e k) g =
-      then_ (P l s t last) (evaluated s e) _ (λ v. then_ (P l s t last) (evaluated s k) _ (λ c. reads_has t last to g v.number (pos v.number) (elements_behind v.number to.size (exact form c.number))))
+      then_ (HasRangeIn l s t last) (evaluated s e) _ (λ v. then_ (HasRangeIn l s t last) (evaluated s k) _ (λ c. reads_has t last to g v.number (pos v.number) (elements_behind v.number to.size (exact form c.number))))
   has_range t last (Local x) g = absurd g
   has_range t last (Load width access e i) g = absurd g
   has_range t last (Binary operation is_signed at a b) g = absurd g
@@ -434,4 +435,4 @@ module _ (p : Program) (l : Layout) (s : Store) (laid : IsLaidOutBy p l) (holds 
       → evaluated s e ≡ Ok v → evaluated s i ≡ Ok k → element access v k.number ≡ Ok a → lies_in width (place_in a offset) s.blocks ≡ true
   checked_lies access e i v k a offset width g checked is here at =
       let x = unless_raw access.through ((t : CType) × (access.size ≡ l.size t) × LeadsTo p l access.through t e i × IsCellOf l t offset width) g checked in
-      leads_there access.through access x.0 e i v k a x.1 x.2 (λ last h. subst (Holds (P l s x.0 last)) is (has_range x.0 last e h)) is here at offset width x.3
+      leads_there access.through access x.0 e i v k a x.1 x.2 (λ last h. subst (Holds (HasRangeIn l s x.0 last)) is (has_range x.0 last e h)) is here at offset width x.3

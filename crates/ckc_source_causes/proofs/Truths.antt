@@ -2,7 +2,7 @@
 use Rattle.std.proofs.Common.{◌≡◌, ◌⊎◌, ⊎_elim, inl, inr, ℕ, zero, suc, ◌+◌, ◌-◌, ◌*◌, ◌%◌, ◌≤◌, ◌<◌, List, [], ◌∷◌, refl, sym, ◌∙◌, ap, subst, arith}
 use Rattle.std.specs.Prelude.{Bool, true, false, ◌==◌, ◌&&◌, ◌||◌, not, if◌then◌else◌, nat_le, nat_lt, All}
 use Rattle.std.specs.List.{list_any, Contains}
-use Rattle.std.proofs.lemmas.Bool.{and_parts, leb-true, ltb-true, eqb-true}
+use Rattle.std.proofs.lemmas.Bool.{and_parts, not-true, leb-true, ltb-true, eqb-true}
 use Rattle.std.proofs.lemmas.List.Elements.{All-contains}
 use Rattle.ckc_base.specs.declared.arithmetic.Width.{Width}
 use Rattle.ckc_types.specs.declared.types.CType.{CType, out-CType}
@@ -56,10 +56,6 @@ either : (a b : Bool) → (a || b) ≡ true → (a ≡ true) ⊎ (b ≡ true)
 either true b h = inl refl
 either false b h = inr h
 
-not_true : (c : Bool) → not c ≡ true → c ≡ false
-not_true true e = absurd cc
-not_true false e = refl
-
 some_below : (k : ℕ) (test : ℕ → Bool) → any_below k test ≡ true → (i : ℕ) × (test i ≡ true)
 unfolding any_below
 some_below zero test h = absurd cc
@@ -83,16 +79,16 @@ whole_in begin end size n low high a w e l less =
 module _ (p : Program) (l : Layout) (laid : IsLaidOutBy p l) (bs : List Block) (all : All (LiesInData l) bs) (t : CType) (to : Pointee) (n low high : ℕ) where
   -- ---- a range in a whole block
 
-  in_block : (b : Block) → Contains bs b → t ≡ b.element → (end : ℕ) → IsWithin b.base end (l.size t) n low high → (a : ℕ) → a % l.size t ≡ n % l.size t → low ≤ a → a + l.size t ≤ end_of b
+  in_block : (b : Block) → Contains bs b → (end : ℕ) → IsWithin b.base end (l.size t) n low high → (a : ℕ) → a % l.size t ≡ n % l.size t → low ≤ a → a + l.size t ≤ end_of b
       → IsElement l bs t a
-  in_block b there same end w a e from top =
+  in_block b there end w a e from top =
       let at = All-contains (LiesInData l) bs b all there in
       let above = w.begins in
       let begins : b.base ≤ a = omega arith in
       block_element l bs b t a all there begins top (λ wide. element_even (l.size t) b.base a begins (e ∙ w.even) (laid.sizes t wide) at.at)
 
-  before_end : (b : Block) → Contains bs b → (w : IsWithin b.base (end_of b) (l.size t) n low high) → (a : ℕ) → a % l.size t ≡ n % l.size t → low ≤ a → a < high → a + l.size t ≤ end_of b
-  before_end b there w a e from less =
+  before_end : (b : Block) → (w : IsWithin b.base (end_of b) (l.size t) n low high) → (a : ℕ) → a % l.size t ≡ n % l.size t → low ≤ a → a < high → a + l.size t ≤ end_of b
+  before_end b w a e from less =
       let top = w.ends in
       let room = whole_in b.base (end_of b) (l.size t) n low high a w e from less in
       omega arith
@@ -114,16 +110,15 @@ module _ (p : Program) (l : Layout) (laid : IsLaidOutBy p l) (bs : List Block) (
       → (if ends then is_within b.base (end_of b - b.size) to.size n low high else not to.terminated && is_within b.base (end_of b) to.size n low high) ≡ true → HasElements l bs t last n low high
   whole_elements last ends size b there same true e a away from before =
       let w = within b.base (end_of b - b.size) (l.size t) n low high (subst (λ s. is_within b.base (end_of b - b.size) s n low high ≡ true) size e) in
-      in_block b there same (end_of b - b.size) w a away from (before_last b there same w a from (no_more last a before))
-  whole_elements true ends size b there same false e a away from before = absurd (both to.terminated (and_parts (not to.terminated) (is_within b.base (end_of b) to.size n low high) e).0 (ends refl))
-    where
-      both : (c : Bool) → not c ≡ true → c ≡ true → ⊥
-      both true f g = absurd cc
-      both false f g = absurd cc
+      in_block b there (end_of b - b.size) w a away from (before_last b there same w a from (no_more last a before))
+  whole_elements true ends size b there same false e a away from before =
+      let open_end = not-true to.terminated (and_parts (not to.terminated) (is_within b.base (end_of b) to.size n low high) e).0 in
+      let closed = ends refl in
+      absurd cc
   whole_elements false ends size b there same false e a away from before =
       let q = and_parts (not to.terminated) (is_within b.base (end_of b) to.size n low high) e in
       let w = within b.base (end_of b) (l.size t) n low high (subst (λ s. is_within b.base (end_of b) s n low high ≡ true) size q.1) in
-      in_block b there same (end_of b) w a away from (before_end b there w a away from before)
+      in_block b there (end_of b) w a away from (before_end b w a away from before)
 
   -- ---- a range in a member
 
@@ -168,13 +163,9 @@ module _ (p : Program) (l : Layout) (laid : IsLaidOutBy p l) (bs : List Block) (
       whole_elements last points.ends points.size b q.1 (sym points.element ∙ same_equal to.element b.element c.0) b.terminated c.1)
       (λ h. let c = and_parts (not to.terminated) runs h in
       let m = some_of (is_in_member to n low high b) (member_runs p.shapes b) c.1 in
-      by last points.ends (not_true to.terminated c.0) (member_elements points.size points.element b q.1 m.0 m.1 m.2))
+      by last points.ends (not-true to.terminated c.0) (member_elements points.size points.element b q.1 m.0 m.1 m.2))
       (either (is_in_block to n low high b) (not to.terminated && runs) s.1)
     where
       by : (last : Bool) → (last ≡ true → to.terminated ≡ true) → to.terminated ≡ false → HasElements l bs t false n low high → HasElements l bs t last n low high
-      by true ends open_end h = absurd (both to.terminated (ends refl) open_end)
-        where
-          both : (c : Bool) → c ≡ true → c ≡ false → ⊥
-          both true f g = absurd cc
-          both false f g = absurd cc
+      by true ends open_end h = let closed = ends refl in absurd cc
       by false ends open_end h = h

@@ -26,7 +26,7 @@ pub record AreOfOne (limits : Limits) : Type 0 where
   pub upper_variable : limits.upper.variable ≡ None
   pub upper_add : (more : ℕ) × (limits.upper.add ≡ pos (1 + more))
 
--- The range of the value, if it has one, is that of the one element to which it points.
+-- The range of the value, if it has one, holds the one element to which it points.
 abbrev pub GivesOne : Expr → Type 0
 GivesOne (Number n) = n ≡ 0
 GivesOne (Limited x limits) = AreOfOne limits
