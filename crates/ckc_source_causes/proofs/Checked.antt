@@ -1,13 +1,13 @@
 -- Through a checked pointer of a well formed program, an access that its checks let through goes to an element of a block.
-use Rattle.std.proofs.Common.{◌≡◌, ◌≢◌, ◌⊎◌, inl, inr, refl, sym, ap, subst, ◌∙◌, ℕ, suc, ◌+◌, ◌-◌, ◌*◌, ◌%◌, ◌^◌, ◌≤◌, ◌<◌, Bool, true, false, List, [], ◌∷◌, ◌++◌, map, length, replicate, arith}
-use Rattle.std.specs.Prelude.{All, ◌==◌, ◌&&◌, nat_le, nat_lt, if◌then◌else◌, IsTrue, ℤ, pos, negsuc, ◌+ℤ◌, ◌*ℤ◌, slice_index, Option, None, Some, Result, Ok, Err}
+use Rattle.std.proofs.Common.{◌≡◌, ◌≢◌, ◌⊎◌, inl, inr, refl, sym, ap, subst, ◌∙◌, ℕ, ◌+◌, ◌-◌, ◌*◌, ◌%◌, ◌^◌, ◌≤◌, ◌<◌, Bool, true, false, List, map, length, replicate, arith}
+use Rattle.std.specs.Prelude.{◌==◌, ◌&&◌, nat_le, nat_lt, if◌then◌else◌, IsTrue, ℤ, pos, negsuc, ◌+ℤ◌, slice_index, None, Some, Result, Ok, Err}
 use Rattle.std.specs.List.{Contains}
 use Rattle.std.proofs.lemmas.Bool.{and_parts, leb-true, ltb-true}
 use Rattle.std.proofs.lemmas.List.{length-append, length-replicate, length-map, get_or-map}
 use Rattle.std.proofs.lemmas.List.Elements.{All-contains}
 use Rattle.std.proofs.lemmas.Int.{ints}
 use Rattle.std.proofs.Math.IntN.{pos-*ℤ-pos}
-use Rattle.std.proofs.Math.Nat.{mul-le-mul_left, mul-mod_right, mul_comm, add-mul-mod_self_left}
+use Rattle.std.proofs.Math.Nat.{mul-le-mul_left, add-mul-mod_self_left}
 use Rattle.ckc_base.specs.declared.arithmetic.Width.{Width}
 use Rattle.ckc_base.specs.declared.places.Pos.{Pos}
 use Rattle.ckc_base.specs.declared.arithmetic.BinOp.TheVariants as binary
@@ -15,7 +15,6 @@ use Rattle.ckc_base.specs.declared.runtime_checks.Check.TheVariants as check
 use Rattle.ckc_base.specs.Words.{applied}
 use Rattle.ckc_types.specs.declared.types.CType.{CType}
 use Rattle.ckc_source.specs.declared.expr.Access.{Access}
-use Rattle.ckc_source.specs.declared.expr.Count.{Count}
 use Rattle.ckc_source.specs.declared.expr.Integer.{Integer}
 use Rattle.ckc_source.specs.declared.expr.Integer.TheVariants.{Int, Unsigned, Char}
 use Rattle.ckc_source.specs.declared.outcome.Halt.TheVariants.{Stuck}
@@ -30,7 +29,7 @@ use Rattle.ckc_source.specs.declared.outcome.Value.{Value}
 use Rattle.ckc_source.specs.declared.program.Object.{Object}
 use Rattle.ckc_source.specs.Blocks.{Block, block_of, end_of, lies_in}
 use Rattle.ckc_source.specs.Code.{Expr, Number, Local, Limited, Array, Load, Member, Address, Moved, Added, Binary, And, Or, Choice, Narrow, Bare, Tested, Trusted, Program}
-use Rattle.ckc_source.specs.Eval.{Store, given, stops, plain, ranged, spanned, reads_within, reads, at_address, in_range, exact_element, element_through, place_in, loads_pointer, counted, moved_exactly, moves_checked, moves, amount, base_address, end_address, element, tests_within, tests, accessed, evaluated}
+use Rattle.ckc_source.specs.Eval.{Store, given, stops, plain, ranged, reads_within, reads, at_address, in_range, exact_element, element_through, place_in, counted, moved_exactly, moves_checked, moves, amount, base_address, end_address, element, tests_within, tests, evaluated}
 use Rattle.ckc_source.specs.Runs.{is_true}
 use Rattle.ckc_source.specs.Words.{exact, as_address, elements_behind}
 use Rattle.ckc_source_causes.specs.Layouts.{Layout, IsCellOf, IsInElement, PointsTo, HasElementsAt, NamesElements, LiesByType, IsLaidOutBy}

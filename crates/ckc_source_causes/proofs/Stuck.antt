@@ -1,5 +1,5 @@
 -- An expression of a well formed program that is stuck is stuck for a cause.
-use Rattle.std.proofs.Common.{◌≡◌, ◌⊎◌, ◌∙◌, inl, inr, refl, sym, ap, subst, ℕ, Bool, true, false}
+use Rattle.std.proofs.Common.{◌≡◌, ◌⊎◌, ◌∙◌, inl, inr, refl, sym, ap, ℕ, Bool, true, false}
 use Rattle.std.specs.Prelude.{◌≢◌, ◌==◌, ◌&&◌, ◌||◌, ◌-◌, ◌%◌, ◌+ℤ◌, if◌then◌else◌, ℤ, pos, List, [], ◌∷◌, slice_index, Option, Some, None, Result, Ok, Err}
 use Rattle.std.specs.List.{list_any}
 use Rattle.std.proofs.lemmas.Bool.{eqb-true}
@@ -25,7 +25,7 @@ use Rattle.ckc_source.specs.declared.outcome.Range.TheVariants.{Without}
 use Rattle.ckc_source.specs.declared.outcome.Value.{Value}
 use Rattle.ckc_source.specs.Blocks.{Block, found, has, number_at, is_aligned, lies_in, loaded}
 use Rattle.ckc_source.specs.Code.{Expr, Number, Local, Limited, Array, Load, Member, Address, Moved, Added, Binary, And, Or, Choice, Narrow, Bare, Tested, Trusted, Program}
-use Rattle.ckc_source.specs.Eval.{Store, given, given_both, given_some, stops, plain, ranged, spanned, reads_within, reads, at_address, end_address, reads_limited, element, element_through, place_in, loads, counted, loads_pointer, moved_exactly, moves_checked, moves, operates, tests, trusts, accessed, evaluated, all_evaluated}
+use Rattle.ckc_source.specs.Eval.{Store, given, given_both, given_some, stops, plain, ranged, spanned, reads_within, reads, at_address, end_address, reads_limited, element, place_in, loads, counted, loads_pointer, moved_exactly, moves_checked, moves, operates, tests, trusts, accessed, evaluated, all_evaluated}
 use Rattle.ckc_source.specs.Words.{exact, width_of, as_address, elements_behind, truth, computed, divides}
 use Rattle.ckc_types.specs.declared.types.CType.{CType}
 use Rattle.ckc_source_causes.specs.Layouts.{Layout, IsCellOf, IsCountOf, IsLaidOutBy}

@@ -4,7 +4,6 @@ use Rattle.std.specs.Prelude.{Bool, true, false, ◌==◌, ◌&&◌, ◌||◌, n
 use Rattle.std.specs.List.{list_any, Contains}
 use Rattle.std.proofs.lemmas.Bool.{and_parts, not-true, leb-true, ltb-true, eqb-true}
 use Rattle.std.proofs.lemmas.List.Elements.{All-contains}
-use Rattle.ckc_base.specs.declared.arithmetic.Width.{Width}
 use Rattle.ckc_types.specs.declared.types.CType.{CType, out-CType}
 use Rattle.ckc_types.specs.Same.{same_type}
 use Rattle.ckc_source.specs.declared.expr.Pointee.{Pointee}
@@ -12,7 +11,7 @@ use Rattle.ckc_source.specs.declared.program.MemberRun.{MemberRun}
 use Rattle.ckc_source.specs.Blocks.{Block, end_of}
 use Rattle.ckc_source.specs.Code.{Program}
 use Rattle.ckc_source.specs.Runs.{is_within, is_in_block, any_below, is_at, is_in_some_element, is_in_member, runs_in, member_runs, is_in, is_true}
-use Rattle.ckc_source_causes.specs.Layouts.{Layout, PointsTo, IsCellOf, IsLaidOutBy}
+use Rattle.ckc_source_causes.specs.Layouts.{Layout, PointsTo, IsLaidOutBy}
 use Rattle.ckc_source_causes.specs.Causes.{LiesInData}
 use Rattle.ckc_source_causes.proofs.Elements.{IsElement, IsBefore, HasElements, block_element}
 use Rattle.ckc_source_causes.proofs.Numbers.{elements_even, element_even, whole_before}

@@ -1,16 +1,14 @@
 -- Which expressions give a pointer that is null or has a range of elements of a type, by their form.
-use Rattle.std.specs.Prelude.{◌≡◌, ◌⊎◌, ◌+◌, ℕ, pos, Bool, true, false, Option, None, Some, IsTrue}
+use Rattle.std.specs.Prelude.{◌≡◌, ◌⊎◌, ◌+◌, ℕ, pos, Bool, true, false, None, IsTrue}
 use Rattle.ckc_types.specs.declared.types.CType.{CType}
 use Rattle.ckc_source.specs.declared.expr.Base.TheVariants as base
-use Rattle.ckc_source.specs.declared.expr.Count.{Count}
 use Rattle.ckc_source.specs.declared.expr.Count.TheVariants as count
-use Rattle.ckc_source.specs.declared.expr.End.{End}
 use Rattle.ckc_source.specs.declared.expr.Limits.{Limits}
 use Rattle.ckc_source.specs.declared.expr.Through.{Through}
 use Rattle.ckc_source.specs.declared.expr.Through.TheVariants as through
 use Rattle.ckc_source.specs.declared.outcome.Range.TheVariants.{Within}
 use Rattle.ckc_source.specs.declared.outcome.Value.{Value}
-use Rattle.ckc_source.specs.Code.{Expr, Number, Local, Limited, Array, Load, Member, Address, Moved, Added, Binary, And, Or, Choice, Narrow, Bare, Tested, Trusted, Program}
+use Rattle.ckc_source.specs.Code.{Expr, Number, Limited, Array, Member, Address, Moved, Added, Choice, Tested, Trusted, Program}
 use Rattle.ckc_source_causes.specs.Layouts.{Layout, IsInElement, PointsTo, HasElementsAt, NamesElements}
 
 -- a value that is null or has a range
