@@ -1,5 +1,6 @@
 pub mod Kept
 pub mod KeptActs
+pub mod KeptArms
 pub mod KeptNodes
 pub mod Named
 pub mod Stays
