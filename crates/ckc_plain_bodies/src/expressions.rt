@@ -1,12 +1,12 @@
 //! Expressions without the effects in them.
 
 ghost use Rattle.ckc_plain_bodies.specs.Expressions.{bounds_plain, limits_plain, expr_kept, expr_plain, exprs_plain, whole_plain, maybe_plain, if_true, if_false, truth_at};
-ghost use Rattle.ckc_plain_bodies.specs.Taken.{expr_at};
+ghost use Rattle.ckc_plain_bodies.specs.Taken.{expr_at, block_at};
 ghost use Rattle.ckc_plain_bodies.specs.code.Parts.{bounded_node, chosen_by, start_by, choice_by, choice_at, choose_by, second_by, right_by};
 ghost use Rattle.ckc_plain_bodies.specs.code.Steps.{Steps};
 ghost use Rattle.std.specs.Prelude.{◌≡◌, ◌+◌, IfOk};
 
-use crate::boxes::{add_at_end, add_expr, in_box, no_exprs, stmt_in_box};
+use crate::boxes::{Inner, add_at_end, add_expr, if_else, in_box, no_exprs, stmt_in_box};
 use crate::pending::Pending;
 use crate::taken::{
     add_fresh, assign_at, binary_at, block_at, call_taken, expr_at, local_at, number_at, set_taken,
@@ -95,46 +95,46 @@ fn truth_at(
 /// `if (a) { prelude of b; t = b != 0; }`
 fn if_true(
     alloc: Global,
-    a: Expr<Name, ()>,
-    block: Stmt<Name, ()>,
+    condition: Boxed<Expr<Name, ()>>,
+    block: Pending,
     pos: Pos,
 ) -> Result<Stmt<Name, ()>, AllocError>
-    ensures { IfOk result (λ s. s ≡ if_true a block pos) }
+    ensures { IfOk result (λ s. s ≡ if_true condition (block_at block.stmts pos) pos) }
 {
-    let condition = in_box(alloc, a)?;
-    let then = stmt_in_box(alloc, block)?;
+    let then = stmt_in_box(alloc, block_at(block.into_stmts(), pos))?;
     Ok(stmt_at(Act::If(condition, then, None), pos))
 }
 
 /// `if (a) ; else { prelude of b; t = b != 0; }`
 fn if_false(
     alloc: Global,
-    a: Expr<Name, ()>,
-    block: Stmt<Name, ()>,
+    condition: Boxed<Expr<Name, ()>>,
+    block: Pending,
     pos: Pos,
 ) -> Result<Stmt<Name, ()>, AllocError>
-    ensures { IfOk result (λ s. s ≡ if_false a block pos) }
+    ensures { IfOk result (λ s. s ≡ if_false condition (block_at block.stmts pos) pos) }
 {
-    let condition = in_box(alloc, a)?;
-    let then = stmt_in_box(alloc, stmt_at(Act::Empty, pos))?;
-    let otherwise = stmt_in_box(alloc, block)?;
-    Ok(stmt_at(Act::If(condition, then, Some(otherwise)), pos))
+    let stmt = stmt_in_box(alloc, stmt_at(Act::Empty, pos))?;
+    let then = Inner { stmt };
+    let otherwise = stmt_in_box(alloc, block_at(block.into_stmts(), pos))?;
+    Ok(if_else(condition, then, Inner { stmt: otherwise }, pos))
 }
 
-/// The `if` of `&&` or of `||`.
+/// The `if` of `&&` or of `||`, with the statements of a block.
 fn chosen(
     alloc: Global,
     all: bool,
     a: Expr<Name, ()>,
-    block: Stmt<Name, ()>,
+    block: Pending,
     pos: Pos,
 ) -> Result<Stmt<Name, ()>, AllocError>
-    ensures { IfOk result (λ s. s ≡ chosen_by all a block pos) }
+    ensures { IfOk result (λ s. s ≡ chosen_by all a (block_at block.stmts pos) pos) }
 {
+    let condition = in_box(alloc, a)?;
     if all {
-        return if_true(alloc, a, block, pos);
+        return if_true(alloc, condition, block, pos);
     }
-    if_false(alloc, a, block, pos)
+    if_false(alloc, condition, block, pos)
 }
 
 /// What `&&` gives at first if all is true, and `||` if not.
@@ -161,17 +161,12 @@ fn choice_taken(
 {
     let k = pending.next;
     let next = inner.next;
-    let mut stmts = inner.into_stmts();
+    let mut block = inner;
     let truth = truth_at(alloc, k, b, pos)?;
-    add_at_end(&mut stmts, truth)?;
-    let made = chosen(alloc, all, a, block_at(stmts, pos), pos)?;
-    let name = add_fresh(
-        alloc,
-        Integer::Int,
-        number_at(start_of(all), pos),
-        pos,
-        pending,
-    )?;
+    add_at_end(&mut block.stmts, truth)?;
+    let start = number_at(start_of(all), pos);
+    let name = add_fresh(alloc, Integer::Int, start, pos, pending)?;
+    let made = chosen(alloc, all, a, block, pos)?;
     add_at_end(&mut pending.stmts, made)?;
     pending.next = next;
     Ok(name)
