@@ -1,6 +1,6 @@
 -- What an arm of `kept` gives, by what the calls in it give.
 use Rattle.std.proofs.Common.{◌≡◌, ◌+◌, refl, sym, ap, ◌∙◌}
-use Rattle.std.specs.Prelude.{ℕ, Bool, true, false, Option}
+use Rattle.std.specs.Prelude.{ℕ, Bool, List, Option}
 use Rattle.ckc_base.specs.declared.places.Pos.{Pos}
 use Rattle.ckc_syntax.specs.declared.tree.TreeOp.{TreeOp}
 use Rattle.ckc_syntax.specs.declared.tree.Node.TheVariants as node
@@ -12,7 +12,7 @@ use Rattle.ckc_plain_barred.specs.declared.forms.Work.TheVariants as work
 use Rattle.ckc_plain_barred.specs.Forms.{work_of, form_of}
 use Rattle.ckc_plain_bodies.specs.declared.pending.Pending.{Pending}
 use Rattle.ckc_plain_bodies.specs.Taken.{expr_at, after, none_pending}
-use Rattle.ckc_plain_bodies.specs.Expressions.{bounds_plain, expr_kept, expr_plain, binary_parts}
+use Rattle.ckc_plain_bodies.specs.Expressions.{bounds_plain, expr_kept, expr_plain, exprs_plain, binary_parts}
 use Rattle.ckc_plain_bodies.specs.code.Parts.{choice_at, choose_by, second_by, right_by}
 use Rattle.ckc_plain_bodies.proofs.KeptNodes.{two_kept}
 
@@ -20,15 +20,15 @@ use Rattle.ckc_plain_bodies.proofs.KeptNodes.{two_kept}
 pub done : (whole : NamedExpr × Pending) (a r : NamedExpr) (q : Pending) → whole ≡ (a, q) → r ≡ a → whole ≡ (r, q)
 done whole a r q w e = w ∙ ap (λ (z : NamedExpr). (z, q)) (sym e)
 
-module _ (known : Integers) (p : Pending) (whole : NamedExpr × Pending) where
+module _ {B : Type 0} (known : Integers) (p : Pending) (whole : B × Pending) where
   -- one part, which the code reads through its box
-  pub one_part : (x y a : NamedExpr) (q : Pending) (f : NamedExpr → NamedExpr)
+  pub one_part : (x y a : NamedExpr) (q : Pending) (f : NamedExpr → B)
       → whole ≡ after (expr_plain known x p) (λ b s. (f b, s)) → y ≡ x → expr_plain known y p ≡ (a, q) → whole ≡ (f a, q)
   one_part x y a q f w e m =
       w ∙ ap (λ z. after (expr_plain known z p) (λ b s. (f b, s))) (sym e)
       ∙ ap (λ (z : NamedExpr × Pending). after z (λ b s. (f b, s))) m
 
-  pub two_parts : (x y a : NamedExpr) (q : Pending) (u v b : NamedExpr) (r : Pending) (f : NamedExpr → NamedExpr → NamedExpr)
+  pub two_parts : (x y a : NamedExpr) (q : Pending) (u v b : NamedExpr) (r : Pending) (f : NamedExpr → NamedExpr → B)
       → whole ≡ after (expr_plain known x p) (λ c s. after (expr_plain known u s) (λ d t. (f c d, t)))
       → y ≡ x → expr_plain known y p ≡ (a, q) → v ≡ u → expr_plain known v q ≡ (b, r) → whole ≡ (f a b, r)
   two_parts x y a q u v b r f w e m g n =
@@ -37,7 +37,7 @@ module _ (known : Integers) (p : Pending) (whole : NamedExpr × Pending) where
       ∙ ap (λ z. after (expr_plain known z q) (λ d t. (f a d, t))) (sym g)
       ∙ ap (λ (z : NamedExpr × Pending). after z (λ d t. (f a d, t))) n
 
-  pub three_parts : (x y a : NamedExpr) (q : Pending) (u v b : NamedExpr) (r : Pending) (k l c : NamedExpr) (o : Pending) (f : NamedExpr → NamedExpr → NamedExpr → NamedExpr)
+  pub three_parts : (x y a : NamedExpr) (q : Pending) (u v b : NamedExpr) (r : Pending) (k l c : NamedExpr) (o : Pending) (f : NamedExpr → NamedExpr → NamedExpr → B)
       → whole ≡ after (expr_plain known x p) (λ i s. after (expr_plain known u s) (λ d t. after (expr_plain known k t) (λ h w. (f i d h, w))))
       → y ≡ x → expr_plain known y p ≡ (a, q) → v ≡ u → expr_plain known v q ≡ (b, r) → l ≡ k → expr_plain known l r ≡ (c, o) → whole ≡ (f a b c, o)
   three_parts x y a q u v b r k l c o f w e m g n h i =
@@ -48,13 +48,19 @@ module _ (known : Integers) (p : Pending) (whole : NamedExpr × Pending) where
       ∙ ap (λ z. after (expr_plain known z r) (λ h w. (f a b h, w))) (sym h)
       ∙ ap (λ (z : NamedExpr × Pending). after z (λ h w. (f a b h, w))) i
 
-  pub part_and_bounds : (x y a : NamedExpr) (q : Pending) (l : Option NamedLimits) (k : Option NamedLimits) (r : Pending) (f : NamedExpr → Option NamedLimits → NamedExpr)
+  pub part_and_bounds : (x y a : NamedExpr) (q : Pending) (l : Option NamedLimits) (k : Option NamedLimits) (r : Pending) (f : NamedExpr → Option NamedLimits → B)
       → whole ≡ after (expr_plain known x p) (λ c s. after (bounds_plain known l s) (λ d t. (f c d, t)))
       → y ≡ x → expr_plain known y p ≡ (a, q) → bounds_plain known l q ≡ (k, r) → whole ≡ (f a k, r)
   part_and_bounds x y a q l k r f w e m n =
       w ∙ ap (λ z. after (expr_plain known z p) (λ c s. after (bounds_plain known l s) (λ d t. (f c d, t)))) (sym e)
       ∙ ap (λ (z : NamedExpr × Pending). after z (λ c s. after (bounds_plain known l s) (λ d t. (f c d, t)))) m
       ∙ ap (λ (z : Option NamedLimits × Pending). after z (λ d t. (f a d, t))) n
+
+  pub arguments : (es fs : List NamedExpr) (made : List NamedExpr) (q : Pending) (f : List NamedExpr → B)
+      → whole ≡ after (exprs_plain known es p) (λ b s. (f b, s)) → fs ≡ es → exprs_plain known fs p ≡ (made, q) → whole ≡ (f made, q)
+  arguments es fs made q f w e m =
+      w ∙ ap (λ z. after (exprs_plain known z p) (λ b s. (f b, s))) (sym e)
+      ∙ ap (λ (z : List NamedExpr × Pending). after z (λ b s. (f b, s))) m
 
 module _ (known : Integers) where
   second_is : (w : Work) (o : TreeOp) (x f : NamedExpr) (pos : Pos) (p : Pending)
