@@ -1,6 +1,6 @@
 -- What each form of expression becomes, by what its parts become.
-use Rattle.std.proofs.Common.{◌≡◌, refl, sym, ap, ◌∙◌}
-use Rattle.std.specs.Prelude.{ℕ, Bool, List, Option, Some, None, map}
+use Rattle.std.proofs.Common.{◌≡◌, sym, ◌∙◌}
+use Rattle.std.specs.Prelude.{ℕ, Bool, List, Option, Some, None}
 use Rattle.ckc_base.specs.declared.places.Pos.{Pos}
 use Rattle.ckc_syntax.specs.declared.tree.Name.{Name}
 use Rattle.ckc_syntax.specs.declared.tree.TreeOp.{TreeOp}
@@ -8,10 +8,10 @@ use Rattle.ckc_syntax.specs.declared.tree.Limits.{Limits-F}
 use Rattle.ckc_syntax.specs.declared.tree.Limits.TheVariants as limits
 use Rattle.ckc_syntax.specs.declared.tree.Node.{Node-F}
 use Rattle.ckc_syntax.specs.declared.tree.Node.TheVariants as node
-use Rattle.ckc_syntax.specs.Trees.{NamedTypeTree, NamedLimits, NamedNode, NamedExpr}
+use Rattle.ckc_syntax.specs.Trees.{NamedTypeTree, NamedLimits, NamedExpr}
 use Rattle.ckc_plain_barred.specs.declared.integers.Integers.{Integers}
 use Rattle.ckc_plain_bodies.specs.declared.pending.Pending.{Pending}
-use Rattle.ckc_plain_bodies.specs.Taken.{expr_at, after, taken}
+use Rattle.ckc_plain_bodies.specs.Taken.{expr_at, after}
 use Rattle.ckc_plain_bodies.specs.Expressions.{bounds_plain, limits_plain, expr_kept, expr_plain, exprs_plain}
 use Rattle.ckc_plain_bodies.specs.code.Parts.{binary_kept}
 use Rattle.ckc_plain_bodies.proofs.Kept.{kept_by, limits_by}

@@ -7,24 +7,24 @@ use Rattle.ckc_syntax.specs.declared.tree.TreeOp.{TreeOp}
 use Rattle.ckc_syntax.specs.declared.tree.Node.{Node-F, out-Node, roll-Node, the_lemmas}
 use Rattle.ckc_syntax.specs.declared.tree.Node.TheVariants as node
 use Rattle.ckc_base.specs.declared.places.Pos.{Pos}
-use Rattle.ckc_syntax.specs.Trees.{NamedLimits, NamedNode, NamedExpr, NamedStmt}
+use Rattle.ckc_syntax.specs.Trees.{NamedNode, NamedExpr, NamedStmt}
 use Rattle.ckc_plain_barred.specs.declared.integers.Integers.{Integers}
 use Rattle.ckc_plain_bodies.specs.declared.pending.Pending.{Pending}
 use Rattle.ckc_plain_barred.specs.declared.forms.Work.{Work}
 use Rattle.ckc_plain_barred.specs.declared.forms.Work.TheVariants as work
 use Rattle.ckc_plain_barred.specs.declared.forms.Form.{Form}
-use Rattle.ckc_plain_barred.specs.Forms.{work_of, form_of, form_of_layer, binary_form, unary_form, is_call, stays}
+use Rattle.ckc_plain_barred.specs.Forms.{work_of, form_of, form_of_layer, binary_form, is_call, stays}
 use Rattle.ckc_plain_bodies.specs.Taken.{expr_at, after, taken, node_taken, unary_taken, binary_taken}
 use Rattle.ckc_plain_bodies.specs.Expressions.{if_none, node_parts, binary_parts, limits_plain, expr_kept, expr_plain, whole_plain}
-use Rattle.ckc_plain_bodies.specs.code.Parts.{binary_kept, right_by}
+use Rattle.ckc_plain_bodies.specs.code.Parts.{right_by}
 use Rattle.ckc_plain_barred.specs.declared.forms.Form.TheVariants as form
 use Rattle.ckc_plain_bodies.proofs.Kept.{Layer, kept_layer, kept_by}
 use Rattle.ckc_plain_bodies.proofs.KeptNodes.{unary_kept, two_kept}
 
-out_unary : (o : TreeOp) (a : NamedExpr) → out-Node Name (Unit {0}) (node.Un o a) ≡ Node-F.Un o a
+pub out_unary : (o : TreeOp) (a : NamedExpr) → out-Node Name (Unit {0}) (node.Un o a) ≡ Node-F.Un o a
 out_unary o a = search (rules, the_lemmas)
 
-out_binary : (o : TreeOp) (a b : NamedExpr) → out-Node Name (Unit {0}) (node.Bin o a b) ≡ Node-F.Bin o a b
+pub out_binary : (o : TreeOp) (a b : NamedExpr) → out-Node Name (Unit {0}) (node.Bin o a b) ≡ Node-F.Bin o a b
 out_binary o a b = search (rules, the_lemmas)
 
 out_name : (n : Name) → out-Node Name (Unit {0}) (node.Name n) ≡ Node-F.Name n
@@ -86,10 +86,10 @@ module _ (known : Integers) where
 
   -- ---- an expression is a call once its parts are plain, if it was one
 
-  out_roll : (x : Layer) → out-Node Name (Unit {0}) (roll-Node Name (Unit {0}) x) ≡ x
+  pub out_roll : (x : Layer) → out-Node Name (Unit {0}) (roll-Node Name (Unit {0}) x) ≡ x
   out_roll x = search (rules, the_lemmas)
 
-  roll_out : (n : NamedNode) → roll-Node Name (Unit {0}) (out-Node Name (Unit {0}) n) ≡ n
+  pub roll_out : (n : NamedNode) → roll-Node Name (Unit {0}) (out-Node Name (Unit {0}) n) ≡ n
   roll_out n = search (rules, the_lemmas)
 
   form_at : (m : NamedNode) (pos : Pos) (x : Layer) → m ≡ roll-Node Name (Unit {0}) x → form_of (expr_at m pos) ≡ form_of_layer x
@@ -166,6 +166,9 @@ module _ (known : Integers) where
 
   pub right_else : (target : Form) (e : NamedExpr) (p : Pending) → stays target (form_of e) ≡ false → expr_plain known e p ≡ right_by known target e p
   right_else target e p b = sym (right_is target e p ∙ ap (λ z. if z then expr_kept known e p else expr_plain known e p) b)
+
+  pub right_then : (target : Form) (e : NamedExpr) (p : Pending) → stays target (form_of e) ≡ true → expr_kept known e p ≡ right_by known target e p
+  right_then target e p b = sym (right_is target e p ∙ ap (λ z. if z then expr_kept known e p else expr_plain known e p) b)
 
   pub whole_else : (e : NamedExpr) (p : Pending) → is_call (form_of e) ≡ false → expr_plain known e p ≡ whole_plain known e p
   whole_else e p b = sym (whole_is e p ∙ ap (λ z. if z then expr_kept known e p else expr_plain known e p) b)

@@ -1,11 +1,10 @@
 -- How an effect is taken out of an expression: statements go before it, and the name of a local takes its place. Each new
 -- node has the place of the effect.
-use Rattle.std.specs.Prelude.{ℕ, ◌+◌, Bool, false, List, [], ◌∷◌, ◌++◌, Option, None, Some}
+use Rattle.std.specs.Prelude.{ℕ, ◌+◌, false, List, [], ◌∷◌, ◌++◌, Option, None, Some}
 use Rattle.ckc_base.specs.declared.places.Pos.{Pos}
 use Rattle.ckc_syntax.specs.declared.tree.Name.{Name}
 use Rattle.ckc_syntax.specs.declared.tree.Name.TheVariants as name
 use Rattle.ckc_syntax.specs.declared.tree.TreeOp.{TreeOp}
-use Rattle.ckc_syntax.specs.declared.tree.TreeOp.TheVariants as op
 use Rattle.ckc_syntax.specs.declared.tree.Length.TheVariants as array
 use Rattle.ckc_syntax.specs.declared.tree.Init.TheVariants as init
 use Rattle.ckc_syntax.specs.declared.tree.Node.{Node-F, out-Node}
@@ -13,7 +12,6 @@ use Rattle.ckc_syntax.specs.declared.tree.Node.TheVariants as node
 use Rattle.ckc_syntax.specs.declared.tree.Act.TheVariants as act
 use Rattle.ckc_syntax.specs.Trees.{NamedLimits, NamedNode, NamedExpr, NamedStmt, NamedAct}
 use Rattle.ckc_plain_barred.specs.declared.integers.Integer.{Integer}
-use Rattle.ckc_plain_barred.specs.declared.integers.Integer.TheVariants as integer
 use Rattle.ckc_plain_barred.specs.declared.integers.Integers.{Integers}
 use Rattle.ckc_plain_bodies.specs.declared.pending.Pending.{Pending}
 use Rattle.ckc_plain_barred.specs.declared.forms.Work.{Work}

@@ -1,12 +1,12 @@
 //! Expressions without the effects in them.
 
 ghost use Rattle.ckc_plain_bodies.specs.Expressions.{bounds_plain, limits_plain, expr_kept, expr_plain, exprs_plain, whole_plain, maybe_plain, if_true, if_false, truth_at};
-ghost use Rattle.ckc_plain_bodies.specs.Taken.{expr_at};
-ghost use Rattle.ckc_plain_bodies.specs.code.Parts.{chosen_by, start_by, choice_by, choice_at, right_by};
+ghost use Rattle.ckc_plain_bodies.specs.Taken.{expr_at, block_at};
+ghost use Rattle.ckc_plain_bodies.specs.code.Parts.{bounded_node, chosen_by, start_by, choice_by, choice_at, choose_by, second_by, right_by};
 ghost use Rattle.ckc_plain_bodies.specs.code.Steps.{Steps};
 ghost use Rattle.std.specs.Prelude.{◌≡◌, ◌+◌, IfOk};
 
-use crate::boxes::{add_at_end, add_expr, in_box, no_exprs, stmt_in_box};
+use crate::boxes::{Inner, add_at_end, add_expr, if_else, in_box, no_exprs, stmt_in_box};
 use crate::pending::Pending;
 use crate::taken::{
     add_fresh, assign_at, binary_at, block_at, call_taken, expr_at, local_at, number_at, set_taken,
@@ -61,6 +61,24 @@ fn calloc_at(
     Ok(expr_at(Node::Calloc(t, e, u), pos))
 }
 
+/// A cast with bounds that it may state: with tests, or trusted.
+fn bounded_at(
+    alloc: Global,
+    tested: bool,
+    t: &TypeTree<Name>,
+    e: Boxed<Expr<Name, ()>>,
+    bounds: Option<Boxed<Limits<Name, ()>>>,
+    pos: Pos,
+) -> Result<Expr<Name, ()>, AllocError>
+    ensures { IfOk result (λ a. a ≡ expr_at (bounded_node tested t.now e bounds) pos) }
+{
+    let t = copied_type(alloc, t)?;
+    if tested {
+        return Ok(expr_at(Node::Tested(t, e, bounds), pos));
+    }
+    Ok(expr_at(Node::Trusted(t, e, bounds), pos))
+}
+
 /// `t = b != 0;`
 fn truth_at(
     alloc: Global,
@@ -77,46 +95,46 @@ fn truth_at(
 /// `if (a) { prelude of b; t = b != 0; }`
 fn if_true(
     alloc: Global,
-    a: Expr<Name, ()>,
-    block: Stmt<Name, ()>,
+    condition: Boxed<Expr<Name, ()>>,
+    block: Pending,
     pos: Pos,
 ) -> Result<Stmt<Name, ()>, AllocError>
-    ensures { IfOk result (λ s. s ≡ if_true a block pos) }
+    ensures { IfOk result (λ s. s ≡ if_true condition (block_at block.stmts pos) pos) }
 {
-    let condition = in_box(alloc, a)?;
-    let then = stmt_in_box(alloc, block)?;
+    let then = stmt_in_box(alloc, block_at(block.into_stmts(), pos))?;
     Ok(stmt_at(Act::If(condition, then, None), pos))
 }
 
 /// `if (a) ; else { prelude of b; t = b != 0; }`
 fn if_false(
     alloc: Global,
-    a: Expr<Name, ()>,
-    block: Stmt<Name, ()>,
+    condition: Boxed<Expr<Name, ()>>,
+    block: Pending,
     pos: Pos,
 ) -> Result<Stmt<Name, ()>, AllocError>
-    ensures { IfOk result (λ s. s ≡ if_false a block pos) }
+    ensures { IfOk result (λ s. s ≡ if_false condition (block_at block.stmts pos) pos) }
 {
-    let condition = in_box(alloc, a)?;
-    let then = stmt_in_box(alloc, stmt_at(Act::Empty, pos))?;
-    let otherwise = stmt_in_box(alloc, block)?;
-    Ok(stmt_at(Act::If(condition, then, Some(otherwise)), pos))
+    let stmt = stmt_in_box(alloc, stmt_at(Act::Empty, pos))?;
+    let then = Inner { stmt };
+    let otherwise = stmt_in_box(alloc, block_at(block.into_stmts(), pos))?;
+    Ok(if_else(condition, then, Inner { stmt: otherwise }, pos))
 }
 
-/// The `if` of `&&` or of `||`.
+/// The `if` of `&&` or of `||`, with the statements of a block.
 fn chosen(
     alloc: Global,
     all: bool,
     a: Expr<Name, ()>,
-    block: Stmt<Name, ()>,
+    block: Pending,
     pos: Pos,
 ) -> Result<Stmt<Name, ()>, AllocError>
-    ensures { IfOk result (λ s. s ≡ chosen_by all a block pos) }
+    ensures { IfOk result (λ s. s ≡ chosen_by all a (block_at block.stmts pos) pos) }
 {
+    let condition = in_box(alloc, a)?;
     if all {
-        return if_true(alloc, a, block, pos);
+        return if_true(alloc, condition, block, pos);
     }
-    if_false(alloc, a, block, pos)
+    if_false(alloc, condition, block, pos)
 }
 
 /// What `&&` gives at first if all is true, and `||` if not.
@@ -143,17 +161,12 @@ fn choice_taken(
 {
     let k = pending.next;
     let next = inner.next;
-    let mut stmts = inner.into_stmts();
+    let mut block = inner;
     let truth = truth_at(alloc, k, b, pos)?;
-    add_at_end(&mut stmts, truth)?;
-    let made = chosen(alloc, all, a, block_at(stmts, pos), pos)?;
-    let name = add_fresh(
-        alloc,
-        Integer::Int,
-        number_at(start_of(all), pos),
-        pos,
-        pending,
-    )?;
+    add_at_end(&mut block.stmts, truth)?;
+    let start = number_at(start_of(all), pos);
+    let name = add_fresh(alloc, Integer::Int, start, pos, pending)?;
+    let made = chosen(alloc, all, a, block, pos)?;
     add_at_end(&mut pending.stmts, made)?;
     pending.next = next;
     Ok(name)
@@ -207,30 +220,10 @@ fn kept(
             let x = boxed_expr(alloc, known, x.get(), pending)?;
             Ok(expr_at(Node::Un(*op, x), e.pos))
         }
-        Node::Bin(op, x, f) => match work_of(*op) {
-            Work::Sets => {
-                let a = plain_expr(alloc, known, x.get(), pending)?;
-                let b = right_expr(alloc, known, form_of(&a), f.get(), pending)?;
-                binary_at(alloc, *op, a, b, e.pos)
-            }
-            Work::IfTrue => {
-                let a = plain_expr(alloc, known, x.get(), pending)?;
-                let mut inner = Pending::none(alloc, number_after(pending.next)?);
-                let b = plain_expr(alloc, known, f.get(), &mut inner)?;
-                choice(alloc, *op, true, e.pos, a, b, inner, pending)
-            }
-            Work::IfFalse => {
-                let a = plain_expr(alloc, known, x.get(), pending)?;
-                let mut inner = Pending::none(alloc, number_after(pending.next)?);
-                let b = plain_expr(alloc, known, f.get(), &mut inner)?;
-                choice(alloc, *op, false, e.pos, a, b, inner, pending)
-            }
-            _ => {
-                let a = plain_expr(alloc, known, x.get(), pending)?;
-                let b = plain_expr(alloc, known, f.get(), pending)?;
-                binary_at(alloc, *op, a, b, e.pos)
-            }
-        },
+        Node::Bin(op, x, f) => {
+            let a = plain_expr(alloc, known, x.get(), pending)?;
+            second_expr(alloc, known, work_of(*op), *op, f.get(), a, e.pos, pending)
+        }
         Node::Pick(x, f, g) => {
             let x = boxed_expr(alloc, known, x.get(), pending)?;
             let f = boxed_expr(alloc, known, f.get(), pending)?;
@@ -258,14 +251,12 @@ fn kept(
         Node::Trusted(t, x, limits) => {
             let x = boxed_expr(alloc, known, x.get(), pending)?;
             let limits = plain_bounds(alloc, known, limits, pending)?;
-            let t = copied_type(alloc, t)?;
-            Ok(expr_at(Node::Trusted(t, x, limits), e.pos))
+            bounded_at(alloc, false, t, x, limits, e.pos)
         }
         Node::Tested(t, x, limits) => {
             let x = boxed_expr(alloc, known, x.get(), pending)?;
             let limits = plain_bounds(alloc, known, limits, pending)?;
-            let t = copied_type(alloc, t)?;
-            Ok(expr_at(Node::Tested(t, x, limits), e.pos))
+            bounded_at(alloc, true, t, x, limits, e.pos)
         }
         Node::Call(n, es) => {
             let args = plain_exprs(alloc, known, es.as_slice(), pending)?;
@@ -274,6 +265,53 @@ fn kept(
         Node::Calloc(t, x, u) => {
             let x = boxed_expr(alloc, known, x.get(), pending)?;
             calloc_at(alloc, t, x, u, e.pos)
+        }
+    }
+}
+
+/// `&&` or `||` after its left operand.
+#[cycle(plain)]
+fn choice_expr(
+    alloc: Global,
+    known: &Integers,
+    op: TreeOp,
+    all: bool,
+    e: &Expr<Name, ()>,
+    a: Expr<Name, ()>,
+    pos: Pos,
+    pending: &mut Pending,
+) -> Result<Expr<Name, ()>, AllocError>
+    ensures { Steps result pending.new (choose_by known.now op all a e.now pos pending.old) }
+{
+    let mut inner = Pending::none(alloc, number_after(pending.next)?);
+    let b = plain_expr(alloc, known, e, &mut inner)?;
+    choice(alloc, op, all, pos, a, b, inner, pending)
+}
+
+/// Two operands after the left one, by what their operator does.
+#[cycle(plain)]
+fn second_expr(
+    alloc: Global,
+    known: &Integers,
+    work: Work,
+    op: TreeOp,
+    e: &Expr<Name, ()>,
+    a: Expr<Name, ()>,
+    pos: Pos,
+    pending: &mut Pending,
+) -> Result<Expr<Name, ()>, AllocError>
+    ensures { Steps result pending.new (second_by known.now work op a e.now pos pending.old) }
+{
+    match work {
+        Work::Sets => {
+            let b = right_expr(alloc, known, form_of(&a), e, pending)?;
+            binary_at(alloc, op, a, b, pos)
+        }
+        Work::IfTrue => choice_expr(alloc, known, op, true, e, a, pos, pending),
+        Work::IfFalse => choice_expr(alloc, known, op, false, e, a, pos, pending),
+        _ => {
+            let b = plain_expr(alloc, known, e, pending)?;
+            binary_at(alloc, op, a, b, pos)
         }
     }
 }

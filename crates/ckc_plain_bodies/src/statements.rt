@@ -6,7 +6,7 @@ ghost use Rattle.ckc_plain_bodies.specs.Statements.{joined, placed, alone, loop_
 ghost use Rattle.ckc_plain_bodies.specs.code.Statements.{first_pos, or_break, tested_body, local_act, assign_act, pieces, part_plain, part_made};
 ghost use Rattle.ckc_plain_bodies.specs.code.Steps.{Steps};
 
-use crate::boxes::{add_at_end, in_box, local_in_box, stmt_in_box};
+use crate::boxes::{Inner, add_all, add_at_end, if_else, in_box, local_in_box, stmt_in_box};
 use crate::expressions::{
     boxed_expr, maybe_expr, plain_bounds, plain_expr, plain_exprs, right_expr, whole_expr,
 };
@@ -34,21 +34,11 @@ fn joined(before: Pending, stmt: Stmt<Name, ()>) -> Result<Stmt<Name, ()>, Alloc
     match first_pos(before.stmts.as_slice()) {
         None => Ok(stmt),
         Some(pos) => {
-            let mut all = before.into_stmts();
-            add_at_end(&mut all, stmt)?;
-            Ok(block_at(all, pos))
+            let mut all = before;
+            add_at_end(&mut all.stmts, stmt)?;
+            Ok(block_at(all.into_stmts(), pos))
         }
     }
-}
-
-/// Adds what goes before a declaration to its block.
-fn add_all(all: &mut Seq<Stmt<Name, ()>>, more: Seq<Stmt<Name, ()>>) -> Result<(), AllocError>
-    ensures { OnOk result (all.new ≡ all.old ++ more) }
-{
-    for stmt in more.into_vec() {
-        add_at_end(all, stmt)?;
-    }
-    Ok(())
 }
 
 /// Adds a statement and what goes before it to its block.
@@ -75,13 +65,13 @@ fn place(
 fn or_break(
     alloc: Global,
     condition: Boxed<Expr<Name, ()>>,
-    body: Boxed<Stmt<Name, ()>>,
+    body: Inner,
     pos: Pos,
 ) -> Result<Stmt<Name, ()>, AllocError>
-    ensures { IfOk result (λ s. s ≡ or_break condition body pos) }
+    ensures { IfOk result (λ s. s ≡ or_break condition body.stmt pos) }
 {
     let leave = stmt_in_box(alloc, stmt_at(Act::Break, pos))?;
-    Ok(stmt_at(Act::If(condition, body, Some(leave)), pos))
+    Ok(if_else(condition, body, Inner { stmt: leave }, pos))
 }
 
 /// The body of a loop whose condition has statements before it.
@@ -89,15 +79,15 @@ fn tested_body(
     alloc: Global,
     before: Pending,
     condition: Boxed<Expr<Name, ()>>,
-    body: Boxed<Stmt<Name, ()>>,
+    body: Inner,
     pos: Pos,
 ) -> Result<Boxed<Stmt<Name, ()>>, AllocError>
-    ensures { IfOk result (λ s. s ≡ tested_body before.stmts condition body pos) }
+    ensures { IfOk result (λ s. s ≡ tested_body before.stmts condition body.stmt pos) }
 {
+    let mut all = before;
     let test = or_break(alloc, condition, body, pos)?;
-    let mut all = before.into_stmts();
-    add_at_end(&mut all, test)?;
-    stmt_in_box(alloc, block_at(all, pos))
+    add_at_end(&mut all.stmts, test)?;
+    stmt_in_box(alloc, block_at(all.into_stmts(), pos))
 }
 
 /// A loop with a condition before which statements run.
@@ -113,8 +103,9 @@ fn while_at(
     match first_pos(before.stmts.as_slice()) {
         None => Ok(Act::While(condition, body)),
         Some(pos) => {
-            let body = tested_body(alloc, before, condition, body, pos)?;
+            let body = Inner { stmt: body };
             let one = in_box(alloc, number_at(1, pos))?;
+            let body = tested_body(alloc, before, condition, body, pos)?;
             Ok(Act::While(one, body))
         }
     }
@@ -137,8 +128,9 @@ fn for_at(
         Some(condition) => match first_pos(before.stmts.as_slice()) {
             None => Ok(Act::For(first, Some(condition), step, body)),
             Some(pos) => {
-                let body = tested_body(alloc, before, condition, body, pos)?;
+                let body = Inner { stmt: body };
                 let one = in_box(alloc, number_at(1, pos))?;
+                let body = tested_body(alloc, before, condition, body, pos)?;
                 Ok(Act::For(first, Some(one), step, body))
             }
         },
