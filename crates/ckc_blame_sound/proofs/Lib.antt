@@ -1,3 +1,4 @@
+pub use Rattle.ckc_source_causes.proofs.Same
 pub mod Facts
 pub mod Flow
 pub mod Kept
@@ -23,7 +24,6 @@ pub mod Statements
 pub mod Stepping
 pub mod Stores
 pub mod Parts
-pub mod Same
 pub mod Places
 pub mod Ranges
 pub mod Apart
