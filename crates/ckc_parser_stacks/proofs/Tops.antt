@@ -1,5 +1,6 @@
 -- The last element of a list is the top.
-use Rattle.std.proofs.Common.{◌≡◌, List, [], ◌∷◌, ◌++◌, ap, ◌∙◌, reverse, map}
+use Rattle.std.proofs.Common.{◌≡◌, ◌==◌, nat_lt, false, length, List, [], ◌∷◌, ◌++◌, sym, ap, ◌∙◌, reverse, map, arith}
+use Rattle.std.proofs.lemmas.Bool.Decides.{nat_tests}
 use Rattle.std.proofs.lemmas.List.{reverse-append}
 
 pub on_top : {X : Type 0} (s : List X) (x : X) → reverse (s ++ x ∷ []) ≡ x ∷ reverse s
@@ -20,9 +21,14 @@ put_token f old new x e = ap (λ z. map f z) (put old new x e)
 pub none : {X : Type 0} (old new : List X) → old ≡ [] → new ≡ [] → (reverse old ≡ []) × (reverse new ≡ [])
 none old new e h = (ap reverse e, ap reverse h)
 
--- the elements from the top
-pub turned : {X : Type 0} (items new : List X) → new ≡ reverse items → new ≡ reverse items
-turned items new e = e
+-- where two stand, one stands, and another below it
+pub first_of_two : {X : Type 0} (s : List X) → nat_lt (length s) 2 ≡ false → (length s == 0) ≡ false
+first_of_two [] h = absurd (cc)
+first_of_two (x ∷ s) h = grind (arith, nat_tests)
+
+pub second_of_two : {X : Type 0} (s rest : List X) (x : X) → nat_lt (length s) 2 ≡ false → s ≡ x ∷ rest → (length rest == 0) ≡ false
+second_of_two s [] x h e = absurd (let q = sym (ap (λ z. nat_lt (length z) 2) e) ∙ h in cc)
+second_of_two s (y ∷ rest) x h e = grind (arith, nat_tests)
 
 -- a stack on another
 pub stood_on : {X : Type 0} (old new upper : List X) → new ≡ old ++ upper → reverse new ≡ reverse upper ++ reverse old

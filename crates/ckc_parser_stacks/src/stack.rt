@@ -1,4 +1,4 @@
-ghost use Rattle.std.specs.Prelude.{◌≡◌, [], ◌∷◌, ◌++◌, IfOk, OnOk, MatchOption, reverse};
+ghost use Rattle.std.specs.Prelude.{◌≡◌, ◌==◌, nat_lt, false, [], ◌∷◌, ◌++◌, IfOk, OnOk, MatchOption, length, reverse, get_or, drop};
 ghost use Rattle.ckc_syntax.specs.Spelled.{spelled};
 
 use ckc_base::Seq;
@@ -44,6 +44,44 @@ impl<T> Stack<T> {
 }
 
 impl<T> Stack<T> {
+    /// Whether nothing stands on it.
+    #[inline(always)]
+    pub fn is_empty(&self) -> bool
+        ensures { result ≡ (length self.now == 0) }
+    {
+        self.items.is_empty()
+    }
+
+    /// Whether fewer than two stand on it.
+    #[inline(always)]
+    pub fn is_short(&self) -> bool
+        ensures { result ≡ nat_lt (length self.now) 2 }
+    {
+        self.items.len() < 2
+    }
+
+    /// Takes the top, which is there.
+    #[inline(always)]
+    #[tactic(auto, using(crate::proofs::Tops::taken))]
+    pub fn take_top(&mut self) -> T
+        requires { (length self.old == 0) ≡ false }
+        ensures { self.old ≡ result ∷ self.new }
+    {
+        self.items.pop().unwrap()
+    }
+
+    /// Takes the upper two, which are there.
+    #[inline(always)]
+    #[tactic(auto, using(crate::proofs::Tops::first_of_two, crate::proofs::Tops::second_of_two))]
+    pub fn take_two(&mut self) -> (T, T)
+        requires { nat_lt (length self.old) 2 ≡ false }
+        ensures { self.old ≡ result.0 ∷ result.1 ∷ self.new }
+    {
+        let first = self.take_top();
+        let second = self.take_top();
+        (first, second)
+    }
+
     /// Takes the top, if there is one.
     #[tactic(auto, using(crate::proofs::Tops::taken, crate::proofs::Tops::none))]
     pub fn pop(&mut self) -> Option<T>
@@ -64,7 +102,6 @@ impl<T> Stack<T> {
     }
 
     /// The elements from the top.
-    #[tactic(auto, using(crate::proofs::Tops::turned))]
     pub fn into_seq(self) -> Seq<T>
         ensures { result ≡ self }
     {
@@ -105,6 +142,26 @@ impl<T: Drop> Stack<T> {
     }
 }
 
+impl<T: Drop> Stack<Stack<T>> {
+    /// Puts an element on the stack that stands on top.
+    pub fn push_in(&mut self, item: T) -> Result<(), AllocError>
+        ensures { OnOk result (self.new ≡ (item ∷ get_or self.old 0 []) ∷ drop 1 self.old) }
+    {
+        let Some(top) = self.pop() else {
+            forget(item);
+            return Err(AllocError);
+        };
+        let mut list = top;
+        match list.push(item) {
+            Ok(()) => self.push(list),
+            Err(e) => {
+                forget(list);
+                Err(e)
+            }
+        }
+    }
+}
+
 /// A stack of tokens.
 #[derive(Drop)]
 pub struct Tokens<'a> {
@@ -128,6 +185,44 @@ impl<'a> Tokens<'a> {
         Tokens {
             items: Vec::new(alloc),
         }
+    }
+
+    /// Whether nothing stands on it.
+    #[inline(always)]
+    pub fn is_empty(&self) -> bool
+        ensures { result ≡ (length self.now == 0) }
+    {
+        self.items.is_empty()
+    }
+
+    /// Whether fewer than two stand on it.
+    #[inline(always)]
+    pub fn is_short(&self) -> bool
+        ensures { result ≡ nat_lt (length self.now) 2 }
+    {
+        self.items.len() < 2
+    }
+
+    /// Takes the top, which is there.
+    #[inline(always)]
+    #[tactic(auto, using(crate::proofs::Tops::taken_token))]
+    pub fn take_top(&mut self) -> Token<'a>
+        requires { (length self.old == 0) ≡ false }
+        ensures { self.old ≡ spelled result ∷ self.new }
+    {
+        self.items.pop().unwrap()
+    }
+
+    /// Takes the upper two, which are there.
+    #[inline(always)]
+    #[tactic(auto, using(crate::proofs::Tops::first_of_two, crate::proofs::Tops::second_of_two))]
+    pub fn take_two(&mut self) -> (Token<'a>, Token<'a>)
+        requires { nat_lt (length self.old) 2 ≡ false }
+        ensures { self.old ≡ spelled result.0 ∷ spelled result.1 ∷ self.new }
+    {
+        let first = self.take_top();
+        let second = self.take_top();
+        (first, second)
     }
 
     /// Takes the top.

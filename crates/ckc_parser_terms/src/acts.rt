@@ -21,6 +21,7 @@ use ckc_syntax::TypeTree;
 use std::alloc::{AllocError, Global};
 
 /// An action on expressions.
+#[inline(always)]
 pub fn act_expression<'a>(alloc: Global, held: &mut Held<'a>, number: u8) -> Result<(), AllocError>
     ensures { OnOk result (held.new ≡ acted (action_of number) held.old) }
 {
@@ -48,6 +49,7 @@ pub fn act_expression<'a>(alloc: Global, held: &mut Held<'a>, number: u8) -> Res
 }
 
 /// An action on what changes an operand.
+#[inline(always)]
 pub fn act_change<'a>(alloc: Global, held: &mut Held<'a>, number: u8) -> Result<(), AllocError>
     ensures { OnOk result (held.new ≡ acted (action_of number) held.old) }
 {
@@ -65,6 +67,7 @@ pub fn act_change<'a>(alloc: Global, held: &mut Held<'a>, number: u8) -> Result<
 }
 
 /// An action on what stands behind expressions.
+#[inline(always)]
 pub fn act_operator<'a>(alloc: Global, held: &mut Held<'a>, number: u8) -> Result<(), AllocError>
     ensures { OnOk result (held.new ≡ acted (action_of number) held.old) }
 {
@@ -91,6 +94,7 @@ pub fn act_operator<'a>(alloc: Global, held: &mut Held<'a>, number: u8) -> Resul
 }
 
 /// An action on types and limits.
+#[inline(always)]
 pub fn act_type<'a>(alloc: Global, held: &mut Held<'a>, number: u8) -> Result<(), AllocError>
     ensures { OnOk result (held.new ≡ acted (action_of number) held.old) }
 {
@@ -117,6 +121,7 @@ pub fn act_type<'a>(alloc: Global, held: &mut Held<'a>, number: u8) -> Result<()
 }
 
 /// The action of a number.
+#[inline(always)]
 pub fn act_term<'a>(alloc: Global, held: &mut Held<'a>, number: u8) -> Result<(), AllocError>
     ensures { OnOk result (held.new ≡ acted (action_of number) held.old) }
 {

@@ -18,24 +18,33 @@ pub fn increment_of<'a>(token: Token<'a>) -> Operation
 }
 
 /// `++` or `--` before its operand.
+#[inline(never)]
 pub fn incremented<'a>(alloc: Global, held: &mut Held<'a>) -> Result<(), AllocError>
     ensures { OnOk result (held.new ≡ a.incremented held.old) }
 {
-    let increment = increment_of(held.tokens.take()?);
-    let operand = held.exprs.take()?;
+    if held.tokens.is_empty() || held.exprs.is_empty() {
+        return Err(AllocError);
+    }
+    let increment = increment_of(held.tokens.take_top());
+    let operand = held.exprs.take_top();
     let whole = set_by_one(alloc, operand, increment, &mut held.copies)?;
     held.exprs.push(whole)
 }
 
 /// `++` or `--` behind its operand.
+#[inline(never)]
 pub fn some_increment<'a>(held: &mut Held<'a>) -> Result<(), AllocError>
     ensures { OnOk result (held.new ≡ a.some_increment held.old) }
 {
-    let token = held.tokens.take()?;
+    if held.tokens.is_empty() {
+        return Err(AllocError);
+    }
+    let token = held.tokens.take_top();
     held.increments.push(Some(increment_of(token)))
 }
 
 /// No `++` and no `--`.
+#[inline(never)]
 pub fn no_increment<'a>(held: &mut Held<'a>) -> Result<(), AllocError>
     ensures { OnOk result (held.new ≡ a.no_increment held.old) }
 {
@@ -43,14 +52,19 @@ pub fn no_increment<'a>(held: &mut Held<'a>) -> Result<(), AllocError>
 }
 
 /// The arguments of a name that is called.
+#[inline(never)]
 pub fn some_call<'a>(held: &mut Held<'a>) -> Result<(), AllocError>
     ensures { OnOk result (held.new ≡ a.some_call held.old) }
 {
-    let arguments = held.expr_lists.take()?;
+    if held.expr_lists.is_empty() {
+        return Err(AllocError);
+    }
+    let arguments = held.expr_lists.take_top();
     held.calls.push(Some(arguments))
 }
 
 /// A name that is not called.
+#[inline(never)]
 pub fn no_call<'a>(held: &mut Held<'a>) -> Result<(), AllocError>
     ensures { OnOk result (held.new ≡ a.no_call held.old) }
 {
@@ -58,11 +72,15 @@ pub fn no_call<'a>(held: &mut Held<'a>) -> Result<(), AllocError>
 }
 
 /// `=` with its right side.
+#[inline(never)]
 pub fn set_to<'a>(held: &mut Held<'a>) -> Result<(), AllocError>
     ensures { OnOk result (held.new ≡ a.set_to held.old) }
 {
-    let token = held.tokens.take()?;
-    let value = held.exprs.take()?;
+    if held.tokens.is_empty() || held.exprs.is_empty() {
+        return Err(AllocError);
+    }
+    let token = held.tokens.take_top();
+    let value = held.exprs.take_top();
     held.settings.push(Some(Setting {
         op: None,
         pos: token.pos,
@@ -71,11 +89,15 @@ pub fn set_to<'a>(held: &mut Held<'a>) -> Result<(), AllocError>
 }
 
 /// An operator with `=`, with its right side.
+#[inline(never)]
 pub fn set_by<'a>(held: &mut Held<'a>) -> Result<(), AllocError>
     ensures { OnOk result (held.new ≡ a.set_by held.old) }
 {
-    let token = held.tokens.take()?;
-    let value = held.exprs.take()?;
+    if held.tokens.is_empty() || held.exprs.is_empty() {
+        return Err(AllocError);
+    }
+    let token = held.tokens.take_top();
+    let value = held.exprs.take_top();
     held.settings.push(Some(Setting {
         op: Some(compound_op(token_kind(&token))),
         pos: token.pos,
@@ -84,6 +106,7 @@ pub fn set_by<'a>(held: &mut Held<'a>) -> Result<(), AllocError>
 }
 
 /// Nothing is set.
+#[inline(never)]
 pub fn no_setting<'a>(held: &mut Held<'a>) -> Result<(), AllocError>
     ensures { OnOk result (held.new ≡ a.no_setting held.old) }
 {

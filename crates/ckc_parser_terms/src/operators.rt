@@ -10,6 +10,7 @@ use ckc_syntax::{Spelling, TreeOp};
 use std::alloc::{AllocError, Global};
 
 /// No expressions.
+#[inline(never)]
 pub fn new_exprs<'a>(alloc: Global, held: &mut Held<'a>) -> Result<(), AllocError>
     ensures { OnOk result (held.new ≡ a.new_exprs held.old) }
 {
@@ -17,16 +18,19 @@ pub fn new_exprs<'a>(alloc: Global, held: &mut Held<'a>) -> Result<(), AllocErro
 }
 
 /// One more expression in front.
+#[inline(never)]
 pub fn add_expr<'a>(held: &mut Held<'a>) -> Result<(), AllocError>
     ensures { OnOk result (held.new ≡ a.add_expr held.old) }
 {
-    let item = held.exprs.take()?;
-    let mut list = held.expr_lists.take()?;
-    list.push(item.into_inner())?;
-    held.expr_lists.push(list)
+    if held.exprs.is_empty() {
+        return Err(AllocError);
+    }
+    let item = held.exprs.take_top();
+    held.expr_lists.push_in(item.into_inner())
 }
 
 /// Nothing behind an expression.
+#[inline(never)]
 pub fn no_posts<'a>(alloc: Global, held: &mut Held<'a>) -> Result<(), AllocError>
     ensures { OnOk result (held.new ≡ a.no_posts held.old) }
 {
@@ -34,45 +38,58 @@ pub fn no_posts<'a>(alloc: Global, held: &mut Held<'a>) -> Result<(), AllocError
 }
 
 /// One more behind an expression.
+#[inline(never)]
 pub fn add_post<'a>(held: &mut Held<'a>) -> Result<(), AllocError>
     ensures { OnOk result (held.new ≡ a.add_post held.old) }
 {
-    let item = held.one_post.take()?;
-    let mut list = held.posts.take()?;
-    list.push(item)?;
-    held.posts.push(list)
+    if held.one_post.is_empty() {
+        return Err(AllocError);
+    }
+    let item = held.one_post.take_top();
+    held.posts.push_in(item)
 }
 
 /// `[e]` behind an expression.
+#[inline(never)]
 pub fn index<'a>(held: &mut Held<'a>) -> Result<(), AllocError>
     ensures { OnOk result (held.new ≡ a.index held.old) }
 {
-    let token = held.tokens.take()?;
-    let index = held.exprs.take()?;
+    if held.tokens.is_empty() || held.exprs.is_empty() {
+        return Err(AllocError);
+    }
+    let token = held.tokens.take_top();
+    let index = held.exprs.take_top();
     held.one_post.push(Post::Index(index, token.pos))
 }
 
 /// A member behind an expression.
+#[inline(never)]
 pub fn dot<'a>(held: &mut Held<'a>) -> Result<(), AllocError>
     ensures { OnOk result (held.new ≡ a.dot held.old) }
 {
-    let token = held.tokens.take()?;
-    let name = held.tokens.take()?;
+    if held.tokens.is_short() {
+        return Err(AllocError);
+    }
+    let (token, name) = held.tokens.take_two();
     held.one_post
         .push(Post::Dot(Spelling::new(name.text), name.pos, token.pos))
 }
 
 /// A member behind an expression.
+#[inline(never)]
 pub fn arrow<'a>(held: &mut Held<'a>) -> Result<(), AllocError>
     ensures { OnOk result (held.new ≡ a.arrow held.old) }
 {
-    let token = held.tokens.take()?;
-    let name = held.tokens.take()?;
+    if held.tokens.is_short() {
+        return Err(AllocError);
+    }
+    let (token, name) = held.tokens.take_two();
     held.one_post
         .push(Post::Arrow(Spelling::new(name.text), name.pos, token.pos))
 }
 
 /// No operators.
+#[inline(never)]
 pub fn no_steps<'a>(alloc: Global, held: &mut Held<'a>) -> Result<(), AllocError>
     ensures { OnOk result (held.new ≡ a.no_steps held.old) }
 {
@@ -80,21 +97,24 @@ pub fn no_steps<'a>(alloc: Global, held: &mut Held<'a>) -> Result<(), AllocError
 }
 
 /// One more operator with its operand in front.
+#[inline(never)]
 pub fn add_step<'a>(held: &mut Held<'a>) -> Result<(), AllocError>
     ensures { OnOk result (held.new ≡ a.add_step held.old) }
 {
-    let operator = held.operators.take()?;
-    let operand = held.exprs.take()?;
-    let mut list = held.steps.take()?;
-    list.push(Step {
+    if held.operators.is_empty() || held.exprs.is_empty() {
+        return Err(AllocError);
+    }
+    let operator = held.operators.take_top();
+    let operand = held.exprs.take_top();
+    held.steps.push_in(Step {
         op: operator.op,
         pos: operator.pos,
         operand,
-    })?;
-    held.steps.push(list)
+    })
 }
 
 /// No `? :`.
+#[inline(never)]
 pub fn no_arms<'a>(held: &mut Held<'a>) -> Result<(), AllocError>
     ensures { OnOk result (held.new ≡ a.no_arms held.old) }
 {
@@ -102,12 +122,15 @@ pub fn no_arms<'a>(held: &mut Held<'a>) -> Result<(), AllocError>
 }
 
 /// The arms of `? :`.
+#[inline(never)]
 pub fn choose<'a>(held: &mut Held<'a>) -> Result<(), AllocError>
     ensures { OnOk result (held.new ≡ a.choose held.old) }
 {
-    let token = held.tokens.take()?;
-    let yes = held.exprs.take()?;
-    let no = held.exprs.take()?;
+    if held.tokens.is_empty() || held.exprs.is_short() {
+        return Err(AllocError);
+    }
+    let token = held.tokens.take_top();
+    let (yes, no) = held.exprs.take_two();
     held.arms.push(Some(Arms {
         pos: token.pos,
         yes,
@@ -116,14 +139,19 @@ pub fn choose<'a>(held: &mut Held<'a>) -> Result<(), AllocError>
 }
 
 /// An operator at its token.
+#[inline(never)]
 pub fn put_operator<'a>(held: &mut Held<'a>, op: TreeOp) -> Result<(), AllocError>
     ensures { OnOk result (held.new ≡ a.put_operator op held.old) }
 {
-    let token = held.tokens.take()?;
+    if held.tokens.is_empty() {
+        return Err(AllocError);
+    }
+    let token = held.tokens.take_top();
     held.operators.push(Operation { op, pos: token.pos })
 }
 
 /// `<`.
+#[inline(never)]
 pub fn less<'a>(held: &mut Held<'a>) -> Result<(), AllocError>
     ensures { OnOk result (held.new ≡ a.less held.old) }
 {
@@ -131,10 +159,14 @@ pub fn less<'a>(held: &mut Held<'a>) -> Result<(), AllocError>
 }
 
 /// An operator but `<` and `>`.
+#[inline(never)]
 pub fn operator<'a>(held: &mut Held<'a>) -> Result<(), AllocError>
     ensures { OnOk result (held.new ≡ a.operator held.old) }
 {
-    let token = held.tokens.take()?;
+    if held.tokens.is_empty() {
+        return Err(AllocError);
+    }
+    let token = held.tokens.take_top();
     held.operators.push(Operation {
         op: binary_op(token_kind(&token)),
         pos: token.pos,
@@ -142,10 +174,14 @@ pub fn operator<'a>(held: &mut Held<'a>) -> Result<(), AllocError>
 }
 
 /// `>`, or `>>`.
+#[inline(never)]
 pub fn greater<'a>(held: &mut Held<'a>) -> Result<(), AllocError>
     ensures { OnOk result (held.new ≡ a.greater held.old) }
 {
-    match held.forms.take()? {
+    if held.forms.is_empty() {
+        return Err(AllocError);
+    }
+    match held.forms.take_top() {
         Form::First => put_operator(held, TreeOp::Gt),
         Form::Second => put_operator(held, TreeOp::Shr),
         Form::Third => put_operator(held, TreeOp::Gt),
@@ -153,6 +189,7 @@ pub fn greater<'a>(held: &mut Held<'a>) -> Result<(), AllocError>
 }
 
 /// A name with nothing behind it, which is not set.
+#[inline(never)]
 pub fn bare<'a>(alloc: Global, held: &mut Held<'a>) -> Result<(), AllocError>
     ensures { OnOk result
         (held.new ≡ a.no_setting (a.no_call (a.no_increment (a.no_posts held.old)))) }
@@ -164,6 +201,7 @@ pub fn bare<'a>(alloc: Global, held: &mut Held<'a>) -> Result<(), AllocError>
 }
 
 /// `calloc <` where `<` is an operator.
+#[inline(never)]
 pub fn calloc_operand<'a>(alloc: Global, held: &mut Held<'a>) -> Result<(), AllocError>
     ensures { OnOk result (held.new ≡ a.calloc_less_by form.First held.old) }
 {
@@ -174,6 +212,7 @@ pub fn calloc_operand<'a>(alloc: Global, held: &mut Held<'a>) -> Result<(), Allo
 }
 
 /// `calloc <` where a type follows.
+#[inline(never)]
 pub fn calloc_type<'a>(held: &mut Held<'a>) -> Result<(), AllocError>
     ensures { OnOk result (held.new ≡ a.calloc_less_by form.Second held.old) }
 {
@@ -182,10 +221,14 @@ pub fn calloc_type<'a>(held: &mut Held<'a>) -> Result<(), AllocError>
 }
 
 /// What stands behind `calloc <`.
+#[inline(never)]
 pub fn calloc_less<'a>(alloc: Global, held: &mut Held<'a>) -> Result<(), AllocError>
     ensures { OnOk result (held.new ≡ a.calloc_less held.old) }
 {
-    match held.forms.take()? {
+    if held.forms.is_empty() {
+        return Err(AllocError);
+    }
+    match held.forms.take_top() {
         Form::First => calloc_operand(alloc, held),
         Form::Second => calloc_type(held),
         Form::Third => Err(AllocError),
@@ -193,14 +236,19 @@ pub fn calloc_less<'a>(alloc: Global, held: &mut Held<'a>) -> Result<(), AllocEr
 }
 
 /// An expression that may be left out.
+#[inline(never)]
 pub fn some_value<'a>(held: &mut Held<'a>) -> Result<(), AllocError>
     ensures { OnOk result (held.new ≡ a.some_value held.old) }
 {
-    let item = held.exprs.take()?;
+    if held.exprs.is_empty() {
+        return Err(AllocError);
+    }
+    let item = held.exprs.take_top();
     held.values.push(Some(item))
 }
 
 /// An expression that is left out.
+#[inline(never)]
 pub fn no_value<'a>(held: &mut Held<'a>) -> Result<(), AllocError>
     ensures { OnOk result (held.new ≡ a.no_value held.old) }
 {
