@@ -4,13 +4,11 @@
 mod held;
 mod joins;
 pub mod laws;
-mod lists;
 mod makes;
 mod sets;
 
 pub use ckc_parser_stacks::{Budget, Stack, Tokens};
 pub use held::{Form, Held, Slot};
-pub use lists::{joined, turned};
 pub use makes::{
     declare, declare_each, function_of, literal_node, mode_of, posted, put_locals, starred, statics,
 };
