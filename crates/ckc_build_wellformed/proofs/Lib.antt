@@ -1,5 +1,8 @@
+pub mod Layouts
+pub mod Ranges
 pub mod Nodes
 pub mod Parts
+pub mod Sizes
 pub mod Known
 pub mod Structures
 pub mod Scalars
