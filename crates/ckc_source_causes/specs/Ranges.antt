@@ -1,32 +1,30 @@
 -- Which expressions give a pointer that is null or has a range of elements of a type, by their form.
-use Rattle.std.specs.Prelude.{◌≡◌, ◌⊎◌, ℕ, pos, Bool, true, false, Option, None, Some, IsTrue}
+use Rattle.std.specs.Prelude.{◌≡◌, ◌⊎◌, ◌+◌, ℕ, pos, Bool, true, false, None, IsTrue}
 use Rattle.ckc_types.specs.declared.types.CType.{CType}
 use Rattle.ckc_source.specs.declared.expr.Base.TheVariants as base
-use Rattle.ckc_source.specs.declared.expr.Count.{Count}
 use Rattle.ckc_source.specs.declared.expr.Count.TheVariants as count
-use Rattle.ckc_source.specs.declared.expr.End.{End}
 use Rattle.ckc_source.specs.declared.expr.Limits.{Limits}
 use Rattle.ckc_source.specs.declared.expr.Through.{Through}
 use Rattle.ckc_source.specs.declared.expr.Through.TheVariants as through
 use Rattle.ckc_source.specs.declared.outcome.Range.TheVariants.{Within}
 use Rattle.ckc_source.specs.declared.outcome.Value.{Value}
-use Rattle.ckc_source.specs.Code.{Expr, Number, Local, Limited, Array, Load, Member, Address, Moved, Added, Binary, And, Or, Choice, Narrow, Bare, Tested, Trusted, Program}
+use Rattle.ckc_source.specs.Code.{Expr, Number, Limited, Array, Member, Address, Moved, Added, Choice, Tested, Trusted, Program}
 use Rattle.ckc_source_causes.specs.Layouts.{Layout, IsInElement, PointsTo, HasElementsAt, NamesElements}
 
 -- a value that is null or has a range
 abbrev pub IsNullOrRanged : Value → Type 0
 IsNullOrRanged v = (v.number ≡ 0) ⊎ ((low : ℕ) × (high : ℕ) × (v.range ≡ Within low high))
 
--- the limits of one element: from the pointer itself up to the next element
+-- limits that hold one element: from the pointer itself up to the next element at least
 pub record AreOfOne (limits : Limits) : Type 0 where
   pub lower_base : limits.lower.base ≡ base.Own
   pub lower_variable : limits.lower.variable ≡ None
   pub lower_add : limits.lower.add ≡ pos 0
   pub upper_base : limits.upper.base ≡ base.Own
   pub upper_variable : limits.upper.variable ≡ None
-  pub upper_add : limits.upper.add ≡ pos 1
+  pub upper_add : (more : ℕ) × (limits.upper.add ≡ pos (1 + more))
 
--- The range of the value, if it has one, is that of the one element to which it points.
+-- The range of the value, if it has one, holds the one element to which it points.
 abbrev pub GivesOne : Expr → Type 0
 GivesOne (Number n) = n ≡ 0
 GivesOne (Limited x limits) = AreOfOne limits
