@@ -1,5 +1,5 @@
 -- What is known of the names of a function, and what ranges and the rows of the table of types say.
-use Rattle.std.proofs.Common.{◌≡◌, ◌⊎◌, ◌∙◌, inl, subst, refl, sym, ap, ℕ, ◌+◌, ◌<◌, Bool, true, false, List, length}
+use Rattle.std.proofs.Common.{◌≡◌, ◌⊎◌, ◌∙◌, inl, refl, sym, ap, ℕ, ◌+◌, ◌<◌, Bool, true, false, List, length}
 use Rattle.std.specs.Prelude as prelude
 use Rattle.std.specs.Prelude.{◌==◌, not, ◌&&◌, ◌||◌, if◌then◌else◌, Option, Some, None, is_some}
 use Rattle.std.proofs.lemmas.Bool.{and_parts, eq-eqb, eqb-true}
@@ -39,7 +39,7 @@ use Rattle.ckc_build_forms.specs.ckc_blame_steps.specs.ckc_bounds_views.specs.Ra
 use Rattle.ckc_source.specs.declared.expr.Base.TheVariants as ends
 use Rattle.ckc_source.specs.declared.expr.Count.{Count}
 use Rattle.ckc_source.specs.declared.expr.Count.TheVariants as count
-use Rattle.ckc_source.specs.Code.{Number, Program}
+use Rattle.ckc_source.specs.Code.{Program}
 use Rattle.ckc_build_values.specs.Kinds.{count_of_kind, tag_of, width_of}
 use Rattle.ckc_build_values.specs.Members.{count_of_member, offset_of}
 use Rattle.ckc_build_forms.specs.ckc_blame_steps.specs.ckc_blame_sound.specs.Cells.{IsPart}

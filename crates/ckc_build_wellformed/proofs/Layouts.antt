@@ -1,18 +1,16 @@
 -- The layout of the types of a text, and how the integers and pointers in an element lie by it.
 use Rattle.std.proofs.Common.{◌≡◌, ◌∙◌, refl, sym, ap, subst, arith, ℕ, ◌+◌, ◌*◌, ◌%◌, ◌≤◌, ◌<◌, Bool, true, false, List, [], ◌∷◌, ◌++◌}
-use Rattle.std.specs.Prelude.{◌==◌, ◌||◌, if◌then◌else◌, Option, Some, None}
+use Rattle.std.specs.Prelude.{◌==◌, ◌||◌, if◌then◌else◌}
 use Rattle.std.proofs.Math.Nat.{mul-mod_left}
 use Rattle.std.proofs.lemmas.Bool.{eq-eqb, eqb-true}
 use Rattle.ckc_base.specs.declared.arithmetic.Width.{Width}
 use Rattle.ckc_base.specs.declared.arithmetic.Width.TheVariants.{Byte, Word}
 use Rattle.ckc_base.specs.Memory.{width_bytes}
-use Rattle.ckc_types.specs.declared.types.Kind.{Kind}
-use Rattle.ckc_types.specs.declared.types.Kind.TheVariants as kind
 use Rattle.ckc_types.specs.declared.types.CType.{CType, CType-F, out-CType}
 use Rattle.ckc_types.specs.declared.types.CType.TheVariants as ctype
 use Rattle.ckc_types.specs.declared.types.MemberShape.{MemberShape}
 use Rattle.ckc_types.specs.declared.types.Structs.{Structs}
-use Rattle.ckc_types.specs.Layout.{align, align_by_form, members_of, size, size_by_form, struct_align, struct_size}
+use Rattle.ckc_types.specs.Layout.{align, align_by_form, members_of, size, struct_align, struct_size}
 use Rattle.ckc_types.specs.Scalars.{align_of_form, scalar_align}
 use Rattle.ckc_types.proofs.Aligns.{struct_align_at_most}
 use Rattle.ckc_types.proofs.Forms.{align_of_struct, size_of_struct}
@@ -20,8 +18,8 @@ use Rattle.ckc_types.proofs.Offsets.{size_least}
 use Rattle.ckc_typed.specs.Constants.{is_laid_out_form, size_of}
 use Rattle.ckc_typed.specs.Types.{is_char_form, is_integer_form, is_pointer_form, is_scalar}
 use Rattle.ckc_build_values.specs.Kinds.{width_of}
-use Rattle.ckc_build_forms.specs.ckc_blame_steps.specs.ckc_blame_sound.specs.Cells.{IsOfMember, IsPartIn, IsPart}
-use Rattle.ckc_build_forms.specs.ckc_blame_steps.specs.ckc_blame_sound.proofs.Parts.{HasSize, part_lies, scalar_member, sized_form}
+use Rattle.ckc_build_forms.specs.ckc_blame_steps.specs.ckc_blame_sound.specs.Cells.{IsPartIn, IsPart}
+use Rattle.ckc_build_forms.specs.ckc_blame_steps.specs.ckc_blame_sound.proofs.Parts.{part_lies, scalar_member, sized_form}
 use Rattle.ckc_source_causes.specs.Layouts.{Layout, IsInElement, IsCellOf, is_word}
 
 different : {X : Type 0} → false ≡ true → X

@@ -6,6 +6,7 @@ pub mod Sizes
 pub mod Known
 pub mod Structures
 pub mod Scalars
+pub mod Claims
 pub mod Values
 pub mod Steps
 pub mod Statements

@@ -51,12 +51,11 @@ use Rattle.ckc_typed_welltyped.specs.Productions.{given_tree}
 use Rattle.ckc_typed_welltyped.specs.Texts.{WellTypedItems}
 use Rattle.ckc_source.specs.declared.expr.Count.{Count}
 use Rattle.ckc_source.specs.declared.expr.Count.TheVariants as count
-use Rattle.ckc_source.specs.declared.program.Object.{Object as ProgramObject}
 use Rattle.ckc_source.specs.Blocks.{block_of}
 use Rattle.ckc_source.specs.Words as words
 use Rattle.ckc_source.specs.Code.{Function}
 use Rattle.ckc_source.specs.Eval.{Store}
-use Rattle.ckc_build_values.specs.Kinds.{tag_of, tag_in, count_of_kind, width_of}
+use Rattle.ckc_build_values.specs.Kinds.{tag_of, tag_in, width_of}
 use Rattle.ckc_build_values.specs.Members.{member_named, count_by, count_in, count_of_member, integer_in_member, offset_of}
 use Rattle.ckc_build_values.specs.Names.{address_in, address_of, array_in, array_of, bytes_in, bytes_of, count_declared, count_of_static, fixed_by, fixed_count}
 use Rattle.ckc_build_elaborate.specs.Elaborated.{elaborated}
@@ -98,7 +97,6 @@ use Rattle.ckc_build_forms.specs.ckc_blame_steps.proofs.StaticKinds.{plain_ends}
 use Rattle.ckc_build_forms.specs.ckc_blame_steps.proofs.Told.{none_named, statics_told}
 use Rattle.ckc_blame_pointers.specs.Covered.{NamesInteger}
 use Rattle.ckc_blame_pointers.proofs.Scalars.{integer_scalar, pointer_scalar}
-use Rattle.ckc_typed.specs.Amounts.{amount_of_limits}
 use Rattle.ckc_typed.specs.declared.environment.Amount.{Amount}
 use Rattle.ckc_source_causes.specs.Layouts.{HasElementsAt, NamesElements}
 use Rattle.ckc_source_causes.specs.WellFormed.{LiesInObject}

@@ -2,7 +2,6 @@
 use Rattle.std.proofs.Common.{◌≡◌, ◌⊎◌, ◌∙◌, inl, inr, refl, sym, ap, subst, rules, arith, ℕ, ◌+◌, ◌<◌, Bool, true, false}
 use Rattle.std.specs.Prelude.{◌==◌, not, ◌&&◌, ◌||◌, if◌then◌else◌, Option, Some, None}
 use Rattle.std.proofs.lemmas.Bool.{and_parts}
-use Rattle.ckc_base.specs.declared.arithmetic.Width.{Width}
 use Rattle.ckc_base.specs.declared.arithmetic.Width.TheVariants.{Byte, Word}
 use Rattle.ckc_base.specs.declared.places.Pos.{Pos}
 use Rattle.ckc_types.specs.declared.types.Kind.{Kind}
@@ -21,21 +20,20 @@ use Rattle.ckc_typed.specs.Types.{element_of, is_char, is_char_form, is_integer,
 use Rattle.ckc_source.specs.declared.expr.Count.{Count}
 use Rattle.ckc_source.specs.declared.expr.Count.TheVariants as count
 use Rattle.ckc_source.specs.declared.expr.Integer.{Integer}
-use Rattle.ckc_source.specs.declared.expr.Through.{Through}
 use Rattle.ckc_source.specs.declared.expr.Through.TheVariants as through
 use Rattle.ckc_source.specs.declared.expr.Operation.TheVariants as operation
 use Rattle.ckc_source.specs.Words as words
 use Rattle.ckc_source.specs.Code.{Expr, Number, Moved, Added, Binary, Narrow, Bare, Program}
-use Rattle.ckc_build_values.specs.Kinds.{count_of_kind, is_signed, through_kind, width_of}
+use Rattle.ckc_build_values.specs.Kinds.{count_of_kind, is_signed, width_of}
 use Rattle.ckc_build_values.specs.Members.{offset_of}
 use Rattle.ckc_build_values.specs.Operators.{converted, cast, unary, binary, is_signed_at, shift, distance, of_operands, elements_in}
 use Rattle.ckc_build_values.specs.Places.{Place, address_at, element_place, member_place, read_at}
 use Rattle.ckc_build_forms.specs.ckc_blame_steps.specs.ckc_blame_sound.specs.Cells.{IsPart}
 use Rattle.ckc_build_forms.specs.ckc_blame_steps.specs.ckc_blame_sound.specs.Limited.{IsCountPart}
 use Rattle.ckc_build_forms.specs.ckc_blame_steps.specs.ckc_blame_sound.proofs.Accesses.{scalar_part}
-use Rattle.ckc_source_causes.specs.Layouts.{Layout, IsInElement, IsCellOf, IsCountOf, PointsTo}
+use Rattle.ckc_source_causes.specs.Layouts.{Layout, IsInElement, IsCellOf, IsCountOf}
 use Rattle.ckc_source_causes.specs.Ranges.{GivesRange}
-use Rattle.ckc_source_causes.specs.WellFormed.{Accesses, IsWellFormedAccess, IsWellFormedCell, IsWellFormedExpr}
+use Rattle.ckc_source_causes.specs.WellFormed.{Accesses, IsWellFormedCell, IsWellFormedExpr}
 use Rattle.ckc_build_wellformed.proofs.Layouts.{layout_of, part_cell, scalar_in, scalar_sized, whole}
 use Rattle.ckc_build_wellformed.proofs.Ranges.{Leads, accesses, checked_access, leads_to, through_checked}
 
@@ -371,7 +369,7 @@ module _ (g : Program) (structs : Structs) where
   read_formed Safe t (Some n) q h scalar counts =
       let both = counts n refl in (
         goes_on q (λ u. LiesAt t q u × IsCountOf (layout_of structs) u n) (λ u. IsCellOf (layout_of structs) u q.access.offset Word × IsCountOf (layout_of structs) u n)
-        (λ u m. (subst (IsCellOf (layout_of structs) u q.access.offset) (pointer_wide t both.0) (scalar_cell t q scalar u m.0), m.1)) both.1,
+            (λ u m. (subst (IsCellOf (layout_of structs) u q.access.offset) (pointer_wide t both.0) (scalar_cell t q scalar u m.0), m.1)) both.1,
         h.pointer,
         h.index,
       )

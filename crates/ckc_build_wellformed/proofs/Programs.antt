@@ -1,10 +1,8 @@
 -- The program of a text that the phases accept is well formed.
-use Rattle.std.proofs.Common.{◌≡◌, ◌∙◌, sym, ap, subst, refl, arith, le_refl, ℕ, ◌+◌, ◌≤◌, true, false, List, [], ◌∷◌, ◌++◌, map, length, replicate}
-use Rattle.std.specs.Prelude.{All, Ok, ◌-◌, ◌*◌, slice_get}
+use Rattle.std.proofs.Common.{◌≡◌, ◌∙◌, sym, ap, subst, refl, ℕ, ◌+◌, true, false, List, [], map, length}
+use Rattle.std.specs.Prelude.{All, Ok, ◌-◌, slice_get}
 use Rattle.std.specs.List.{Contains}
 use Rattle.std.proofs.lemmas.List.{length-map}
-use Rattle.std.proofs.lemmas.List.Elements.{All-nil, All-cons}
-use Rattle.ckc_base.specs.Lists.{AreBytes}
 use Rattle.ckc_base.specs.Outcomes.{bind}
 use Rattle.ckc_syntax.specs.declared.tree.Name.TheVariants as name
 use Rattle.ckc_syntax.specs.declared.tree.Item.TheVariants as item
@@ -16,10 +14,8 @@ use Rattle.ckc_typed.specs.Statics.{strings_of_head, strings_of_stmt}
 use Rattle.ckc_typed.specs.Trees.{NotedDecl, NotedHead, NotedStmt}
 use Rattle.ckc_typed_welltyped.specs.Productions.{given_tree}
 use Rattle.ckc_typed_welltyped.specs.Texts.{TypedAs}
-use Rattle.ckc_source.specs.declared.program.Object.{Object}
-use Rattle.ckc_source.specs.Blocks.{block_of, end_of, first_place, place_behind}
+use Rattle.ckc_source.specs.Blocks.{block_of}
 use Rattle.ckc_source.specs.Code.{Function}
-use Rattle.ckc_source.specs.LaidOut.{AreApart, HoldBytes}
 use Rattle.ckc_source.specs.Source.{first_state}
 use Rattle.ckc_build_elaborate.specs.Elaborated.{elaborated}
 use Rattle.ckc_build_elaborate.specs.Functions.{literals_of_head, function_elaborated, functions_elaborated}

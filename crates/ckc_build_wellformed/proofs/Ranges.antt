@@ -1,6 +1,6 @@
 -- What gives a range of a null-terminated array gives one of its elements, and accesses through pointers by their kind.
-use Rattle.std.proofs.Common.{◌≡◌, ◌∙◌, refl, sym, ap, arith, ℕ, ◌+◌, ◌≤◌, Bool, true, false}
-use Rattle.std.specs.Prelude.{if◌then◌else◌, pos, Option, Some, None}
+use Rattle.std.proofs.Common.{◌≡◌, refl, arith, ℕ, ◌+◌, ◌≤◌, Bool, true, false}
+use Rattle.std.specs.Prelude.{if◌then◌else◌, Option, Some, None}
 use Rattle.ckc_types.specs.declared.types.Kind.{Kind}
 use Rattle.ckc_types.specs.declared.types.Kind.TheVariants as kind
 use Rattle.ckc_types.specs.declared.types.CType.{CType}
@@ -9,7 +9,7 @@ use Rattle.ckc_source.specs.declared.expr.Access.{Access}
 use Rattle.ckc_source.specs.declared.expr.Pointee.{Pointee}
 use Rattle.ckc_source.specs.declared.expr.Through.{Through}
 use Rattle.ckc_source.specs.declared.expr.Through.TheVariants as through
-use Rattle.ckc_source.specs.Code.{Expr, Number, Local, Limited, Array, Load, Member, Address, Moved, Added, Binary, And, Or, Choice, Narrow, Bare, Tested, Trusted, Program}
+use Rattle.ckc_source.specs.Code.{Expr, Number, Limited, Array, Member, Address, Moved, Added, Choice, Tested, Trusted, Program}
 use Rattle.ckc_build_values.specs.Kinds.{through_kind}
 use Rattle.ckc_source_causes.specs.Layouts.{Layout, PointsTo, NamesElements}
 use Rattle.ckc_source_causes.specs.Ranges.{GivesRange, GivesOne, LeadsTo}

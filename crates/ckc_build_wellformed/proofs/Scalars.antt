@@ -1,6 +1,6 @@
 -- What operators, casts, calls and statements take: an integer or a pointer, or what has no place.
-use Rattle.std.proofs.Common.{◌≡◌, ◌⊎◌, ◌∙◌, inl, inr, refl, rules, sym, ap, ℕ, Bool, true, false, List, [], ◌∷◌}
-use Rattle.std.specs.Prelude.{◌&&◌, ◌||◌, not, if◌then◌else◌, Option, Some, None}
+use Rattle.std.proofs.Common.{◌≡◌, ◌⊎◌, ◌∙◌, inl, inr, refl, rules, sym, ap, Bool, true, false, List, [], ◌∷◌}
+use Rattle.std.specs.Prelude.{◌&&◌, ◌||◌, not, Some}
 use Rattle.std.proofs.lemmas.Bool.{and_parts}
 use Rattle.ckc_base.specs.declared.arithmetic.Mode.{Mode}
 use Rattle.ckc_types.specs.declared.types.Kind.{Kind}
@@ -16,17 +16,16 @@ use Rattle.ckc_typed.specs.declared.environment.Globals.{Globals}
 use Rattle.ckc_typed.specs.declared.environment.Parameter.{Parameter}
 use Rattle.ckc_typed.specs.declared.environment.Variable.{Variable}
 use Rattle.ckc_typed.specs.declared.typed.Note.{Note}
-use Rattle.ckc_typed.specs.Conversions.{is_null, is_null_form, is_string, is_string_form, is_allocation, is_allocation_form, is_terminated_kind, is_tested, kind_converts, kind_is_tested, kinds_allow, takes_string, takes_allocation, takes_pointer, pointer_takes, converts}
-use Rattle.ckc_typed.specs.Declarations.{is_checked_kind}
+use Rattle.ckc_typed.specs.Conversions.{is_null, is_null_form, is_string, is_allocation, is_terminated_kind, is_tested, kind_converts, kind_is_tested, kinds_allow, takes_pointer, pointer_takes, converts}
 use Rattle.ckc_typed.specs.Expressions.{number_type}
-use Rattle.ckc_typed.specs.Operands.{promoted, target_type, unary_type, member_in, dot_type, same_element, is_raw_kind}
+use Rattle.ckc_typed.specs.Operands.{promoted, unary_type, member_in, dot_type, same_element}
 use Rattle.ckc_typed.specs.Trees.{NotedExpr, NotedLayer}
 use Rattle.ckc_typed.specs.Types.{is_char, is_integer, is_integer_form, is_pointer, is_pointer_form, is_scalar, is_void, element_in, element_of, kind_of}
 use Rattle.ckc_typed_welltyped.specs.Expressions.{HasType, AreArguments}
 use Rattle.ckc_blame_pointers.proofs.Scalars.{integer_scalar, pointer_scalar, same_scalar, true_if}
 use Rattle.ckc_blame_pointers.proofs.Strings.{char_type}
-use Rattle.ckc_build_wellformed.proofs.Nodes.{IsPlainFor, is_plain, is_plain_form, is_there, is_there_form}
-use Rattle.ckc_build_wellformed.proofs.Parts.{different, unlike, int_out, unsigned_out, pointer_out}
+use Rattle.ckc_build_wellformed.proofs.Nodes.{IsPlainFor, is_plain, is_plain_form, is_there_form}
+use Rattle.ckc_build_wellformed.proofs.Parts.{different, int_out, unsigned_out, pointer_out}
 use Rattle.ckc_build_wellformed.proofs.Structures.{is_struct, is_struct_form}
 
 -- a node whose value is asked for: it has no place, or it is an integer or a pointer

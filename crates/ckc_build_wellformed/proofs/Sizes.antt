@@ -1,6 +1,6 @@
 -- A structure that has a member has a size, and the program of a judged text is laid out by the types of the text.
-use Rattle.std.proofs.Common.{◌≡◌, ◌∙◌, refl, sym, ap, subst, arith, ℕ, zero, suc, ◌+◌, ◌%◌, ◌<◌, ◌≤◌, Bool, true, false, List, [], ◌∷◌, ◌++◌, map, length, length-append}
-use Rattle.std.specs.Prelude.{All, ◌==◌, ◌||◌, if◌then◌else◌, Option, Some, None, find, slice_get, unwrap_or}
+use Rattle.std.proofs.Common.{◌≡◌, ◌∙◌, refl, sym, ap, subst, arith, ℕ, suc, ◌+◌, ◌%◌, ◌<◌, ◌≤◌, Bool, true, false, List, [], ◌∷◌, ◌++◌, map, length, length-append}
+use Rattle.std.specs.Prelude.{All, ◌==◌, ◌||◌, if◌then◌else◌, Some, None, find, slice_get, unwrap_or}
 use Rattle.std.specs.List.{Contains, flat_map, list_all}
 use Rattle.std.specs.Option.{option_map}
 use Rattle.std.proofs.lemmas.Bool.{eq-eqb, eqb-true}
@@ -12,7 +12,6 @@ use Rattle.ckc_base.specs.declared.arithmetic.Width.TheVariants.{Byte, Word}
 use Rattle.ckc_base.specs.Memory.{width_bytes}
 use Rattle.ckc_types.specs.declared.types.CType.{CType, CType-F, out-CType}
 use Rattle.ckc_types.specs.declared.types.MemberShape.{MemberShape}
-use Rattle.ckc_types.specs.declared.types.Structs.{Structs}
 use Rattle.ckc_types.specs.Layout.{align_by_form, members_of}
 use Rattle.ckc_types.specs.Scalars.{align_of_form}
 use Rattle.ckc_syntax.specs.declared.tree.Name.{Name}
@@ -34,8 +33,7 @@ use Rattle.ckc_typed_welltyped.specs.Noteless.{bare_item, without_notes}
 use Rattle.ckc_typed_welltyped.specs.Productions.{given_item, given_tree}
 use Rattle.ckc_source.specs.declared.program.MemberRun.{MemberRun}
 use Rattle.ckc_source.specs.declared.program.Object.{Object}
-use Rattle.ckc_source.specs.declared.program.Shape.{Shape}
-use Rattle.ckc_source.specs.Blocks.{Block, block_of}
+use Rattle.ckc_source.specs.Blocks.{block_of}
 use Rattle.ckc_source.specs.Runs.{runs_in, runs_of}
 use Rattle.ckc_build_values.specs.Kinds.{width_of}
 use Rattle.ckc_build_elaborate.specs.Elaborated.{elaborated}
@@ -47,7 +45,7 @@ use Rattle.ckc_build_forms.specs.ckc_blame_steps.specs.ckc_blame_sound.proofs.Bo
 use Rattle.ckc_build_forms.specs.ckc_blame_steps.specs.ckc_blame_sound.proofs.Members.{have_own_names, members_are}
 use Rattle.ckc_build_forms.specs.ckc_blame_steps.specs.ckc_blame_sound.proofs.Objects.{are_members}
 use Rattle.ckc_build_forms.specs.ckc_blame_steps.specs.ckc_blame_sound.proofs.Parts.{HasSize, member_lies, offset_there, scalar_member, sized_form}
-use Rattle.ckc_build_forms.specs.ckc_blame_steps.specs.ckc_blame_walk.proofs.Sizes.{HasMembers, all_members, tag_sized}
+use Rattle.ckc_build_forms.specs.ckc_blame_steps.specs.ckc_blame_walk.proofs.Sizes.{all_members, tag_sized}
 use Rattle.ckc_source_causes.specs.Layouts.{LiesByType, IsLaidOutBy, is_word}
 use Rattle.ckc_build_wellformed.proofs.Layouts.{layout_of, member_wide, scalar_size, wide_size}
 

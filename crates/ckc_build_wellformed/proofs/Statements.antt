@@ -24,7 +24,6 @@ use Rattle.ckc_typed.specs.Statements.{is_named, is_result}
 use Rattle.ckc_typed.specs.Statics.{Strings, act_strings, strings_of_bounds, strings_of_expr, strings_of_init, strings_of_stmt, strings_of_value}
 use Rattle.ckc_syntax.specs.declared.tree.Node.{Node-F, out-Node}
 use Rattle.ckc_typed.specs.Trees.{NotedAct, NotedDecl, NotedExpr, NotedInit, NotedLayer, NotedStmt}
-use Rattle.ckc_typed.specs.Conversions.{converts}
 use Rattle.ckc_typed.specs.Types.{type_written, is_scalar}
 use Rattle.ckc_typed_welltyped.specs.Declarations.{StartsLocal, WellTypedInit}
 use Rattle.ckc_typed_welltyped.specs.Expressions.{IsNoted, WellTypedExpr}
@@ -41,7 +40,7 @@ use Rattle.ckc_build_elaborate.specs.Literals.{literals_of_bounds, literals_of_v
 use Rattle.ckc_build_elaborate.proofs.Counted as counted
 use Rattle.ckc_build_elaborate.proofs.Counted.{stmt}
 use Rattle.ckc_build_elaborate.specs.Steps.{spot, nowhere, destination_for, destination_of, is_terminated}
-use Rattle.ckc_build_elaborate.specs.Statements.{Part, act_code, part_of, one, alone, code_if, literals_if, all_code, all_assigns, turns, stmt_elaborated}
+use Rattle.ckc_build_elaborate.specs.Statements.{act_code, part_of, one, alone, code_if, literals_if, all_code, all_assigns, turns, stmt_elaborated}
 use Rattle.ckc_build_values.specs.Expressions.{literals_of}
 use Rattle.ckc_build_values.proofs.Counted.{expr_counted}
 use Rattle.ckc_build_forms.specs.ckc_blame_steps.specs.ckc_blame_sound.specs.Safe.{IsSafePart, IsSafe}
@@ -61,7 +60,8 @@ use Rattle.ckc_build_wellformed.proofs.Layouts.{layout_of}
 use Rattle.ckc_build_wellformed.proofs.Known.{Knows}
 use Rattle.ckc_build_wellformed.proofs.Nodes.{is_there_form}
 use Rattle.ckc_build_wellformed.proofs.Scalars.{IsValued, converted}
-use Rattle.ckc_build_wellformed.proofs.Values.{IsPart, judged_made}
+use Rattle.ckc_build_wellformed.proofs.Claims.{IsPart}
+use Rattle.ckc_build_wellformed.proofs.Values.{judged_made}
 use Rattle.ckc_build_wellformed.proofs.Steps.{HaveParams, Fine, Left, value_formed, target_is, right_is, nowhere_arrives, place_arrives, local_arrives, InitFine, assigned_formed, started_formed, returned_formed, condition_formed}
 
 module _ (globals : Globals) (s : Setting) (g : Program) (knows : Knows globals s g) (callees : HaveParams globals s g) where

@@ -27,7 +27,7 @@ use Rattle.ckc_typed.specs.Types.{type_written, is_scalar}
 use Rattle.ckc_typed_welltyped.specs.Expressions.{AnyLimits, AnyNode, HasType, AreArguments}
 use Rattle.ckc_source.specs.declared.stmt.Spot.{Spot}
 use Rattle.ckc_source.specs.Code.{Expr, Code, Program}
-use Rattle.ckc_build_values.specs.Expressions.{Part, NodePart, LimitsPart, limits_parts, node_parts, expr_parts, part_of, expr_elaborated, place_elaborated, literals_of}
+use Rattle.ckc_build_values.specs.Expressions.{Part, NodePart, LimitsPart, limits_parts, node_parts, expr_parts, expr_elaborated, place_elaborated, literals_of}
 use Rattle.ckc_build_values.specs.Kinds.{width_of}
 use Rattle.ckc_build_values.specs.Names.{address_of}
 use Rattle.ckc_build_elaborate.specs.Names.{number_of, params_of}
@@ -43,7 +43,7 @@ use Rattle.ckc_build_wellformed.proofs.Parts.{different, unlike, converted_forme
 use Rattle.ckc_build_wellformed.proofs.Nodes.{is_there, is_there_form, name_in, call_in}
 use Rattle.ckc_build_wellformed.proofs.Known.{Knows, IsSingle}
 use Rattle.ckc_build_wellformed.proofs.Scalars.{IsValued}
-use Rattle.ckc_build_wellformed.proofs.Values.{IsPart, Made, AllFormed, PartsFormed}
+use Rattle.ckc_build_wellformed.proofs.Claims.{IsPart, Made, AllFormed, PartsFormed}
 
 -- ---- nodes by their names
 
