@@ -10,7 +10,7 @@ use Rattle.ckc_types.specs.declared.types.CType.{CType, CType-F, out-CType}
 use Rattle.ckc_types.specs.declared.types.CType.TheVariants as ctype
 use Rattle.ckc_types.specs.declared.types.MemberShape.{MemberShape}
 use Rattle.ckc_types.specs.declared.types.Structs.{Structs}
-use Rattle.ckc_types.specs.Layout.{align, align_by_form, members_of, size, struct_align, struct_size}
+use Rattle.ckc_types.specs.Layout.{align, align_by_form, members_of, struct_align, struct_size}
 use Rattle.ckc_types.specs.Scalars.{align_of_form, scalar_align}
 use Rattle.ckc_types.proofs.Aligns.{struct_align_at_most}
 use Rattle.ckc_types.proofs.Forms.{align_of_struct, size_of_struct}

@@ -1,6 +1,6 @@
 -- The program of a text that the phases accept is well formed.
 use Rattle.std.proofs.Common.{◌≡◌, ◌∙◌, sym, ap, subst, refl, ℕ, ◌+◌, true, false, List, [], map, length}
-use Rattle.std.specs.Prelude.{All, Ok, ◌-◌, slice_get}
+use Rattle.std.specs.Prelude.{All, Ok, slice_get}
 use Rattle.std.specs.List.{Contains}
 use Rattle.std.proofs.lemmas.List.{length-map}
 use Rattle.ckc_base.specs.Outcomes.{bind}
