@@ -1,8 +1,12 @@
+pub mod Layouts
+pub mod Ranges
 pub mod Nodes
 pub mod Parts
+pub mod Sizes
 pub mod Known
 pub mod Structures
 pub mod Scalars
+pub mod Claims
 pub mod Values
 pub mod Steps
 pub mod Statements

@@ -1,6 +1,6 @@
 -- What is known of the names of a function of a judged text.
-use Rattle.std.proofs.Common.{◌≡◌, ◌⊎◌, ◌∙◌, ⊎_elim, inl, inr, refl, sym, ap, subst, arith, rules, ℕ, ◌+◌, ◌<◌, Bool, true, false, List, [], ◌∷◌, map, length}
-use Rattle.std.specs.Prelude.{All, ◌||◌, ◌==◌, if◌then◌else◌, Option, Some, None, is_none, is_some, slice_get}
+use Rattle.std.proofs.Common.{◌≡◌, ◌⊎◌, ◌∙◌, ⊎_elim, inl, inr, refl, sym, ap, subst, arith, rules, ℕ, ◌+◌, ◌*◌, ◌<◌, ◌≤◌, Bool, true, false, List, [], ◌∷◌, map, length}
+use Rattle.std.specs.Prelude.{All, pos, ◌-◌, ◌||◌, ◌==◌, if◌then◌else◌, Option, Some, None, is_none, is_some, slice_get}
 use Rattle.std.specs.List.{Contains, flat_map, list_any}
 use Rattle.std.proofs.lemmas.Bool.{and_parts}
 use Rattle.std.proofs.lemmas.List.{length-map}
@@ -8,7 +8,6 @@ use Rattle.std.proofs.lemmas.List.Sorted.{length_permutation}
 use Rattle.std.proofs.lemmas.Option.{slice_get_within}
 use Rattle.std.proofs.lemmas.List.Elements.{All-nil, All-cons, All-head, All-tail}
 use Rattle.ckc_base.specs.declared.arithmetic.Mode.{Mode}
-use Rattle.ckc_base.specs.declared.arithmetic.Width.{Width}
 use Rattle.ckc_base.specs.declared.arithmetic.Mode.TheVariants.{Unchecked}
 use Rattle.ckc_linear.specs.declared.forms.Base.TheVariants as base
 use Rattle.ckc_types.specs.declared.types.Kind.{Kind}
@@ -34,28 +33,31 @@ use Rattle.ckc_typed.specs.declared.typed.Note.{Note}
 use Rattle.ckc_typed.specs.declared.typed.Range.{Range}
 use Rattle.ckc_typed.specs.declared.typed.Range.TheVariants as range
 use Rattle.ckc_typed.specs.declared.typed.Typed.{Typed}
+use Rattle.ckc_typed.specs.declared.typed.StaticObject.{StaticObject}
+use Rattle.ckc_typed.specs.Constants.{size_of}
+use Rattle.ckc_typed.specs.Conversions.{is_terminated_kind}
 use Rattle.ckc_typed.specs.Declarations.{is_checked_kind}
 use Rattle.ckc_typed.specs.Environment.{member_type, getchar, putchar, kind_of_array, variable_declared, variables_of, object_named, same_name, signatures_of, signatures_of_item, signature_named, type_of_name, used, variable_named}
 use Rattle.ckc_typed.specs.Expressions.{is_no_array}
 use Rattle.ckc_typed.specs.Layouts.{member_number}
 use Rattle.ckc_typed.specs.Operands.{member_in as member_typed, dot_type}
 use Rattle.std.specs.Option.{option_map}
-use Rattle.ckc_typed.specs.Statics.{strings_of_item}
+use Rattle.ckc_typed.specs.Statics.{is_terminated, strings_of_item}
 use Rattle.ckc_typed.specs.Texts.{globals_of, is_result_type}
 use Rattle.ckc_typed.specs.Trees.{Item, NotedDecl, NotedItem, NotedExpr, NotedLimits, NotedNode, Tree}
-use Rattle.ckc_typed.specs.Types.{is_integer, is_pointer, type_written, is_integer_form, is_pointer_form, is_scalar, is_scalar_type, is_object_type, is_void, kind_of}
+use Rattle.ckc_typed.specs.Types.{is_integer, is_pointer, type_written, is_integer_form, is_pointer_form, is_scalar, is_scalar_type, is_object_type, is_void, kind_of, element_in, element_of}
 use Rattle.ckc_typed_welltyped.specs.Noteless.{bare_item, without_notes}
+use Rattle.ckc_typed_welltyped.specs.Productions.{given_tree}
 use Rattle.ckc_typed_welltyped.specs.Texts.{WellTypedItems}
 use Rattle.ckc_source.specs.declared.expr.Count.{Count}
 use Rattle.ckc_source.specs.declared.expr.Count.TheVariants as count
-use Rattle.ckc_source.specs.declared.program.Object.{Object as ProgramObject}
 use Rattle.ckc_source.specs.Blocks.{block_of}
 use Rattle.ckc_source.specs.Words as words
 use Rattle.ckc_source.specs.Code.{Function}
-use Rattle.ckc_source.specs.Eval.{Store, place_in}
-use Rattle.ckc_build_values.specs.Kinds.{tag_of, tag_in, count_of_kind, width_of}
+use Rattle.ckc_source.specs.Eval.{Store}
+use Rattle.ckc_build_values.specs.Kinds.{tag_of, tag_in, width_of}
 use Rattle.ckc_build_values.specs.Members.{member_named, count_by, count_in, count_of_member, integer_in_member, offset_of}
-use Rattle.ckc_build_values.specs.Names.{address_in, address_of, array_in, array_of, count_declared, count_of_static, fixed_by, fixed_count}
+use Rattle.ckc_build_values.specs.Names.{address_in, address_of, array_in, array_of, bytes_in, bytes_of, count_declared, count_of_static, fixed_by, fixed_count}
 use Rattle.ckc_build_elaborate.specs.Elaborated.{elaborated}
 use Rattle.ckc_build_elaborate.specs.Objects.{object_elaborated, objects_elaborated}
 use Rattle.ckc_build_forms.specs.ckc_blame_steps.specs.ckc_bounds.specs.Frames.{all_of}
@@ -71,7 +73,7 @@ use Rattle.ckc_build_forms.specs.ckc_blame_steps.specs.ckc_bounds_views.specs.Ra
 use Rattle.ckc_build_forms.specs.ckc_blame_steps.specs.Statics.{IsStatic, range_counted}
 use Rattle.ckc_build_forms.specs.ckc_blame_steps.specs.Told.{IsTold}
 use Rattle.ckc_build_forms.specs.ckc_blame_steps.specs.ckc_blame_sound.specs.JudgedTexts.{IsJudged, globals_in}
-use Rattle.ckc_build_forms.specs.ckc_blame_steps.specs.ckc_blame_sound.specs.Settings.{Setting, AreStrings, IsFunction, setting_of}
+use Rattle.ckc_build_forms.specs.ckc_blame_steps.specs.ckc_blame_sound.specs.Settings.{Setting, AreStrings, IsFunction, IsString, setting_of}
 use Rattle.ckc_build_forms.specs.ckc_blame_steps.specs.ckc_blame_sound.proofs.Frames.{frames_agree, locals_are_there, named_type, statics_named, types_numbered, types_length, variables_moved}
 use Rattle.ckc_build_forms.specs.ckc_blame_steps.specs.ckc_blame_sound.proofs.Functions.{numbered, tree_named}
 use Rattle.ckc_build_forms.specs.ckc_blame_steps.specs.ckc_blame_sound.proofs.Lists.{found}
@@ -85,23 +87,25 @@ use Rattle.ckc_build_forms.specs.ckc_blame_steps.proofs.Small.{few_locals, varia
 use Rattle.ckc_build_forms.specs.ckc_blame_steps.proofs.Texts.{texts_are_told}
 use Rattle.ckc_build_forms.specs.ckc_blame_steps.specs.ckc_blame_sound.specs.Cells.{AreSound, IsPartIn, IsPart}
 use Rattle.ckc_build_forms.specs.ckc_blame_steps.specs.ckc_blame_sound.specs.Limited.{IsCountPart}
-use Rattle.ckc_build_forms.specs.ckc_blame_steps.specs.ckc_blame_sound.proofs.Accesses.{member_part}
+use Rattle.ckc_build_forms.specs.ckc_blame_steps.specs.ckc_blame_sound.proofs.Accesses.{member_part, scalar_part}
 use Rattle.ckc_build_forms.specs.ckc_blame_steps.specs.ckc_blame_sound.proofs.Apart.{cell_there}
-use Rattle.ckc_build_forms.specs.ckc_blame_steps.specs.ckc_blame_sound.proofs.Filled.{part_place}
 use Rattle.ckc_build_forms.specs.ckc_blame_steps.specs.ckc_blame_sound.proofs.Objects.{object_cell}
+use Rattle.ckc_build_forms.specs.ckc_blame_steps.specs.ckc_blame_sound.proofs.Parts.{sized_form}
 use Rattle.ckc_build_forms.specs.ckc_blame_steps.specs.ckc_blame_sound.proofs.Shapes.{integer_width}
 use Rattle.ckc_build_forms.specs.ckc_blame_steps.proofs.Objects.{single}
 use Rattle.ckc_build_forms.specs.ckc_blame_steps.proofs.StaticKinds.{plain_ends}
 use Rattle.ckc_build_forms.specs.ckc_blame_steps.proofs.Told.{none_named, statics_told}
 use Rattle.ckc_blame_pointers.specs.Covered.{NamesInteger}
 use Rattle.ckc_blame_pointers.proofs.Scalars.{integer_scalar, pointer_scalar}
-use Rattle.ckc_typed.specs.Amounts.{amount_of_limits}
 use Rattle.ckc_typed.specs.declared.environment.Amount.{Amount}
-use Rattle.ckc_source_causes.specs.WellFormed.{HasObjectAt, LiesInObject}
+use Rattle.ckc_source_causes.specs.Layouts.{HasElementsAt, NamesElements}
+use Rattle.ckc_source_causes.specs.WellFormed.{LiesInObject}
+use Rattle.ckc_build_wellformed.proofs.Layouts.{layout_of}
 use Rattle.ckc_build_wellformed.proofs.Nodes.{is_there_form}
-use Rattle.ckc_build_wellformed.proofs.Parts.{IsFixed, kind_fixed, different, unlike, int_out, integer_kind, kind_pointer, pointer_kind}
+use Rattle.ckc_build_wellformed.proofs.Parts.{IsFixed, kind_fixed, different, unlike, int_out, integer_kind, kind_pointer, pointer_kind, pointer_out}
+use Rattle.ckc_build_wellformed.proofs.Sizes.{dot_sized}
 use Rattle.ckc_build_wellformed.proofs.Structures.{is_struct, scalar_plain, void_plain, dot_struct, structure_there}
-use Rattle.ckc_build_wellformed.proofs.Known.{Knows, KnowsMember, KnowsStatic, behind, count_missing, one_counts}
+use Rattle.ckc_build_wellformed.proofs.Known.{Knows, KnowsMember, KnowsStatic, behind, count_missing, one_counts, range_past}
 
 some_none : {A X : Type 0} {a : A} → ◌≡◌ {A = Option A} (Some a) None → X
 some_none e = absurd cc
@@ -197,14 +201,30 @@ takes_pointer t h = by (kind_of t) refl h
 
 -- ---- objects of file scope
 
+array_ends : (l : Length) (j : Kind) → kind_of_array l ≡ Some j → is_terminated l ≡ is_terminated_kind (Some j)
+array_ends lengths.Plain j e = none_some e
+array_ends (lengths.Raw n at) j e = ap is_terminated_kind e
+array_ends (lengths.Checked n) j e = ap is_terminated_kind e
+array_ends (lengths.Nt n) j e = ap is_terminated_kind e
+
+-- a terminator comes after the elements that may be used
+room_for : (ends : Bool) (n : ℕ) → 0 < n → (if ends then (n - (if ends then 1 else 0)) + 1 else n - (if ends then 1 else 0)) ≤ n
+room_for true n h = omega (arith, h)
+room_for false n h = omega arith
+
+char_out : out-CType ctype.Char ≡ CType-F.Char
+char_out = search (rules, the_lemmas)
+
 module _ (p : Typed) (s : Setting) (text : s.text ≡ p) (place : ℕ) (sound : AreSound p (map block_of (elaborated p).objects) place) where
   module _ (t : CType) (k : ℕ) (h : IsStatic s t k) where
-    lies : HasObjectAt (elaborated p) (address_of s.text k)
-    lies = record {
+    elements_at : (ends : Bool) (n : ℕ) → (if ends then n + 1 else n) ≤ h.object.count → HasElementsAt (elaborated p) h.object.element ends (address_of s.text k) n
+    elements_at ends n room = record {
       object = object_elaborated s.text.layout (Some (is_none h.decl.bounds)) h.object;
       there = subst (λ (q : Typed). Contains (objects_elaborated q) (object_elaborated s.text.layout (Some (is_none h.decl.bounds)) h.object)) text
           (contains_at (objects_elaborated s.text) k (object_elaborated s.text.layout (Some (is_none h.decl.bounds)) h.object) h.placed);
       at = sym (ap address_in h.there);
+      element = refl;
+      room = room;
     }
 
     array_is : array_of s.text k ≡ h.object.array
@@ -220,15 +240,28 @@ module _ (p : Typed) (s : Setting) (text : s.text ≡ p) (place : ℕ) (sound : 
     element_is : array_of s.text k ≡ None → t ≡ h.object.element
     element_is none = h.type ∙ ap (used h.object.element) (sym array_is ∙ none)
 
-    room : array_of s.text k ≡ None → (o : ℕ) (w : Width) → IsPart s.text.layout t o w → LiesInObject (elaborated p) w (address_of s.text k + o) × (place_in (address_of s.text k) o ≡ address_of s.text k + o)
-    room none o w part =
+    lies : array_of s.text k ≡ None → HasElementsAt (elaborated p) t false (address_of s.text k) 1
+    lies none = let some = h.some in subst (λ u. HasElementsAt (elaborated p) u false (address_of s.text k) 1) (sym (element_is none)) (elements_at false 1 (omega (arith, some)))
+
+    elements : (j : Kind) → array_of s.text k ≡ Some j → NamesElements (elaborated p) (layout_of s.text.layout) (element_of t) (is_terminated_kind (Some j)) (address_of s.text k) (bytes_of s.text k)
+    elements j e =
+        let array : h.object.array ≡ Some j = sym array_is ∙ e in
+        let ends : h.object.terminated ≡ is_terminated_kind (Some j) = h.ends ∙ array_ends h.decl.length j (sym h.array ∙ array) in
+        let type : element_of t ≡ h.object.element = ap element_of (h.type ∙ ap (used h.object.element) array) ∙ ap element_in (pointer_out j h.object.element) in
+        subst (λ u. NamesElements (elaborated p) (layout_of s.text.layout) u (is_terminated_kind (Some j)) (address_of s.text k) (bytes_of s.text k)) (sym type)
+        (subst (λ b. NamesElements (elaborated p) (layout_of s.text.layout) h.object.element b (address_of s.text k) (bytes_of s.text k)) ends
+        (h.object.count - (if h.object.terminated then 1 else 0), ap (bytes_in s.text.layout) h.there, elements_at h.object.terminated _ (room_for h.object.terminated h.object.count h.some)))
+
+    room : array_of s.text k ≡ None → is_scalar t ≡ true → LiesInObject (elaborated p) (width_of t) (address_of s.text k)
+    room none scalar =
         let array : h.object.array ≡ None = sym array_is ∙ none in
         let here : AreSound s.text (map block_of (elaborated s.text).objects) place = subst (λ (q : Typed). AreSound q (map block_of (elaborated q).objects) place) (sym text) sound in
         let bs = map block_of (elaborated s.text).objects in
-        let cell =
-        object_cell s.text bs here.memory.objects k h.object h.there (h.ends ∙ plain_ends h.decl.length (sym h.array ∙ array)) h.some o w (subst (λ u. IsPart s.text.layout u o w) (element_is none) part) in
-        let lies = cell_there s.text bs here.memory.placed (address_of s.text k + o) w false cell in
-        (subst (λ (q : Typed). LiesInObject (elaborated q) w (address_of s.text k + o)) text lies, part_place s.text bs place here (address_of s.text k) o w false cell)
+        let part = subst (λ u. IsPart s.text.layout u 0 (width_of t)) (element_is none) (scalar_part s.text.layout t scalar) in
+        let cell = object_cell s.text bs here.memory.objects k h.object h.there (h.ends ∙ plain_ends h.decl.length (sym h.array ∙ array)) h.some 0 (width_of t) part in
+        let lies = cell_there s.text bs here.memory.placed (address_of s.text k + 0) (width_of t) false cell in
+        let at : address_of s.text k + 0 ≡ address_of s.text k = omega arith in
+        subst (LiesInObject (elaborated p) (width_of t)) at (subst (λ (q : Typed). LiesInObject (elaborated q) (width_of t) (address_of s.text k + 0)) text lies)
 
     fixed : array_of s.text k ≡ None → (n : Count) → count_of_static s.text t (name.Static k) ≡ Some n → (is_pointer t ≡ true) × IsFixed n
     fixed none n e = by h.decl.bounds refl
@@ -243,15 +276,12 @@ module _ (p : Typed) (s : Setting) (text : s.text ≡ p) (place : ℕ) (sound : 
           amount_fixed _ n (counted (Some l) is),
         )
 
-    single_counts : array_of s.text k ≡ None → kind_of t ≡ Some kind.One → count_of_static s.text t (name.Static k) ≡ None → ⊥
-    single_counts array one none = by h.decl.bounds refl
+    single_counts : array_of s.text k ≡ None → kind_of t ≡ Some kind.One → count_of_static s.text t (name.Static k) ≡ Some (count.Fixed (pos 1))
+    single_counts array one = by h.decl.bounds refl
       where
-        counted : (o : Option NotedLimits) → h.decl.bounds ≡ o → count_declared s.text.layout t o ≡ None
-        counted o e = sym (ap (count_declared s.text.layout t) (h.limits ∙ e)) ∙ none
-
-        by : (o : Option NotedLimits) → h.decl.bounds ≡ o → ⊥
-        by None e = one_counts t one (counted None e)
-        by (Some l) e = absurd (different (sym (ap takes_bounds_kind (ap kind_of (sym (element_is array)) ∙ one)) ∙ (and_parts (takes_bounds_kind (kind_of h.object.element)) (is_none (kind_of_array h.decl.length)) (h.takes (ap is_some e))).0))
+        by : (o : Option NotedLimits) → h.decl.bounds ≡ o → count_of_static s.text t (name.Static k) ≡ Some (count.Fixed (pos 1))
+        by None e = ap (count_declared s.text.layout t) (h.limits ∙ e) ∙ one_counts t one
+        by (Some l) e = different (sym (ap takes_bounds_kind (ap kind_of (sym (element_is array)) ∙ one)) ∙ (and_parts (takes_bounds_kind (kind_of h.object.element)) (is_none (kind_of_array h.decl.length)) (h.takes (ap is_some e))).0)
 
     range_missing : array_of s.text k ≡ None → count_of_static s.text t (name.Static k) ≡ None → (own : ℕ) (widened : List ℕ) → is_missing (range_of_name s.frame (name.Static k) t own widened) ≡ true
     range_missing array none own widened =
@@ -263,7 +293,25 @@ module _ (p : Typed) (s : Setting) (text : s.text ≡ p) (place : ℕ) (sound : 
         ∙ counted_missing own (count_of_static s.text h.object.element (name.Static k)) (ap (λ u. count_of_static s.text u (name.Static k)) (sym same) ∙ none)
 
     pub static_known : KnowsStatic s (elaborated p) t k
-    static_known = record { there = lies; room = room; fixed = fixed; array = kind_is; single = single_counts; ranged = range_missing }
+    static_known = record { there = lies; room = room; fixed = fixed; array = kind_is; elements = elements; single = single_counts; ranged = range_missing }
+
+  pub string_known : (bytes : List ℕ) (k : ℕ) → IsString s bytes k
+      → NamesElements (elaborated p) (layout_of s.text.layout) ctype.Char true (address_of s.text k) (length bytes)
+  string_known bytes k h =
+      let one : size_of s.text.layout ctype.Char ≡ 1 = ap (sized_form s.text.layout) char_out in
+      let many : h.object.count ≡ length bytes + 1 = ap (λ (o : StaticObject). o.count) h.made in
+      let same : length bytes ≡ 1 * length bytes = omega arith in (
+        length bytes,
+        same ∙ ap (λ n. n * length bytes) (sym one),
+        record {
+          object = object_elaborated s.text.layout (Some true) h.object;
+          there = subst (λ (q : Typed). Contains (objects_elaborated q) (object_elaborated s.text.layout (Some true) h.object)) text
+              (contains_at (objects_elaborated s.text) k (object_elaborated s.text.layout (Some true) h.object) h.free);
+          at = sym (ap address_in h.there);
+          element = ap (λ (o : StaticObject). o.element) h.made;
+          room = omega (arith, many);
+        },
+      )
 
 -- ---- members
 
@@ -309,11 +357,12 @@ module _ (s : Setting) (u t : CType) (n : Name) where
       by CType-F.Void is g = absurd cc
       by (CType-F.Pointer j v) is g = absurd cc
 
-  integer_known : (k : ℕ) → n ≡ name.Member k → dot_type s.text.layout u n ≡ Some t → count_of_member s.text.layout (tag_of u) n ≡ None → is_integer t ≡ true → KnowsMember s u t n
-  integer_known k named there bare i =
+  integer_known : (k : ℕ) → n ≡ name.Member k → dot_type s.text.layout u n ≡ Some t → count_of_member s.text.layout (tag_of u) n ≡ None → is_integer t ≡ true → 0 < size_of s.text.layout u → KnowsMember s u t n
+  integer_known k named there bare i sized =
       let none = integer_kind t i in
       record {
         scalar = integer_scalar t i;
+        sized = sized;
         part = part_is k named there;
         counted = λ c e. none_some (sym bare ∙ e);
         single = λ one. some_none (sym one ∙ none);
@@ -351,12 +400,13 @@ module _ (s : Setting) (u t : CType) (n : Name) where
         (subst (λ w. IsPart s.text.layout u (offset_of s.text.layout m.tag k) w) (sym form)
         (part_of_struct u m.tag k m.struct h.0.ctype (ap (λ (o : Option MemberShape). option_map (λ (x : MemberShape). x.ctype) o) h.1)))
 
-    pointer_known : dot_type s.text.layout u n ≡ Some t → KnowsMember s u t n
-    pointer_known there = record {
+    pointer_known : dot_type s.text.layout u n ≡ Some t → 0 < size_of s.text.layout u → KnowsMember s u t n
+    pointer_known there sized = record {
       scalar = pointer_scalar t m.pointer;
+      sized = sized;
       part = part_is m.number m.named there;
       counted = λ c e. (m.pointer, counted_by m.member.bounds m.counts c (sym count_is ∙ e));
-      single = λ one none. one_counts t one (sym (ap (count_by s.text.layout m.tag t) (m.single one)) ∙ sym count_is ∙ none);
+      single = λ one. count_is ∙ ap (count_by s.text.layout m.tag t) (m.single one) ∙ one_counts t one;
       ranged = λ none own.
           ap (λ o. is_missing (range_of_member s.frame.structs t o own)) member_is
           ∙ ap (λ b. is_missing (if is_checked (kind_of t) then range_in_struct (kind_of t) b own else range.Missing)) m.judged
@@ -365,7 +415,7 @@ module _ (s : Setting) (u t : CType) (n : Name) where
 
 -- ---- a function of a judged text
 
-module _ (p : Typed) (j : IsJudged p) (small : Small j.named.tree) (place : ℕ) (sound : AreSound p (map block_of (elaborated p).objects) place) (s : Setting) (f : Function) (is : IsFunction p s f) where
+module _ (p : Typed) (j : IsJudged p) (given : given_tree j.named.tree ≡ true) (small : Small j.named.tree) (place : ℕ) (sound : AreSound p (map block_of (elaborated p).objects) place) (s : Setting) (f : Function) (is : IsFunction p s f) where
   text_is : s.text ≡ p
   unfolding setting_of
   text_is = ap (λ (x : Setting). x.text) is.judged
@@ -399,15 +449,17 @@ module _ (p : Typed) (j : IsJudged p) (small : Small j.named.tree) (place : ℕ)
   told : IsTold (globals_in p) s empty []
   told = subst (λ z. IsTold (globals_in p) z empty []) (sym is.judged) told_here
 
-  one_range : (k : ℕ) (widened : List ℕ) (l : Local) → local_at s.frame k ≡ Some l → kind_of l.ctype ≡ Some kind.One → is_missing (range_of_local s.frame k widened) ≡ false
+  abbrev HasRange : ℕ → Range → Type 0
+  HasRange k r = (more : ℕ) × (r ≡ range_past k more)
+
+  one_range : (k : ℕ) (widened : List ℕ) (l : Local) → local_at s.frame k ≡ Some l → kind_of l.ctype ≡ Some kind.One → HasRange k (range_of_local s.frame k widened)
   one_range k widened l at one =
-      ap (λ o. is_missing (range_by o (list_any (λ q. q == k) widened))) at
-      ∙ ap (λ b. is_missing (range_by (Some (record l { bounds = b })) (list_any (λ q. q == k) widened))) (told.ones k l at one)
-      ∙ by (list_any (λ q. q == k) widened)
+      let wide = list_any (λ q. q == k) widened in
+      subst (HasRange k) (sym (ap (λ o. range_by o wide) at ∙ ap (λ b. range_by (Some (record l { bounds = b })) wide) (told.ones k l at one))) (by wide)
     where
-      by : (wide : Bool) → is_missing (range_by (Some (record l { bounds = bounds_of_kind (base.Local k) (Some kind.One) })) wide) ≡ false
-      by true = refl
-      by false = refl
+      by : (wide : Bool) → HasRange k (range_by (Some (record l { bounds = bounds_of_kind (base.Local k) (Some kind.One) })) wide)
+      by true = (1, refl)
+      by false = (0, refl)
 
   variables : s.variables ≡ variables_of is.body.note.mode is.head is.body
   variables = ap (λ (r : Setting). r.variables) is.judged ∙ variables_are p is.head is.body
@@ -424,7 +476,7 @@ module _ (p : Typed) (j : IsJudged p) (small : Small j.named.tree) (place : ℕ)
       let there = named_type (globals_in p) is.head is.body k t (numbered p is.head is.body j is.there) (statics_named p j) (subst (λ vs. type_of_name (globals_in p) vs (name.Local k) ≡ Some t) variables e) in
       subst (λ vs. k < length vs) (sym variables) (subst (λ n. k < n) as_many (slice_get_within (types_numbered (all_of is.head is.body)) k t there))
 
-  one_there : (k : ℕ) (t : CType) → type_of_name (globals_in p) s.variables (name.Local k) ≡ Some t → kind_of t ≡ Some kind.One → (widened : List ℕ) → is_missing (range_of_local s.frame k widened) ≡ false
+  one_there : (k : ℕ) (t : CType) → type_of_name (globals_in p) s.variables (name.Local k) ≡ Some t → kind_of t ≡ Some kind.One → (widened : List ℕ) → HasRange k (range_of_local s.frame k widened)
   one_there k t e one widened =
       let l = locals_are_there p s f k is (local_below k t e) (few_locals p s f j small is) in
       one_range k widened l.0 l.1 (ap kind_of ((frames_agree p s f j is).locals k l.0 t l.1 e) ∙ one)
@@ -470,12 +522,15 @@ module _ (p : Typed) (j : IsJudged p) (small : Small j.named.tree) (place : ℕ)
       ap array_in w.there
       ∙ single p j s text_is t k w (subst (λ (o : Option Variable). (is_some o || is_no_array (object_named (globals_in p) (name.Static k))) ≡ true) none h)
 
+  sized : (u t : CType) (n : Name) → dot_type (globals_in p).structs u n ≡ Some t → 0 < size_of s.text.layout u
+  sized u t n e = subst (λ (q : Typed). 0 < size_of q.layout u) (sym text_is) (dot_sized p j given small u t n (subst (λ (q : Typed). dot_type q.layout u n ≡ Some t) text_is (subst (λ (x : Structs). dot_type x u n ≡ Some t) told.structs e)))
+
   pub names_known : Knows (globals_in p) s (elaborated p)
   names_known = record {
     statics = λ k t e. static_known p s text_is place sound t k (statics_told p s f t k j is e);
     singles = singles_there;
     members = λ u t n e.
-        ⊎_elim (λ m. integer_known s u t n m.number m.named m.there m.bare m.integer)
+        ⊎_elim (λ m. integer_known s u t n m.number m.named m.there m.bare m.integer (sized u t n e))
         (λ m. pointer_known s u t n (record {
           tag = m.tag;
           struct = m.struct;
@@ -488,9 +543,10 @@ module _ (p : Typed) (j : IsJudged p) (small : Small j.named.tree) (place : ℕ)
           single = m.single;
           pointer = m.pointer;
           counts = m.counts;
-        }) (subst (λ (x : Structs). dot_type x u n ≡ Some t) told.structs e)) (told.members u t n (subst (λ (x : Structs). dot_type x u n ≡ Some t) told.structs e));
+        }) (subst (λ (x : Structs). dot_type x u n ≡ Some t) told.structs e) (sized u t n e)) (told.members u t n (subst (λ (x : Structs). dot_type x u n ≡ Some t) told.structs e));
     structures = λ u t n e x mode row. structure_there (globals_in p) s.variables names_there results_there mode x u row (dot_struct (globals_in p).structs u t n e);
     objects = objects_there;
     targets = targets_there;
     ones = one_there;
+    strings = string_known p s text_is place sound;
   }

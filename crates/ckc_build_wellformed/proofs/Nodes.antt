@@ -1,8 +1,10 @@
 -- Nodes of expressions by their form, and ranges of locals.
-use Rattle.std.proofs.Common.{◌≡◌}
+use Rattle.std.proofs.Common.{◌≡◌, ◌⊎◌, inl, inr}
 use Rattle.std.specs.Prelude.{ℕ, ◌==◌, Bool, true, false, ◌||◌, pos, List, Option, Some, None, length}
 use Rattle.std.specs.List.{list_any}
 use Rattle.ckc_linear.specs.declared.forms.Form.{Form}
+use Rattle.ckc_types.specs.declared.types.CType.{CType}
+use Rattle.ckc_types.specs.declared.types.CType.TheVariants as ctype
 use Rattle.ckc_syntax.specs.declared.tree.Name.{Name}
 use Rattle.ckc_syntax.specs.declared.tree.Name.TheVariants as name
 use Rattle.ckc_syntax.specs.declared.tree.TreeOp.TheVariants as op
@@ -37,6 +39,14 @@ is_plain_form n = is_null_form n || (is_string_form n || is_allocation_form n)
 
 abbrev pub is_plain : NotedExpr → Bool
 is_plain e = is_plain_form (out-Node Name Note e.node)
+
+-- a pointer to elements of which type such a node may be: null and a new block of any, a string of `char`
+abbrev pub IsPlainFor : {A L M E : Type 0} → Node-F Name A L M E → CType → Type 0
+IsPlainFor n t = ((is_null_form n || is_allocation_form n) ≡ true) ⊎ ((is_string_form n ≡ true) × (t ≡ ctype.Char))
+
+pub no_plain : {X Y : Type 0} → (false ≡ true) ⊎ ((false ≡ true) × Y) → X
+no_plain (inl e) = absurd cc
+no_plain (inr e) = let h = e.0 in absurd cc
 
 -- the name that a node is
 abbrev pub name_in : {A L M E : Type 0} → Node-F Name A L M E → Option Name

@@ -1,10 +1,8 @@
 -- The program of a text that the phases accept is well formed.
-use Rattle.std.proofs.Common.{◌≡◌, ◌∙◌, sym, ap, subst, refl, arith, le_refl, ℕ, ◌+◌, ◌≤◌, true, false, List, [], ◌∷◌, ◌++◌, map, length, replicate}
-use Rattle.std.specs.Prelude.{All, Ok, ◌-◌, ◌*◌, slice_get}
+use Rattle.std.proofs.Common.{◌≡◌, ◌∙◌, sym, ap, subst, refl, ℕ, ◌+◌, true, false, List, [], map, length}
+use Rattle.std.specs.Prelude.{All, Ok, slice_get}
 use Rattle.std.specs.List.{Contains}
 use Rattle.std.proofs.lemmas.List.{length-map}
-use Rattle.std.proofs.lemmas.List.Elements.{All-nil, All-cons}
-use Rattle.ckc_base.specs.Lists.{AreBytes}
 use Rattle.ckc_base.specs.Outcomes.{bind}
 use Rattle.ckc_syntax.specs.declared.tree.Name.TheVariants as name
 use Rattle.ckc_syntax.specs.declared.tree.Item.TheVariants as item
@@ -12,16 +10,16 @@ use Rattle.ckc_syntax.specs.declared.tree.NamedText.{NamedText}
 use Rattle.ckc_syntax_limits.specs.Small.{Small}
 use Rattle.ckc_typed.specs.declared.typed.Typed.{Typed}
 use Rattle.ckc_typed.specs.Environment.{parameter_declared, variable_declared}
+use Rattle.ckc_typed.specs.Statics.{strings_of_head, strings_of_stmt}
 use Rattle.ckc_typed.specs.Trees.{NotedDecl, NotedHead, NotedStmt}
 use Rattle.ckc_typed_welltyped.specs.Productions.{given_tree}
 use Rattle.ckc_typed_welltyped.specs.Texts.{TypedAs}
-use Rattle.ckc_source.specs.declared.program.Object.{Object}
-use Rattle.ckc_source.specs.Blocks.{block_of, end_of, first_place, place_behind}
+use Rattle.ckc_source.specs.Blocks.{block_of}
 use Rattle.ckc_source.specs.Code.{Function}
-use Rattle.ckc_source.specs.LaidOut.{AreApart, HoldBytes}
 use Rattle.ckc_source.specs.Source.{first_state}
 use Rattle.ckc_build_elaborate.specs.Elaborated.{elaborated}
 use Rattle.ckc_build_elaborate.specs.Functions.{literals_of_head, function_elaborated, functions_elaborated}
+use Rattle.ckc_build_elaborate.proofs.Counted as counted
 use Rattle.ckc_build_elaborate.specs.Names.{number_of}
 use Rattle.ckc_build_elaborate.specs.Objects.{count_declared}
 use Rattle.ckc_build_forms.specs.ckc_blame_steps.specs.Accepted.{IsAccepted}
@@ -33,10 +31,10 @@ use Rattle.ckc_build_forms.specs.ckc_blame_steps.specs.ckc_bounds_statements.spe
 use Rattle.ckc_build_forms.specs.ckc_blame_steps.specs.ckc_blame_sound.specs.JudgedTexts.{IsJudged, IsBodyJudged, globals_in}
 use Rattle.ckc_build_forms.specs.ckc_blame_steps.specs.ckc_blame_sound.specs.Cells.{AreSound}
 use Rattle.ckc_build_forms.specs.ckc_blame_steps.specs.ckc_blame_sound.specs.Safe.{AreSafe}
-use Rattle.ckc_build_forms.specs.ckc_blame_steps.specs.ckc_blame_sound.specs.Settings.{Setting, IsFunction, setting_of, frame_of_text}
+use Rattle.ckc_build_forms.specs.ckc_blame_steps.specs.ckc_blame_sound.specs.Settings.{AreStrings, Setting, IsFunction, setting_of, frame_of_text}
 use Rattle.ckc_build_forms.specs.ckc_blame_steps.specs.ckc_blame_sound.proofs.Bodies.{bodies_are_typed, declared_known}
 use Rattle.ckc_build_forms.specs.ckc_blame_steps.specs.ckc_blame_sound.proofs.Literals.{text_strings}
-use Rattle.ckc_build_forms.specs.ckc_blame_steps.specs.ckc_blame_sound.proofs.Strings.{NumbersStrings}
+use Rattle.ckc_build_forms.specs.ckc_blame_steps.specs.ckc_blame_sound.proofs.Strings.{NumbersStrings, strings_after}
 use Rattle.ckc_build_forms.specs.ckc_blame_steps.specs.ckc_blame_walk.proofs.Frames.{function_frames_same}
 use Rattle.ckc_build_forms.specs.ckc_blame_steps.specs.ckc_blame_walk.proofs.Texts.{text_same}
 use Rattle.ckc_build_forms.specs.ckc_blame_steps.proofs.Accepted.{accepted_known}
@@ -47,28 +45,13 @@ use Rattle.ckc_build_forms.specs.ckc_blame_steps.proofs.Scoped.{texts_are_safe}
 use Rattle.ckc_build_forms.specs.ckc_blame_steps.proofs.Told.{local_named}
 use Rattle.ckc_build_forms.proofs.FunctionsSmall.{each_function, main_there}
 use Rattle.ckc_build_forms.proofs.Programs.{have_form}
-use Rattle.ckc_source_causes.specs.WellFormed.{HasParams, IsWellFormedCode, HasWellFormedBody, BeginsAsBytes, IsWellFormed}
+use Rattle.ckc_source_causes.specs.WellFormed.{HasParams, IsWellFormedCode, HasWellFormedBody, IsWellFormed}
+use Rattle.ckc_build_wellformed.proofs.Layouts.{layout_of}
+use Rattle.ckc_build_wellformed.proofs.Sizes.{laid_out_by}
 use Rattle.ckc_build_wellformed.proofs.Looping.{all_have_steps, there_is}
 use Rattle.ckc_build_wellformed.proofs.Names.{names_known}
 use Rattle.ckc_build_wellformed.proofs.Statements.{Before, judged_form}
 use Rattle.ckc_build_wellformed.proofs.Steps.{HaveParams}
-
--- ---- the first bytes of objects
-
-front_bytes : (xs ys : List ℕ) → AreBytes (xs ++ ys) → AreBytes xs
-front_bytes [] ys h = tt
-front_bytes (x ∷ xs) ys h = (h.0, front_bytes xs ys h.1)
-
-begin_as_bytes : (os : List Object) → HoldBytes (map block_of os) → All BeginsAsBytes os
-begin_as_bytes [] h = All-nil BeginsAsBytes
-begin_as_bytes (o ∷ os) h =
-    All-cons BeginsAsBytes o os (front_bytes o.initial (replicate (o.size * o.count - length o.initial) 0) h.0) (begin_as_bytes os h.1)
-
-lie_from : (first low place : ℕ) (os : List Object) → first ≤ low → AreApart low (map block_of os) place → All (λ (o : Object). first ≤ o.at) os
-lie_from first low place [] less h = All-nil (λ (o : Object). first ≤ o.at)
-lie_from first low place (o ∷ os) less h =
-    let here = h.0 in
-    All-cons (λ (o : Object). first ≤ o.at) o os (omega (arith, less, here)) (lie_from first (end_of (block_of o) + 1) place os (omega (arith, less, here)) h.1)
 
 -- ---- functions
 
@@ -104,7 +87,7 @@ module _ (p : Typed) (j : IsJudged p) (given : given_tree j.named.tree ≡ true)
       unfolding setting_of
       locals d c = local_named p j s f (variable_declared d) is_function (declared_known (globals_in p) j.typed h body b d c)
 
-      before : Before (globals_in p) s (elaborated p) (names_known p j small place sound s f is_function) callees b.before b.mode false
+      before : Before (globals_in p) s (elaborated p) (names_known p j given small place sound s f is_function) callees b.before b.mode false
       unfolding setting_of
       before = record { typed = b.fits; safe = safe j.typed h b.before j.has_bounds b.there; locals = locals; fine = texts_given p j given j.typed h b.before j.has_bounds b.there }
 
@@ -114,18 +97,21 @@ module _ (p : Typed) (j : IsJudged p) (given : given_tree j.named.tree ≡ true)
       inside : function_frame (frame_of_text p) h b.before ≡ function_frame (frame_of_text p) h body
       inside = sym (function_frames_same (frame_of_text p) h b.before body judged)
 
-      body_formed : IsWellFormedCode (elaborated p) f.body
+      literals : AreStrings s (k + literals_of_head h) (strings_of_stmt body)
+      literals = strings_after s (strings_of_head h) (strings_of_stmt body) k (literals_of_head h) (counted.head h) (strings s (text_strings j.typed p h body j.has_types.typed j.has_bounds))
+
+      body_formed : IsWellFormedCode (elaborated p) (layout_of p.layout) f.body
       unfolding setting_of
       body_formed =
-          judged_form (globals_in p) s (elaborated p) (names_known p j small place sound s f is_function) callees b.before body b.mode before (begin_of (frame_of_text p) h b.before) refl
+          judged_form (globals_in p) s (elaborated p) (names_known p j given small place sound s f is_function) callees b.before body b.mode before (begin_of (frame_of_text p) h b.before) refl
           (subst (λ (g : Frame). bind ((path b.before).judged g s.head (begin_of (frame_of_text p) h b.before)) (λ (q : NotedStmt × Here). Ok q.0) ≡ Ok body) inside judged)
-          (k + literals_of_head h)
+          (k + literals_of_head h) literals
 
-    function_formed : HasWellFormedBody (elaborated p) f
+    function_formed : HasWellFormedBody (elaborated p) (layout_of p.layout) f
     function_formed = body_formed (bodies_are_typed p j h body there)
 
-  pub bodies_formed : All (HasWellFormedBody (elaborated p)) (functions_elaborated p)
-  bodies_formed = each_function p (HasWellFormedBody (elaborated p)) function_formed
+  pub bodies_formed : All (HasWellFormedBody (elaborated p) (layout_of p.layout)) (functions_elaborated p)
+  bodies_formed = each_function p (HasWellFormedBody (elaborated p) (layout_of p.layout)) function_formed
 
 module _ (stays : (t : NamedText) (p : Typed) → TypedAs t p → Small t.tree → Small p.tree) where
   pub accepted_formed : (text : List ℕ) (p : Typed) → IsAccepted text p → IsWellFormed (elaborated p)
@@ -139,6 +125,7 @@ module _ (stays : (t : NamedText) (p : Typed) → TypedAs t p → Small t.tree �
         main = there_is 0 (slice_get (functions_elaborated p) (number_of (name.Function p.main) p.tree.items)) (main_there p j);
         bodies = bodies_formed p j k.1.given k.1.small (first_state (elaborated p) []).next sound safe;
         steps = all_have_steps (functions_elaborated p) (functions_elaborated p) (have_form p j k.1.given k.1.small (stays j.named j.typed j.has_types k.1.small) k.0.granted.words);
-        placed = lie_from first_place first_place (place_behind first_place (map block_of (elaborated p).objects)) (elaborated p).objects (le_refl first_place) k.1.laid_out.apart;
-        objects = begin_as_bytes (elaborated p).objects k.1.laid_out.bytes;
+        layout = layout_of p.layout;
+        types = laid_out_by p j k.1.given k.1.small sound.memory.placed;
+        objects = k.1.laid_out;
       }

@@ -1,6 +1,6 @@
 -- What operators, casts, calls and statements take: an integer or a pointer, or what has no place.
-use Rattle.std.proofs.Common.{◌≡◌, ◌⊎◌, ◌∙◌, inl, inr, refl, rules, sym, ap, ℕ, Bool, true, false, List, [], ◌∷◌}
-use Rattle.std.specs.Prelude.{◌&&◌, ◌||◌, not, if◌then◌else◌, Option, Some, None}
+use Rattle.std.proofs.Common.{◌≡◌, ◌⊎◌, ◌∙◌, inl, inr, refl, rules, sym, ap, Bool, true, false, List, [], ◌∷◌}
+use Rattle.std.specs.Prelude.{◌&&◌, ◌||◌, not, Some}
 use Rattle.std.proofs.lemmas.Bool.{and_parts}
 use Rattle.ckc_base.specs.declared.arithmetic.Mode.{Mode}
 use Rattle.ckc_types.specs.declared.types.Kind.{Kind}
@@ -16,16 +16,16 @@ use Rattle.ckc_typed.specs.declared.environment.Globals.{Globals}
 use Rattle.ckc_typed.specs.declared.environment.Parameter.{Parameter}
 use Rattle.ckc_typed.specs.declared.environment.Variable.{Variable}
 use Rattle.ckc_typed.specs.declared.typed.Note.{Note}
-use Rattle.ckc_typed.specs.Conversions.{is_null, is_null_form, is_string, is_string_form, is_allocation, is_allocation_form, is_terminated_kind, is_tested, kind_converts, kind_is_tested, kinds_allow, takes_string, takes_allocation, takes_pointer, pointer_takes, converts}
-use Rattle.ckc_typed.specs.Declarations.{is_checked_kind}
+use Rattle.ckc_typed.specs.Conversions.{is_null, is_null_form, is_string, is_allocation, is_terminated_kind, is_tested, kind_converts, kind_is_tested, kinds_allow, takes_pointer, pointer_takes, converts}
 use Rattle.ckc_typed.specs.Expressions.{number_type}
-use Rattle.ckc_typed.specs.Operands.{promoted, target_type, unary_type, member_in, dot_type, same_element, is_raw_kind}
+use Rattle.ckc_typed.specs.Operands.{promoted, unary_type, member_in, dot_type, same_element}
 use Rattle.ckc_typed.specs.Trees.{NotedExpr, NotedLayer}
 use Rattle.ckc_typed.specs.Types.{is_char, is_integer, is_integer_form, is_pointer, is_pointer_form, is_scalar, is_void, element_in, element_of, kind_of}
 use Rattle.ckc_typed_welltyped.specs.Expressions.{HasType, AreArguments}
 use Rattle.ckc_blame_pointers.proofs.Scalars.{integer_scalar, pointer_scalar, same_scalar, true_if}
-use Rattle.ckc_build_wellformed.proofs.Nodes.{is_plain, is_plain_form, is_there, is_there_form}
-use Rattle.ckc_build_wellformed.proofs.Parts.{different, unlike, int_out, unsigned_out, pointer_out}
+use Rattle.ckc_blame_pointers.proofs.Strings.{char_type}
+use Rattle.ckc_build_wellformed.proofs.Nodes.{IsPlainFor, is_plain, is_plain_form, is_there_form}
+use Rattle.ckc_build_wellformed.proofs.Parts.{different, int_out, unsigned_out, pointer_out}
 use Rattle.ckc_build_wellformed.proofs.Structures.{is_struct, is_struct_form}
 
 -- a node whose value is asked for: it has no place, or it is an integer or a pointer
@@ -68,6 +68,32 @@ plain_or_same allowed t e h = by (is_null e) (is_string e) (is_allocation e) h
     by false false true q = inl refl
     by false false false q = inr q
 
+module _ (allowed : Kind → Kind → Bool) (t : CType) (e : NotedExpr) where
+  abbrev For : Type 0
+  For = IsPlainFor (out-Node Name Note e.node) (element_of t) ⊎ (takes_pointer allowed t e ≡ true)
+
+  blank : (n a : Bool) → is_null e ≡ n → is_allocation e ≡ a → (n || a) ≡ true → For
+  blank n a is it q = inl (inl (ap (λ b. b || is_allocation e) is ∙ ap (λ b. n || b) it ∙ q))
+
+  rest : (a : Bool) → is_null e ≡ false → is_allocation e ≡ a → ((a && same_element t e.note.ctype) || takes_pointer allowed t e) ≡ true → For
+  rest true is it q = blank false true is it refl
+  rest false is it q = inr q
+
+  text : (b : Bool) (a : Bool) → is_null e ≡ false → is_string e ≡ true → (is_terminated_kind (kind_of t) && is_char (element_of t)) ≡ b → is_allocation e ≡ a
+      → (b || ((a && same_element t e.note.ctype) || takes_pointer allowed t e)) ≡ true → For
+  text true a is this both it q = inl (inr (this, char_type (element_of t) (and_parts (is_terminated_kind (kind_of t)) (is_char (element_of t)) both).1))
+  text false a is this both it q = rest a is it q
+
+  -- the same, by what the pointer points to
+  pub taken_for : pointer_takes allowed t e ≡ true → IsPlainFor (out-Node Name Note e.node) (element_of t) ⊎ (takes_pointer allowed t e ≡ true)
+  taken_for h = by (is_null e) refl (is_string e) refl (is_allocation e) refl h
+    where
+      by : (n : Bool) → is_null e ≡ n → (m : Bool) → is_string e ≡ m → (a : Bool) → is_allocation e ≡ a
+          → (n || ((m && (is_terminated_kind (kind_of t) && is_char (element_of t))) || ((a && same_element t e.note.ctype) || takes_pointer allowed t e))) ≡ true → For
+      by true is m this a it q = blank true a is it refl
+      by false is true this a it q = text (is_terminated_kind (kind_of t) && is_char (element_of t)) a is this refl it q
+      by false is false this a it q = rest a is it q
+
 pub taken : (allowed : Kind → Kind → Bool) (t : CType) (e : NotedExpr) → pointer_takes allowed t e ≡ true → IsValued e
 taken allowed t e h = elim (plain_or_same allowed t e h) [
   | inl p ↦ inl (plain_apart (out-Node Name Note e.node) p)
@@ -108,17 +134,17 @@ void_out : out-CType ctype.Void ≡ CType-F.Void
 void_out = search (rules, the_lemmas)
 
 -- what `->` reads through is a pointer
-pub arrow_scalar : (structs : Structs) (t r : CType) (n : Name) → dot_type structs (element_of t) n ≡ Some r → is_scalar t ≡ true
-arrow_scalar structs t r n h = by (out-CType t) h
+pub arrow_pointer : (structs : Structs) (t r : CType) (n : Name) → dot_type structs (element_of t) n ≡ Some r → is_pointer t ≡ true
+arrow_pointer structs t r n h = by (out-CType t) h
   where
     none : {X : Type 0} → member_in structs n (out-CType ctype.Void) ≡ Some r → X
     none e = absurd (let f : member_in structs n CType-F.Void ≡ Some r = sym (ap (λ x. member_in structs n x) void_out) ∙ e in cc)
 
-    by : (f : CType-F CType) → member_in structs n (out-CType (element_in f)) ≡ Some r → (is_integer_form f || is_pointer_form f) ≡ true
+    by : (f : CType-F CType) → member_in structs n (out-CType (element_in f)) ≡ Some r → is_pointer_form f ≡ true
     by (CType-F.Pointer k u) e = refl
-    by CType-F.Int e = refl
-    by CType-F.Unsigned e = refl
-    by CType-F.Char e = refl
+    by CType-F.Int e = none e
+    by CType-F.Unsigned e = none e
+    by CType-F.Char e = none e
     by CType-F.Void e = none e
     by (CType-F.Struct tag) e = none e
 

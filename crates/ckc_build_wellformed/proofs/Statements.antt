@@ -1,5 +1,5 @@
 -- What a statement of a judged text becomes is well formed, by induction over the statement before it is judged.
-use Rattle.std.proofs.Common.{◌≡◌, ◌⊎◌, inl, inr, refl, sym, ap, subst, ◌∙◌, arith, ℕ, ◌+◌, Bool, true, false, List, [], ◌∷◌, ◌++◌, map, length}
+use Rattle.std.proofs.Common.{◌≡◌, ◌⊎◌, inl, inr, refl, sym, ap, subst, ◌∙◌, arith, ℕ, ◌+◌, Bool, true, false, List, [], ◌∷◌, ◌++◌, append_assoc, map, length}
 use Rattle.std.specs.Prelude.{not, ◌&&◌, nat_le, if◌then◌else◌, Option, None, Some, Ok, Err, unwrap_or, IfSome}
 use Rattle.std.specs.List.{AllByRecursion, Contains}
 use Rattle.std.proofs.lemmas.List.Elements.{Contains-append_left, Contains-append_right}
@@ -19,10 +19,11 @@ use Rattle.ckc_typed.specs.declared.environment.Variable.{Variable}
 use Rattle.ckc_typed.specs.declared.typed.Note.{Note}
 use Rattle.ckc_typed.specs.declared.typed.Typed.{Typed}
 use Rattle.ckc_typed.specs.Expressions.{is_placed}
+use Rattle.ckc_typed.specs.Declarations.{is_plain}
 use Rattle.ckc_typed.specs.Statements.{is_named, is_result}
+use Rattle.ckc_typed.specs.Statics.{Strings, act_strings, strings_of_bounds, strings_of_expr, strings_of_init, strings_of_stmt, strings_of_value}
 use Rattle.ckc_syntax.specs.declared.tree.Node.{Node-F, out-Node}
 use Rattle.ckc_typed.specs.Trees.{NotedAct, NotedDecl, NotedExpr, NotedInit, NotedLayer, NotedStmt}
-use Rattle.ckc_typed.specs.Conversions.{converts}
 use Rattle.ckc_typed.specs.Types.{type_written, is_scalar}
 use Rattle.ckc_typed_welltyped.specs.Declarations.{StartsLocal, WellTypedInit}
 use Rattle.ckc_typed_welltyped.specs.Expressions.{IsNoted, WellTypedExpr}
@@ -35,25 +36,32 @@ use Rattle.ckc_build_forms.specs.ckc_blame_steps.specs.ckc_bounds_points.specs.F
 use Rattle.ckc_build_forms.specs.ckc_blame_steps.specs.ckc_bounds_statements.specs.Paths.{Here, is_good, expr_judged, value_judged, maybe_judged, bounds_judged, init_judged, starts_within, declared_here, decl_judged, stated, sides_judged, behind_stores, stores_judged, is_returned, gone, Branch, Start, branched, for_started, to_step, Path, ActPath, act_declared, all_judged, parts_judged, bundle_judged, part_judged, act_path, stmt_path, path_of_act, path, local_judged, call_judged, return_judged, check_judged, if_judged, while_judged, for_judged, loop_head}
 use Rattle.ckc_build_forms.specs.ckc_blame_steps.specs.ckc_bounds_views.specs.Views.{view}
 use Rattle.ckc_source.specs.Code.{Target, Right, Code, End, Program, chained}
-use Rattle.ckc_build_elaborate.specs.Literals.{literals_of_bounds}
+use Rattle.ckc_build_elaborate.specs.Literals.{literals_of_bounds, literals_of_value}
+use Rattle.ckc_build_elaborate.proofs.Counted as counted
+use Rattle.ckc_build_elaborate.proofs.Counted.{stmt}
 use Rattle.ckc_build_elaborate.specs.Steps.{spot, nowhere, destination_for, destination_of, is_terminated}
-use Rattle.ckc_build_elaborate.specs.Statements.{Part, act_code, part_of, one, alone, code_if, literals_if, all_code, all_assigns, turns, stmt_elaborated}
+use Rattle.ckc_build_elaborate.specs.Statements.{act_code, part_of, one, alone, code_if, literals_if, all_code, all_assigns, turns, stmt_elaborated}
 use Rattle.ckc_build_values.specs.Expressions.{literals_of}
+use Rattle.ckc_build_values.proofs.Counted.{expr_counted}
 use Rattle.ckc_build_forms.specs.ckc_blame_steps.specs.ckc_blame_sound.specs.Safe.{IsSafePart, IsSafe}
-use Rattle.ckc_build_forms.specs.ckc_blame_steps.specs.ckc_blame_sound.specs.Settings.{Setting}
+use Rattle.ckc_build_forms.specs.ckc_blame_steps.specs.ckc_blame_sound.specs.Settings.{AreStrings, Setting}
 use Rattle.ckc_build_forms.specs.ckc_blame_steps.specs.ckc_blame_sound.specs.Words.{exprs_in, exprs_of_act}
 use Rattle.ckc_build_forms.specs.ckc_blame_steps.specs.ckc_blame_sound.proofs.Every.{EachExpr, each_follows}
 use Rattle.ckc_build_forms.specs.ckc_blame_steps.specs.ckc_blame_sound.proofs.Given.{given_inside, given_are}
 use Rattle.ckc_build_forms.specs.ckc_blame_steps.specs.ckc_blame_sound.proofs.Judging.{Gives, bound}
+use Rattle.ckc_build_forms.specs.ckc_blame_steps.specs.ckc_blame_sound.proofs.Strings.{strings_in_front, strings_after, strings_inside, strings_rolled}
 use Rattle.ckc_build_forms.specs.ckc_blame_steps.specs.ckc_blame_sound.proofs.Words.{exprs_inside, exprs_are}
 use Rattle.ckc_build_forms.specs.ckc_blame_steps.specs.ckc_blame_walk.proofs.Layers.{act_paths, declared_are}
 use Rattle.ckc_build_forms.proofs.NodesOfStatements.{chained-append}
 use Rattle.ckc_build_forms.proofs.StatementParts.{act_inside, part_act, part_if, code_is, assigns_is, kept, if_kept, nothing, some_same, none_some, Layer, act_out, step_off, path_is, fine_parts}
+use Rattle.ckc_source_causes.specs.Layouts.{Layout}
 use Rattle.ckc_source_causes.specs.WellFormed.{AreWellFormedAssigns, IsWellFormedCode}
+use Rattle.ckc_build_wellformed.proofs.Layouts.{layout_of}
 use Rattle.ckc_build_wellformed.proofs.Known.{Knows}
 use Rattle.ckc_build_wellformed.proofs.Nodes.{is_there_form}
 use Rattle.ckc_build_wellformed.proofs.Scalars.{IsValued, converted}
-use Rattle.ckc_build_wellformed.proofs.Values.{IsPart, judged_made}
+use Rattle.ckc_build_wellformed.proofs.Claims.{IsPart}
+use Rattle.ckc_build_wellformed.proofs.Values.{judged_made}
 use Rattle.ckc_build_wellformed.proofs.Steps.{HaveParams, Fine, Left, value_formed, target_is, right_is, nowhere_arrives, place_arrives, local_arrives, InitFine, assigned_formed, started_formed, returned_formed, condition_formed}
 
 module _ (globals : Globals) (s : Setting) (g : Program) (knows : Knows globals s g) (callees : HaveParams globals s g) where
@@ -63,8 +71,30 @@ module _ (globals : Globals) (s : Setting) (g : Program) (knows : Knows globals 
   abbrev vs : List Variable
   vs = s.variables
 
+  abbrev L : Layout
+  L = layout_of s.text.layout
+
   abbrev C : Code → Type 0
-  C = IsWellFormedCode g
+  C = IsWellFormedCode g L
+
+  -- the static objects from a number on are those of string literals
+  abbrev S : ℕ → Strings → Type 0
+  S k ss = AreStrings s k ss
+
+  -- those of two parts
+  two : (xs ys : Strings) (k n : ℕ) → n ≡ length xs → S k (xs ++ ys) → S k xs × S (k + n) ys
+  two xs ys k n many str = (strings_in_front s xs ys k str, strings_after s xs ys k n many str)
+
+  abbrev strings_of_all : List NotedStmt → Strings
+  strings_of_all ss = inside_each listed (λ (x : Strings). x) (map strings_of_stmt ss)
+
+  abbrev strings_if : Option NotedStmt → Strings
+  strings_if None = []
+  strings_if (Some st) = strings_of_stmt st
+
+  if_counted : (o : Option NotedStmt) → literals_if (part_if o) ≡ length (strings_if o)
+  if_counted None = refl
+  if_counted (Some st) = stmt st
 
   abbrev Good : NotedExpr → Type 0
   Good = Fine globals s g knows callees
@@ -114,19 +144,19 @@ module _ (globals : Globals) (s : Setting) (g : Program) (knows : Knows globals 
   -- ---- what is made
 
   abbrev StmtForm : NotedStmt → Type 0
-  StmtForm st = (k : ℕ) (rest : Code) → C rest → C (chained (stmt_elaborated p vs s.result k st) rest)
+  StmtForm st = (k : ℕ) → S k (strings_of_stmt st) → (rest : Code) → C rest → C (chained (stmt_elaborated p vs s.result k st) rest)
 
   abbrev ListForm : List NotedStmt → Type 0
-  ListForm ss = (k : ℕ) (rest : Code) → C rest → C (chained (all_code (map part_of ss) p vs s.result k) rest)
+  ListForm ss = (k : ℕ) → S k (strings_of_all ss) → (rest : Code) → C rest → C (chained (all_code (map part_of ss) p vs s.result k) rest)
 
   abbrev PartForm : Option NotedStmt → Type 0
-  PartForm o = (k : ℕ) (rest : Code) → C rest → C (chained (code_if (part_if o) p vs s.result k) rest)
+  PartForm o = (k : ℕ) → S k (strings_if o) → (rest : Code) → C rest → C (chained (code_if (part_if o) p vs s.result k) rest)
 
   abbrev AssignForm : NotedStmt → Type 0
-  AssignForm st = (k : ℕ) → AreWellFormedAssigns g ((part_of st).assigns p vs k)
+  AssignForm st = (k : ℕ) → S k (strings_of_stmt st) → AreWellFormedAssigns g L ((part_of st).assigns p vs k)
 
   abbrev AssignsAll : List NotedStmt → Type 0
-  AssignsAll ss = (k : ℕ) → AreWellFormedAssigns g (all_assigns (map part_of ss) p vs k)
+  AssignsAll ss = (k : ℕ) → S k (strings_of_all ss) → AreWellFormedAssigns g L (all_assigns (map part_of ss) p vs k)
 
   record MadeBy {A : Type 0} (P : A → Type 0) (q : A × Here) : Type 0 where
     pub is : P q.0
@@ -164,10 +194,14 @@ module _ (globals : Globals) (s : Setting) (g : Program) (knows : Knows globals 
   firsts ks = map (λ (k : KeptStmt). k.0) ks
 
   abbrev ActForm : Layer → Pos → Note → Type 0
-  ActForm x at note = (k : ℕ) (rest : Code) → C rest → C (chained (act_code (part_act x) at note.mode p vs s.result k) rest)
+  ActForm x at note = (k : ℕ) → S k (act_strings (strings_inside x)) → (rest : Code) → C rest → C (chained (act_code (part_act x) at note.mode p vs s.result k) rest)
+
+  stated_strings : (at : Pos) (note : Note) (x : Layer) (a : NotedAct) → roll-Act Name Note x ≡ a → strings_of_stmt (stated at note a) ≡ act_strings (strings_inside x)
+  stated_strings at note x a rolls = ap (λ b. strings_of_stmt (stated at note b)) (sym rolls) ∙ strings_rolled at note x
 
   stated_form : (at : Pos) (note : Note) (x : Layer) (a : NotedAct) → roll-Act Name Note x ≡ a → ActForm x at note → StmtForm (stated at note a)
-  stated_form at note x a rolls h k rest behind = subst (λ (fs : List (Code → Code)). C (chained fs rest)) (sym (code_is p s at note x a k rolls)) (h k rest behind)
+  stated_form at note x a rolls h k str rest behind =
+      subst (λ (fs : List (Code → Code)). C (chained fs rest)) (sym (code_is p s at note x a k rolls)) (h k (subst (S k) (stated_strings at note x a rolls) str) rest behind)
 
   -- ---- expressions
 
@@ -247,13 +281,16 @@ module _ (globals : Globals) (s : Setting) (g : Program) (knows : Knows globals 
   assign_form st b =
       subst StmtForm (sym b.6)
       (stated_form b.4 b.5 (Act-F.Assign b.0 b.1) (act.Assign b.0 b.1) (act.rolls-Assign b.0 b.1)
-      (λ k rest behind. assigned_formed globals s g knows callees (spot b.4 b.5.mode) (destination_of p vs k b.0) (place_arrives globals s g knows callees b.0 b.2 k) (k + literals_of b.0) rest behind b.1 b.3))
+      (λ k str rest behind. (let both = two (strings_of_expr b.0) (strings_of_expr b.1) k (literals_of b.0) (expr_counted b.0) str in
+      assigned_formed globals s g knows callees (spot b.4 b.5.mode) (destination_of p vs k b.0) (place_arrives globals s g knows callees b.0 b.2 k both.0) (k + literals_of b.0) rest behind b.1 b.3 both.1)))
 
   assigns_form : (st : NotedStmt) → BothGood st → AssignForm st
   assigns_form st b =
       subst AssignForm (sym b.6)
-      (λ k. subst (λ xs. AreWellFormedAssigns g xs) (sym (assigns_is p s b.4 b.5 b.0 b.1 k))
-      (target_is globals s g knows callees b.0 b.2 k, right_is globals s g knows callees (is_terminated b.0.note.ctype) b.1 b.3 (k + literals_of b.0), tt))
+      (λ k str. (let inner = subst (S k) (stated_strings b.4 b.5 (Act-F.Assign b.0 b.1) (act.Assign b.0 b.1) (act.rolls-Assign b.0 b.1)) str in
+      let both = two (strings_of_expr b.0) (strings_of_expr b.1) k (literals_of b.0) (expr_counted b.0) inner in
+      subst (λ xs. AreWellFormedAssigns g L xs) (sym (assigns_is p s b.4 b.5 b.0 b.1 k))
+      (target_is globals s g knows callees b.0 b.2 k both.0, right_is globals s g knows callees (is_terminated b.0.note.ctype) b.1 b.3 (k + literals_of b.0) both.1, tt)))
 
   -- ---- lists of statements
 
@@ -277,27 +314,29 @@ module _ (globals : Globals) (s : Setting) (g : Program) (knows : Knows globals 
 
   all_give : (ks : List KeptStmt) (mode : Mode) (looped : Bool) → AllBefore ks mode looped → (here : Here) → here.counting ≡ false → Gives (MadeBy ListForm) (all_judged s.frame s.head (map path (firsts ks)) here)
   unfolding all_judged
-  all_give [] mode looped b here off = made (λ k rest behind. behind) off
+  all_give [] mode looped b here off = made (λ k str rest behind. behind) off
   all_give (k ∷ ks) mode looped b here off =
       bound (MadeBy StmtForm) (MadeBy ListForm) _ _ (k.1.whole mode looped (first_before k ks mode looped b) here off) (λ q h.
       bound (MadeBy ListForm) (MadeBy ListForm) _ _ (all_give ks mode looped (rest_before k ks mode looped b) q.1 h.off) (λ r i.
-      made (λ j rest behind.
+      made (λ j str rest behind.
       let here' = stmt_elaborated p vs s.result j q.0 in
       let later = all_code (map part_of r.0) p vs s.result (j + (part_of q.0).literals) in
-      subst C (sym (chained-append here' later rest)) (h.is j (chained later rest) (i.is (j + (part_of q.0).literals) rest behind))) i.off))
+      let both = two (strings_of_stmt q.0) (strings_of_all r.0) j (part_of q.0).literals (stmt q.0) str in
+      subst C (sym (chained-append here' later rest)) (h.is j both.0 (chained later rest) (i.is (j + (part_of q.0).literals) both.1 rest behind))) i.off))
 
-  appended : (xs ys : List (Target × Right)) → AreWellFormedAssigns g xs → AreWellFormedAssigns g ys → AreWellFormedAssigns g (xs ++ ys)
+  appended : (xs ys : List (Target × Right)) → AreWellFormedAssigns g L xs → AreWellFormedAssigns g L ys → AreWellFormedAssigns g L (xs ++ ys)
   appended [] ys f h = h
   appended (x ∷ xs) ys f h = (f.0, f.1, appended xs ys f.2 h)
 
   parts_give : (ks : List KeptStmt) (mode : Mode) (looped : Bool) → AllBefore ks mode looped → (bundle : Pos) (here : Here) → here.counting ≡ false
       → Gives (MadeBy AssignsAll) (parts_judged s.frame bundle (map path (firsts ks)) here)
   unfolding parts_judged
-  parts_give [] mode looped b bundle here off = made (λ k. tt) off
+  parts_give [] mode looped b bundle here off = made (λ k str. tt) off
   parts_give (k ∷ ks) mode looped b bundle here off =
       bound (MadeBy AssignForm) (MadeBy AssignsAll) _ _ (k.1.part mode looped (first_before k ks mode looped b) bundle here off) (λ q h.
       bound (MadeBy AssignsAll) (MadeBy AssignsAll) _ _ (parts_give ks mode looped (rest_before k ks mode looped b) bundle q.1 h.off) (λ r i.
-      made (λ j. appended ((part_of q.0).assigns p vs j) (all_assigns (map part_of r.0) p vs (j + (part_of q.0).literals)) (h.is j) (i.is (j + (part_of q.0).literals))) i.off))
+      made (λ j str. (let both = two (strings_of_stmt q.0) (strings_of_all r.0) j (part_of q.0).literals (stmt q.0) str in
+      appended ((part_of q.0).assigns p vs j) (all_assigns (map part_of r.0) p vs (j + (part_of q.0).literals)) (h.is j both.0) (i.is (j + (part_of q.0).literals) both.1))) i.off))
 
   -- ---- parts that may be left out
 
@@ -315,27 +354,38 @@ module _ (globals : Globals) (s : Setting) (g : Program) (knows : Knows globals 
   start_gives mode left continued e typed safe here off = bound (MadeBy GoodIf) (MadeBy StartGood) _ _ (maybe_gives mode e (condition_typed mode e typed) (condition_valued mode e typed) safe here off) (λ q h. made h.is h.off)
 
   if_form : (at : Pos) (note : Note) (e : NotedExpr) (q : NotedStmt) (o : Option NotedStmt) → Good e → StmtForm q → PartForm o → ActForm (Act-F.If e q o) at note
-  if_form at note e q None h i j k rest behind = (value_formed globals s g knows callees e h k, i _ End tt, tt, behind)
-  if_form at note e q (Some t) h i j k rest behind = (value_formed globals s g knows callees e h k, i _ End tt, j _ End tt, behind)
+  if_form at note e q None h i j k str rest behind =
+      let first = strings_in_front s (strings_of_expr e ++ strings_of_stmt q) [] k str in
+      let both = two (strings_of_expr e) (strings_of_stmt q) k (literals_of e) (expr_counted e) first in
+      (value_formed globals s g knows callees e h k both.0, i _ both.1 End tt, tt, behind)
+  if_form at note e q (Some t) h i j k str rest behind =
+      let first = strings_in_front s (strings_of_expr e ++ strings_of_stmt q) (strings_of_stmt t) k str in
+      let both = two (strings_of_expr e) (strings_of_stmt q) k (literals_of e) (expr_counted e) first in
+      let last = strings_after s (strings_of_expr e) (strings_of_stmt q ++ strings_of_stmt t) k (literals_of e) (expr_counted e) (subst (S k) (append_assoc (strings_of_expr e) (strings_of_stmt q) (strings_of_stmt t)) str) in
+      (value_formed globals s g knows callees e h k both.0, i _ both.1 End tt, j _ (strings_after s (strings_of_stmt q) (strings_of_stmt t) (k + literals_of e) (part_of q).literals (stmt q) last) End tt, behind)
 
   for_form : (at : Pos) (note : Note) (o : Option NotedStmt) (e : Option NotedExpr) (t : Option NotedStmt) (u : NotedStmt) → PartForm o → ((f : NotedExpr) → e ≡ Some f → Good f)
       → PartForm t → StmtForm u → ActForm (Act-F.For o e t u) at note
-  for_form at note o e t u h f i j k rest behind = by o t h i
+  for_form at note o e t u h f i j k str rest behind = by o t h i str
     where
-      module_by : (first step : Option Part) → ((k : ℕ) (rest : Code) → C rest → C (chained (code_if first p vs s.result k) rest))
-          → ((k : ℕ) (rest : Code) → C rest → C (chained (code_if step p vs s.result k) rest))
-          → C (chained (code_if first p vs s.result k ++ one (turns p vs s.result (spot at note.mode) (k + literals_if first) e step (part_of u))) rest)
-      module_by first step a b =
-          let l = k + literals_if first in
-          let loop = turns p vs s.result (spot at note.mode) l e step (part_of u) in
-          subst C (sym (chained-append (code_if first p vs s.result k) (one loop) rest))
-          (a k (loop rest) (condition_formed globals s g knows callees e f l, j _ End tt, b _ End tt, behind))
+      module_by : (first step : Option NotedStmt) → PartForm first → PartForm step → S k (((strings_if first ++ strings_of_value e) ++ strings_if step) ++ strings_of_stmt u)
+          → C (chained (code_if (part_if first) p vs s.result k ++ one (turns p vs s.result (spot at note.mode) (k + literals_if (part_if first)) e (part_if step) (part_of u))) rest)
+      module_by first step a b parts =
+          let l = k + literals_if (part_if first) in
+          let loop = turns p vs s.result (spot at note.mode) l e (part_if step) (part_of u) in
+          let x = two (strings_if first) (strings_of_value e ++ (strings_if step ++ strings_of_stmt u)) k (literals_if (part_if first)) (if_counted first)
+          (subst (S k) (append_assoc (strings_if first ++ strings_of_value e) (strings_if step) (strings_of_stmt u) ∙ append_assoc (strings_if first) (strings_of_value e) (strings_if step ++ strings_of_stmt u)) parts) in
+          let y = two (strings_of_value e) (strings_if step ++ strings_of_stmt u) l (literals_of_value e) (counted.value e) x.1 in
+          let z = two (strings_if step) (strings_of_stmt u) (l + literals_of_value e) (literals_if (part_if step)) (if_counted step) y.1 in
+          subst C (sym (chained-append (code_if (part_if first) p vs s.result k) (one loop) rest))
+          (a k x.0 (loop rest) (condition_formed globals s g knows callees e f l y.0, j _ z.1 End tt, b _ z.0 End tt, behind))
 
-      by : (o t : Option NotedStmt) → PartForm o → PartForm t → C (chained (act_code (part_act (Act-F.For o e t u)) at note.mode p vs s.result k) rest)
-      by None None a b = module_by None None a b
-      by None (Some t) a b = module_by None (Some (part_of t)) a b
-      by (Some o) None a b = module_by (Some (part_of o)) None a b
-      by (Some o) (Some t) a b = module_by (Some (part_of o)) (Some (part_of t)) a b
+      by : (o t : Option NotedStmt) → PartForm o → PartForm t → S k (act_strings (strings_inside (Act-F.For o e t u)))
+          → C (chained (act_code (part_act (Act-F.For o e t u)) at note.mode p vs s.result k) rest)
+      by None None a b parts = module_by None None a b parts
+      by None (Some t) a b parts = module_by None (Some t) a b parts
+      by (Some o) None a b parts = module_by (Some o) None a b parts
+      by (Some o) (Some t) a b parts = module_by (Some o) (Some t) a b parts
 
   -- ---- bundles
 
@@ -343,7 +393,7 @@ module _ (globals : Globals) (s : Setting) (g : Program) (knows : Knows globals 
   stores_off ss first here off = bound (λ (at : State). Unit {0}) (λ (h : Here). h.counting ≡ false) _ _ (nothing (stores_judged s.frame s.head ss first here)) (λ at h. off)
 
   bundle_form : (at : Pos) (note : Note) (ss : List NotedStmt) → AssignsAll ss → ActForm (Act-F.Bundle ss) at note
-  bundle_form at note ss a k rest behind = (a k, behind)
+  bundle_form at note ss a k str rest behind = (a k str, behind)
 
   bundle_gives : (ks : List KeptStmt) (mode : Mode) (looped : Bool) → AllBefore ks mode looped → (at : Pos) (note : Note) (here : Here) → here.counting ≡ false
       → Gives (MadeBy StmtForm) (bundle_judged s.frame s.head at note (map path (firsts ks)) here)
@@ -360,7 +410,7 @@ module _ (globals : Globals) (s : Setting) (g : Program) (knows : Knows globals 
   InitGood = InitFine globals s g knows callees
 
   abbrev DeclGood : NotedDecl → Type 0
-  DeclGood d = ((m : ℕ) × (d.name ≡ name.Local m)) × InitGood d.init
+  DeclGood d = ((m : ℕ) × (d.name ≡ name.Local m)) × InitGood d.init × (is_plain d.length ≡ true)
 
   init_gives : (mode : Mode) (t : CType) (i : NotedInit) → WellTypedInit globals vs mode i → StartsLocal t i → AreSafe (inside_init listed (λ (e : NotedExpr). e ∷ []) i) → (here : Here) → here.counting ≡ false
       → Gives (MadeBy InitGood) (init_judged s.frame i here)
@@ -370,16 +420,18 @@ module _ (globals : Globals) (s : Setting) (g : Program) (knows : Knows globals 
   init_gives mode t (init.Many es) typed starts safe here off = absurd starts
 
   decl_form : (at : Pos) (note : Note) (d : NotedDecl) → DeclGood d → ActForm (Act-F.Local d) at note
-  decl_form at note d good k rest behind =
+  decl_form at note d good k str rest behind =
+      let both = two (strings_of_bounds d.bounds) (strings_of_init (is_plain d.length) d.init) k (literals_of_bounds d.bounds) (counted.bounds d.bounds) str in
+      let first = subst (λ b. S (k + literals_of_bounds d.bounds) (strings_of_init b d.init)) good.2 both.1 in
       started_formed globals s g knows callees (spot at note.mode) (destination_for p (type_written d.ctype) d.name)
-      (local_arrives globals s g knows callees (type_written d.ctype) d.name good.0) (k + literals_of_bounds d.bounds) rest behind d.init good.1
+      (local_arrives globals s g knows callees (type_written d.ctype) d.name good.0) (k + literals_of_bounds d.bounds) rest behind d.init good.1 first
 
   decl_gives : (d : NotedDecl) (mode : Mode) (looped : Bool) → BeforeAct (Act-F.Local d) mode looped → (here : Here) → here.counting ≡ false → Gives (MadeBy DeclGood) (decl_judged s.frame d here)
   decl_gives d mode looped b here off =
       bound (λ x. Unit {0}) (MadeBy DeclGood) (bounds_judged s.frame d here) _ (nothing (bounds_judged s.frame d here)) (λ x y.
       bound (MadeBy InitGood) (MadeBy DeclGood) (init_judged s.frame d.init here) _ (init_gives mode (type_written d.ctype) d.init b.typed.parts.init b.typed.starts b.safe here off) (λ q h.
       kept (MadeBy DeclGood) (not (starts_within s.frame d.name q.0 here.next q.1)) not_contained d.pos (Ok (record d { init = q.0 }, declared_here s.frame d q.0 q.1))
-      (made (b.locals d (0, omega arith, refl), h.is) h.off)))
+      (made (b.locals d (0, omega arith, refl), h.is, b.typed.plain) h.off)))
 
   local_gives : (d : NotedDecl) (mode : Mode) (looped : Bool) → BeforeAct (Act-F.Local d) mode looped → (at : Pos) (note : Note) (here : Here) → here.counting ≡ false
       → Gives (MadeBy StmtForm) (local_judged s.frame at note d here)
@@ -390,7 +442,7 @@ module _ (globals : Globals) (s : Setting) (g : Program) (knows : Knows globals 
   -- ---- calls, values that are returned, and conditions that are checked
 
   call_form : (at : Pos) (note : Note) (e : NotedExpr) → Good e → ActForm (Act-F.Call e) at note
-  call_form at note e h k rest behind = assigned_formed globals s g knows callees (spot e.pos note.mode) nowhere (nowhere_arrives globals s g knows callees) k rest behind e h
+  call_form at note e h k str rest behind = assigned_formed globals s g knows callees (spot e.pos note.mode) nowhere (nowhere_arrives globals s g knows callees) k rest behind e h str
 
   call_gives : (e : NotedExpr) (mode : Mode) (looped : Bool) → BeforeAct (Act-F.Call e) mode looped → (at : Pos) (note : Note) (here : Here) → here.counting ≡ false
       → Gives (MadeBy StmtForm) (call_judged s.frame at note e here)
@@ -403,7 +455,8 @@ module _ (globals : Globals) (s : Setting) (g : Program) (knows : Knows globals 
   returned_valued (Some e) h = converted s.result e h
 
   return_form : (at : Pos) (note : Note) (e : Option NotedExpr) → ((f : NotedExpr) → e ≡ Some f → Good f) → ActForm (Act-F.Return e) at note
-  return_form at note e h k rest behind = (returned_formed globals s g knows callees s.result e h k, behind)
+  return_form at note None h k str rest behind = (returned_formed globals s g knows callees s.result None h k str, behind)
+  return_form at note (Some e) h k str rest behind = (returned_formed globals s g knows callees s.result (Some e) h k str, behind)
 
   return_gives : (e : Option NotedExpr) (mode : Mode) (looped : Bool) → BeforeAct (Act-F.Return e) mode looped → (at : Pos) (note : Note) (here : Here) → here.counting ≡ false
       → Gives (MadeBy StmtForm) (return_judged s.frame s.head at note e here)
@@ -413,7 +466,7 @@ module _ (globals : Globals) (s : Setting) (g : Program) (knows : Knows globals 
       (made (stated_form at note (Act-F.Return q.0) (act.Return q.0) (act.rolls-Return q.0) (return_form at note q.0 h.is)) h.off))
 
   check_form : (at : Pos) (note : Note) (e : NotedExpr) → Good e → ActForm (Act-F.Check e) at note
-  check_form at note e h k rest behind = (value_formed globals s g knows callees e h k, behind)
+  check_form at note e h k str rest behind = (value_formed globals s g knows callees e h k str, behind)
 
   check_gives : (e : NotedExpr) (mode : Mode) (looped : Bool) → BeforeAct (Act-F.Check e) mode looped → (at : Pos) (note : Note) (here : Here) → here.counting ≡ false
       → Gives (MadeBy StmtForm) (check_judged s.frame at note e here)
@@ -457,7 +510,7 @@ module _ (globals : Globals) (s : Setting) (g : Program) (knows : Knows globals 
 
   part_gives : (o : Option KeptStmt) (mode : Mode) (looped : Bool) → FitsIf o mode looped → AreSafe (exprs_if o) → AreLocals (declared_if o) → fine_if o ≡ true → (here : Here) → here.counting ≡ false
       → Gives (MadeBy PartForm) (part_judged s.frame s.head (path_if o) here)
-  part_gives None mode looped typed safe locals fine here off = made (λ k rest behind. behind) off
+  part_gives None mode looped typed safe locals fine here off = made (λ k str rest behind. behind) off
   part_gives (Some k) mode looped typed safe locals fine here off =
       bound (MadeBy StmtForm) (MadeBy PartForm) _ _ (k.1.whole mode looped (record { typed = typed; safe = safe; locals = locals; fine = fine }) here off) (λ q h. made h.is h.off)
 
@@ -477,7 +530,9 @@ module _ (globals : Globals) (s : Setting) (g : Program) (knows : Knows globals 
       made (stated_form at note (Act-F.If q.0.condition r.0 v.0) (act.If q.0.condition r.0 v.0) (act.rolls-If q.0.condition r.0 v.0) (if_form at note q.0.condition r.0 v.0 h.is i.is j.is)) j.off)))
 
   while_form : (at : Pos) (note : Note) (e : NotedExpr) (q : NotedStmt) → Good e → StmtForm q → ActForm (Act-F.While e q) at note
-  while_form at note e q h i k rest behind = (value_formed globals s g knows callees e h k, i _ End tt, tt, behind)
+  while_form at note e q h i k str rest behind =
+      let both = two (strings_of_expr e) (strings_of_stmt q) k (literals_of e) (expr_counted e) str in
+      (value_formed globals s g knows callees e h k both.0, i _ both.1 End tt, tt, behind)
 
   while_gives : (e : NotedExpr) (k : KeptStmt) (mode : Mode) → IsCondition globals vs mode e × Fits k.0 mode true → AreSafe ((e ∷ []) ++ exprs_in k.0) → AreLocals (path k.0).declared
       → (callless_expr e && (given_stmt k.0).fine) ≡ true → (at : Pos) (note : Note) (here : Here) → here.counting ≡ false → Gives (MadeBy StmtForm) (while_judged s.frame s.head at note e (path k.0) here)
@@ -519,14 +574,14 @@ module _ (globals : Globals) (s : Setting) (g : Program) (knows : Knows globals 
   -- ---- what a statement does
 
   block_form : (at : Pos) (note : Note) (m : Option Mode) (ss : List NotedStmt) → ListForm ss → ActForm (Act-F.Block m ss) at note
-  block_form at note m ss h k rest behind = h k rest behind
+  block_form at note m ss h k str rest behind = h k str rest behind
 
   act_step : (y : Act-F Name Note KeptAct KeptStmt) (mode : Mode) (looped : Bool) → BeforeAct (inner_act y) mode looped → (at : Pos) (note : Note) (here : Here) → here.counting ≡ false
       → Gives (MadeBy StmtForm) ((act_path (act_inside (inner_act y))).judged s.frame s.head at note here)
   act_step (Act-F.Block m ks) mode looped b at note here off =
       bound (MadeBy ListForm) (MadeBy StmtForm) _ _ (all_give ks (unwrap_or m mode) looped (record { typed = b.typed; safe = b.safe; locals = b.locals; fine = b.fine }) here off) (λ q h.
       made (stated_form at note (Act-F.Block m q.0) (act.Block m q.0) (act.rolls-Block m q.0) (block_form at note m q.0 h.is)) h.off)
-  act_step Act-F.Empty mode looped b at note here off = made (stated_form at note Act-F.Empty act.Empty act.rolls-Empty (λ k rest behind. behind)) off
+  act_step Act-F.Empty mode looped b at note here off = made (stated_form at note Act-F.Empty act.Empty act.rolls-Empty (λ k str rest behind. behind)) off
   act_step (Act-F.Local d) mode looped b at note here off = local_gives d mode looped b at note here off
   act_step (Act-F.Assign e f) mode looped b at note here off =
       bound (MadeBy BothGood) (MadeBy StmtForm) _ _ (sides_give e f mode looped b at note here off) (λ q h.
@@ -540,8 +595,8 @@ module _ (globals : Globals) (s : Setting) (g : Program) (knows : Knows globals 
   act_step (Act-F.For (Some l) e None k) mode looped b at note here off = for_gives (Some l) e None k mode looped b.typed b.safe b.locals b.fine at note here off
   act_step (Act-F.For (Some l) e (Some j) k) mode looped b at note here off = for_gives (Some l) e (Some j) k mode looped b.typed b.safe b.locals b.fine at note here off
   act_step (Act-F.Return e) mode looped b at note here off = return_gives e mode looped b at note here off
-  act_step Act-F.Break mode looped b at note here off = made (stated_form at note Act-F.Break act.Break act.rolls-Break (λ k rest behind. behind)) off
-  act_step Act-F.Continue mode looped b at note here off = made (stated_form at note Act-F.Continue act.Continue act.rolls-Continue (λ k rest behind. behind)) off
+  act_step Act-F.Break mode looped b at note here off = made (stated_form at note Act-F.Break act.Break act.rolls-Break (λ k str rest behind. behind)) off
+  act_step Act-F.Continue mode looped b at note here off = made (stated_form at note Act-F.Continue act.Continue act.rolls-Continue (λ k str rest behind. behind)) off
   act_step (Act-F.Check e) mode looped b at note here off = check_gives e mode looped b at note here off
   act_step (Act-F.Bundle ks) mode looped b at note here off = bundle_gives ks mode looped
       (record { typed = b.typed; safe = b.safe; locals = b.locals; fine = fine_parts (map given_stmt (firsts ks)) (and_cases (nat_le 2 (length (map given_stmt (firsts ks)))) _ b.fine).1 }) at note here off
@@ -587,8 +642,8 @@ module _ (globals : Globals) (s : Setting) (g : Program) (knows : Knows globals 
 
   -- what a body becomes that has been judged is well formed
   pub judged_form : (st after : NotedStmt) (mode : Mode) → Before st mode false → (here : Here) → here.counting ≡ false
-      → bind ((path st).judged s.frame s.head here) (λ (q : NotedStmt × Here). Ok q.0) ≡ Ok after → (k : ℕ) → C (alone (stmt_elaborated p vs s.result k after))
-  judged_form st after mode b here off is k =
+      → bind ((path st).judged s.frame s.head here) (λ (q : NotedStmt × Here). Ok q.0) ≡ Ok after → (k : ℕ) → S k (strings_of_stmt after) → C (alone (stmt_elaborated p vs s.result k after))
+  judged_form st after mode b here off is k str =
       let form' = bound (MadeBy StmtForm) StmtForm ((path st).judged s.frame s.head here) (λ (q : NotedStmt × Here). Ok q.0) ((statement_form st).whole mode false b here off) (λ q h. h.is) in
       let form : StmtForm after = subst (Gives StmtForm) is form' in
-      form k End tt
+      form k str End tt

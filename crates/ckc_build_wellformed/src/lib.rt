@@ -9,6 +9,7 @@ pub use ckc_build_forms::{
     programs_are_small, stores_are_to_blame,
 };
 pub use ckc_source_causes::{
-    expressions_are_stuck_for_a_cause, ranges_are_given, runs_are_stuck_for_a_cause,
+    checked_accesses_lie, expressions_are_stuck_for_a_cause, ranges_are_given,
+    runs_are_stuck_for_a_cause,
 };
 pub use laws::accepted_texts_are_well_formed;
