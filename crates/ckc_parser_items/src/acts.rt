@@ -17,13 +17,14 @@ use ckc_syntax::Length;
 use std::alloc::{AllocError, Global};
 
 /// An action on declarations.
+#[inline(always)]
 pub fn act_declaration<'a>(alloc: Global, held: &mut Held<'a>, number: u8) -> Result<(), AllocError>
     ensures { OnOk result (held.new ≡ acted (action_of number) held.old) }
 {
     match number {
         60 => no_init(held),
         61 => one_init(held),
-        62 => many_init(alloc, held),
+        62 => many_init(held),
         63 => put_length(held, Length::Plain),
         64 => raw_array(held),
         65 => checked_array(held),
@@ -37,12 +38,13 @@ pub fn act_declaration<'a>(alloc: Global, held: &mut Held<'a>, number: u8) -> Re
         73 => declare_all(alloc, held),
         74 => new_decls(alloc, held),
         75 => add_decl(held),
-        76 => add_decls(alloc, held),
+        76 => add_decls(held),
         _ => Err(AllocError),
     }
 }
 
 /// An action on statements.
+#[inline(always)]
 pub fn act_statement<'a>(alloc: Global, held: &mut Held<'a>, number: u8) -> Result<(), AllocError>
     ensures { OnOk result (held.new ≡ acted (action_of number) held.old) }
 {
@@ -74,6 +76,7 @@ pub fn act_statement<'a>(alloc: Global, held: &mut Held<'a>, number: u8) -> Resu
 }
 
 /// An action on items.
+#[inline(always)]
 pub fn act_text<'a>(alloc: Global, held: &mut Held<'a>, number: u8) -> Result<(), AllocError>
     ensures { OnOk result (held.new ≡ acted (action_of number) held.old) }
 {
@@ -84,12 +87,13 @@ pub fn act_text<'a>(alloc: Global, held: &mut Held<'a>, number: u8) -> Result<()
         102 => voided(alloc, held),
         103 => items_of_base(alloc, held),
         104 => structure(alloc, held),
-        105 => add_items(alloc, held),
+        105 => add_items(held),
         _ => Err(AllocError),
     }
 }
 
 /// The action of a number.
+#[inline(always)]
 pub fn act<'a>(alloc: Global, held: &mut Held<'a>, number: u8) -> Result<(), AllocError>
     ensures { OnOk result (held.new ≡ acted (action_of number) held.old) }
 {

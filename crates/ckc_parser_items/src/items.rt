@@ -6,13 +6,12 @@ use crate::declarations::{add_slot, declare_all, make_slot};
 use ckc_base::{Boxed, Mode};
 use ckc_parser_grammar::{CType, directive_of, head_of};
 use ckc_parser_terms::structure_type;
-use ckc_parser_values::{
-    Form, Held, Stack, function_of, joined, mode_of, starred, statics, turned,
-};
+use ckc_parser_values::{Form, Held, Stack, function_of, mode_of, starred, statics};
 use ckc_syntax::{Item, Spelling, TypeTree};
 use std::alloc::{AllocError, Global};
 
 /// No items.
+#[inline(never)]
 pub fn new_items<'a>(alloc: Global, held: &mut Held<'a>) -> Result<(), AllocError>
     ensures { OnOk result (held.new ≡ a.new_items held.old) }
 {
@@ -20,16 +19,20 @@ pub fn new_items<'a>(alloc: Global, held: &mut Held<'a>) -> Result<(), AllocErro
 }
 
 /// A directive in front.
+#[inline(never)]
 pub fn directive<'a>(held: &mut Held<'a>) -> Result<(), AllocError>
     ensures { OnOk result (held.new ≡ a.directive held.old) }
 {
-    let token = held.tokens.take()?;
-    let mut list = held.items.take()?;
-    list.push(Item::Directive(directive_of(token.kind)))?;
-    held.items.push(list)
+    if held.tokens.is_empty() {
+        return Err(AllocError);
+    }
+    let token = held.tokens.take_top();
+    held.items
+        .push_in(Item::Directive(directive_of(token.kind)))
 }
 
 /// A list of one item.
+#[inline(never)]
 pub fn put_item<'a>(
     alloc: Global,
     held: &mut Held<'a>,
@@ -43,6 +46,7 @@ pub fn put_item<'a>(
 }
 
 /// A function or prototype.
+#[inline(never)]
 pub fn headed<'a>(
     alloc: Global,
     held: &mut Held<'a>,
@@ -51,25 +55,36 @@ pub fn headed<'a>(
 ) -> Result<(), AllocError>
     ensures { OnOk result (held.new ≡ a.headed mode ctype.entry held.old) }
 {
-    let token = held.tokens.take()?;
-    let params = held.decl_lists.take()?;
-    let params = turned(alloc, params)?;
-    let bounds = held.bounds.take()?;
+    if held.tokens.is_empty()
+        || held.decl_lists.is_empty()
+        || held.bounds.is_empty()
+        || held.parts.is_empty()
+    {
+        return Err(AllocError);
+    }
+    let token = held.tokens.take_top();
+    let params = held.decl_lists.take_top().into_seq();
+    let bounds = held.bounds.take_top();
     let head = head_of(alloc, mode, ctype, token, params, bounds)?;
-    let body = held.parts.take()?;
+    let body = held.parts.take_top();
     put_item(alloc, held, function_of(head, body))
 }
 
 /// A function with a mode.
+#[inline(never)]
 pub fn moded<'a>(alloc: Global, held: &mut Held<'a>) -> Result<(), AllocError>
     ensures { OnOk result (held.new ≡ a.moded held.old) }
 {
-    let mode = mode_of(held.forms.take()?);
-    let ctype = held.types.take()?;
+    if held.forms.is_empty() || held.types.is_empty() {
+        return Err(AllocError);
+    }
+    let mode = mode_of(held.forms.take_top());
+    let ctype = held.types.take_top();
     headed(alloc, held, Some(mode), ctype)
 }
 
 /// A function without a result.
+#[inline(never)]
 pub fn voided<'a>(alloc: Global, held: &mut Held<'a>) -> Result<(), AllocError>
     ensures { OnOk result (held.new ≡ a.voided held.old) }
 {
@@ -78,25 +93,34 @@ pub fn voided<'a>(alloc: Global, held: &mut Held<'a>) -> Result<(), AllocError>
 }
 
 /// Declarations as items.
+#[inline(never)]
 pub fn list_statics<'a>(alloc: Global, held: &mut Held<'a>) -> Result<(), AllocError>
     ensures { OnOk result (held.new ≡ a.list_statics held.old) }
 {
-    let decls = held.decl_lists.take()?;
+    if held.decl_lists.is_empty() {
+        return Err(AllocError);
+    }
+    let decls = held.decl_lists.take_top();
     let whole = statics(alloc, decls)?;
     held.items.push(whole)
 }
 
 /// A function or prototype after its base.
+#[inline(never)]
 pub fn declared_function<'a>(alloc: Global, held: &mut Held<'a>) -> Result<(), AllocError>
     ensures { OnOk result (held.new ≡ a.declared_by form.First held.old) }
 {
-    let base = held.types.take()?;
-    let stars = held.stars.take()?;
+    if held.types.is_empty() || held.stars.is_empty() {
+        return Err(AllocError);
+    }
+    let base = held.types.take_top();
+    let stars = held.stars.take_top();
     let ctype = starred(alloc, base, stars)?;
     headed(alloc, held, None, ctype)
 }
 
 /// Objects after their base.
+#[inline(never)]
 pub fn declared_objects<'a>(alloc: Global, held: &mut Held<'a>) -> Result<(), AllocError>
     ensures { OnOk result (held.new ≡ a.declared_by form.Second held.old) }
 {
@@ -107,10 +131,14 @@ pub fn declared_objects<'a>(alloc: Global, held: &mut Held<'a>) -> Result<(), Al
 }
 
 /// What is declared after a base.
+#[inline(never)]
 pub fn items_of_base<'a>(alloc: Global, held: &mut Held<'a>) -> Result<(), AllocError>
     ensures { OnOk result (held.new ≡ a.items_of_base held.old) }
 {
-    match held.forms.take()? {
+    if held.forms.is_empty() {
+        return Err(AllocError);
+    }
+    match held.forms.take_top() {
         Form::First => declared_function(alloc, held),
         Form::Second => declared_objects(alloc, held),
         Form::Third => Err(AllocError),
@@ -118,20 +146,27 @@ pub fn items_of_base<'a>(alloc: Global, held: &mut Held<'a>) -> Result<(), Alloc
 }
 
 /// A tag line.
+#[inline(never)]
 pub fn tag_item<'a>(alloc: Global, held: &mut Held<'a>) -> Result<(), AllocError>
     ensures { OnOk result (held.new ≡ a.tag_item held.old) }
 {
-    let token = held.tokens.take()?;
+    if held.tokens.is_empty() {
+        return Err(AllocError);
+    }
+    let token = held.tokens.take_top();
     put_item(alloc, held, Item::Tag(Spelling::new(token.text), token.pos))
 }
 
 /// A structure.
+#[inline(never)]
 pub fn struct_item<'a>(alloc: Global, held: &mut Held<'a>) -> Result<(), AllocError>
     ensures { OnOk result (held.new ≡ a.struct_item held.old) }
 {
-    let token = held.tokens.take()?;
-    let members = held.decl_lists.take()?;
-    let members = turned(alloc, members)?;
+    if held.tokens.is_empty() || held.decl_lists.is_empty() {
+        return Err(AllocError);
+    }
+    let token = held.tokens.take_top();
+    let members = held.decl_lists.take_top().into_seq();
     put_item(
         alloc,
         held,
@@ -140,6 +175,7 @@ pub fn struct_item<'a>(alloc: Global, held: &mut Held<'a>) -> Result<(), AllocEr
 }
 
 /// What is declared with a structure as its base.
+#[inline(never)]
 pub fn struct_based<'a>(alloc: Global, held: &mut Held<'a>) -> Result<(), AllocError>
     ensures { OnOk result (held.new ≡ a.structure_by form.Third held.old) }
 {
@@ -148,10 +184,14 @@ pub fn struct_based<'a>(alloc: Global, held: &mut Held<'a>) -> Result<(), AllocE
 }
 
 /// What stands behind `struct` and a name.
+#[inline(never)]
 pub fn structure<'a>(alloc: Global, held: &mut Held<'a>) -> Result<(), AllocError>
     ensures { OnOk result (held.new ≡ a.structure held.old) }
 {
-    match held.forms.take()? {
+    if held.forms.is_empty() {
+        return Err(AllocError);
+    }
+    match held.forms.take_top() {
         Form::First => tag_item(alloc, held),
         Form::Second => struct_item(alloc, held),
         Form::Third => struct_based(alloc, held),
@@ -159,11 +199,15 @@ pub fn structure<'a>(alloc: Global, held: &mut Held<'a>) -> Result<(), AllocErro
 }
 
 /// Two lists of items as one.
-pub fn add_items<'a>(alloc: Global, held: &mut Held<'a>) -> Result<(), AllocError>
+#[inline(never)]
+pub fn add_items<'a>(held: &mut Held<'a>) -> Result<(), AllocError>
     ensures { OnOk result (held.new ≡ a.add_items held.old) }
 {
-    let first = held.items.take()?;
-    let rest = held.items.take()?;
-    let whole = joined(alloc, first, rest)?;
-    held.items.push(whole)
+    if held.items.is_short() {
+        return Err(AllocError);
+    }
+    let (first, rest) = held.items.take_two();
+    let mut all = rest;
+    all.put_all(first)?;
+    held.items.push(all)
 }
