@@ -6,17 +6,17 @@ ghost use Rattle.ckc_parser.specs.Phase.{parsing};
 use ckc_base::{Fault, Pos, Seq};
 use ckc_parser_items::build;
 use ckc_parser_trace::recognise;
-use ckc_parser_values::{Held, turned};
+use ckc_parser_values::Held;
 use ckc_syntax::{Item, Spelling, Token, Tree};
 use std::alloc::{AllocError, Global};
 
 /// The items that are left when a whole text is built.
-fn text_of<'a>(alloc: Global, held: Held<'a>) -> Result<Seq<Item<Spelling<'a>, ()>>, AllocError>
+fn text_of<'a>(held: Held<'a>) -> Result<Seq<Item<Spelling<'a>, ()>>, AllocError>
     ensures { IfOk result (λ items. items ≡ get_or held.entry.items 0 []) }
 {
     let mut held = held;
     let list = held.items.take()?;
-    turned(alloc, list)
+    Ok(list.into_seq())
 }
 
 /// The tree that the tokens of a text derive, which is the only one; or E120 at the first token that no
@@ -33,7 +33,7 @@ pub fn parse<'a>(
         Err(fault) => Err(fault),
         Ok(trace) => match build(alloc, tokens, trace) {
             Err(_) => Err(Fault::Memory),
-            Ok(held) => match text_of(alloc, held) {
+            Ok(held) => match text_of(held) {
                 Err(_) => Err(Fault::Memory),
                 Ok(items) => Ok(Tree { items }),
             },
