@@ -66,7 +66,7 @@ pub fn programs_are_well_formed()
     accepted_texts_are_well_formed();
 }
 
-/// The meaning of a text is stuck only for a cause: the next step goes through a pointer to what no block has, or reads a checked
+/// The meaning of a text is stuck only for a cause: the next step goes through a `T *` to what no block has, or reads a checked
 /// pointer whose bounds are not true.
 pub fn stuck_runs_have_a_cause()
     ensures { (text : List ℕ) (p : Program) → HasMeaning text p → IsStuckForCauseAlone p }

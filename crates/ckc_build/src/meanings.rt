@@ -25,7 +25,7 @@ pub fn program(alloc: Global, text: &[u8]) -> Result<Program, Fault>
     ensures laid_out { IfOk result (λ p. IsLaidOut (program_of p)) }
     // What the program names is there and has room, and its checked pointers have ranges.
     ensures well_formed { IfOk result (λ p. IsWellFormed (program_of p)) }
-    // A run of it is stuck only at a step that goes through a pointer to what no block has, or that reads a checked pointer
+    // A run of it is stuck only at a step that goes through a `T *` to what no block has, or that reads a checked pointer
     // whose bounds are not true.
     ensures caused { IfOk result (λ p. IsStuckForCauseAlone (program_of p)) }
 {
