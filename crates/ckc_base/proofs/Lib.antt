@@ -15,3 +15,4 @@ pub mod Gives
 pub mod Codes
 pub mod Joining
 pub mod Counting
+pub mod Told

@@ -1,5 +1,5 @@
 -- Phases one after another, and what an exact phase's answer owes.
-use Rattle.std.proofs.Common.{◌≡◌, inl, inr, Result, Ok, Err, subst, ap, refl}
+use Rattle.std.proofs.Common.{◌≡◌, ◌⊎◌, inl, inr, Result, Ok, Err, subst, ap, refl}
 use Rattle.ckc_base.specs.declared.places.Refusal.{Refusal}
 use Rattle.ckc_base.specs.declared.fault.Fault.{Fault}
 use Rattle.ckc_base.specs.declared.fault.Fault.TheVariants as fault
@@ -20,15 +20,18 @@ module _ {A B C : Type 0} (p : Phase A B) (q : Phase B C) (exact : IsExact p) (n
   not_both a c r m (inl f) = exact.never_both a m.0 r m.1 f
   not_both a c r m (inr f) = next.never_both f.0 c r (subst (λ b. q.Makes b c) (exact.made_once a m.0 f.0 m.1 f.1) m.2) f.2
 
-  not_neither : (a : A) → ((c : C) → ¬ (p >=> q).Makes a c) → ((r : Refusal) → ¬ (p >=> q).Refuses a r) → ⊥
-  not_neither a no_made no_refused =
-      exact.never_neither a
-      (λ b m. next.never_neither b (λ c n. no_made c (b, m, n)) (λ r f. no_refused r (inr (b, m, f))))
-      (λ r f. no_refused r (inl f))
+  -- what the first phase makes goes to the second
+  one_more : (a : A) → ((b : B) × p.Makes a b) ⊎ ((r : Refusal) × p.Refuses a r) → ((c : C) × (p >=> q).Makes a c) ⊎ ((r : Refusal) × (p >=> q).Refuses a r)
+  one_more a (inr f) = inr (f.0, inl f.1)
+  one_more a (inl m) = then_one a m.0 m.1 (next.one_of_both m.0)
+    where
+      then_one : (a : A) (b : B) → p.Makes a b → ((c : C) × q.Makes b c) ⊎ ((r : Refusal) × q.Refuses b r) → ((c : C) × (p >=> q).Makes a c) ⊎ ((r : Refusal) × (p >=> q).Refuses a r)
+      then_one a b made (inl n) = inl (n.0, (b, made, n.1))
+      then_one a b made (inr f) = inr (f.0, inr (b, made, f.1))
 
   -- Exact phases one after another are an exact phase.
   pub then_exact : IsExact (p >=> q)
-  then_exact = record { made_once = made_of_both; refused_once = refused_of_both; never_both = not_both; never_neither = not_neither }
+  then_exact = record { made_once = made_of_both; refused_once = refused_of_both; never_both = not_both; one_of_both = λ a. one_more a (exact.one_of_both a) }
 
   -- What an answer of the first phase that goes on owes: the answer of the second one is that of both.
   pub answers_on : (a : A) (b : B) (answer : Result C Fault) → p.Makes a b → Answers q b answer → Answers (p >=> q) a answer
@@ -56,20 +59,21 @@ same_made o b other p q = cc
 same_refused : {B : Type 0} (o : Outcome B) (r other : Refusal) → o ≡ Err r → o ≡ Err other → r ≡ other
 same_refused o r other p q = cc
 
-one_of_both : {B : Type 0} (o : Outcome B) (b : B) (r : Refusal) → o ≡ Ok b → o ≡ Err r → ⊥
-one_of_both o b r p q = cc
+not_both_same : {B : Type 0} (o : Outcome B) (b : B) (r : Refusal) → o ≡ Ok b → o ≡ Err r → ⊥
+not_both_same o b r p q = cc
 
-one_at_least : {B : Type 0} (o : Outcome B) → ((b : B) → ¬ (o ≡ Ok b)) → ((r : Refusal) → ¬ (o ≡ Err r)) → ⊥
-one_at_least (Ok b) no_made no_refused = no_made b refl
-one_at_least (Err r) no_made no_refused = no_refused r refl
+-- an outcome is a thing or a first error
+pub one_outcome : {B : Type 0} (o : Outcome B) → ((b : B) × (o ≡ Ok b)) ⊎ ((r : Refusal) × (o ≡ Err r))
+one_outcome (Ok b) = inl (b, refl)
+one_outcome (Err r) = inr (r, refl)
 
 -- A phase that a function gives is exact.
 pub phase_by_exact : {A B : Type 0} (f : A → Outcome B) → IsExact (phase_by f)
 phase_by_exact f = record {
   made_once = λ a b other. same_made (f a) b other;
   refused_once = λ a r other. same_refused (f a) r other;
-  never_both = λ a b r. one_of_both (f a) b r;
-  never_neither = λ a. one_at_least (f a);
+  never_both = λ a b r. not_both_same (f a) b r;
+  one_of_both = λ a. one_outcome (f a);
 }
 
 -- What answers the outcome of a function answers its phase.

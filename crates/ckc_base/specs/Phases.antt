@@ -17,12 +17,12 @@ abbrev pub ◌>=>◌ : {A B C : Type 0} → Phase A B → Phase B C → Phase A 
   Refuses = λ a refusal. p.Refuses a refusal ⊎ ((b : B) × p.Makes a b × q.Refuses b refusal);
 }
 
--- A phase makes one thing or has one first error: never two, never both, never neither.
+-- A phase makes one thing or has one first error: never two, never both, and always one of them.
 pub record IsExact {A B : Type 0} (p : Phase A B) : Type 0 where
   pub made_once : (a : A) (b other : B) → p.Makes a b → p.Makes a other → b ≡ other
   pub refused_once : (a : A) (r other : Refusal) → p.Refuses a r → p.Refuses a other → r ≡ other
   pub never_both : (a : A) (b : B) (r : Refusal) → p.Makes a b → p.Refuses a r → ⊥
-  pub never_neither : (a : A) → ((b : B) → ¬ p.Makes a b) → ((r : Refusal) → ¬ p.Refuses a r) → ⊥
+  pub one_of_both : (a : A) → ((b : B) × p.Makes a b) ⊎ ((r : Refusal) × p.Refuses a r)
 
 -- the answer is this one, unless memory ran out
 abbrev pub IsUnlessMemory : {B : Type 0} → Result B Fault → Result B Fault → Type 0
