@@ -79,6 +79,7 @@ same_list {A} same (x ∷ xs) (y ∷ ys) = turned there back (both (same x y) (s
   where
     there : (x ≡ y) × (xs ≡ ys) → x ∷ xs ≡ y ∷ ys
     there e = let a : x ≡ y = e.0 in let b : xs ≡ ys = e.1 in cc
+
     back : x ∷ xs ≡ y ∷ ys → (x ≡ y) × (xs ≡ ys)
     back e = (cc, cc)
 
@@ -93,8 +94,10 @@ each_below P told (suc n) = turned there back (both (each_below P told n) (told 
       where
         subst_here : n ≡ k → P n → P k
         subst_here e p = subst P e p
+
     there : ((k : ℕ) → k < n → P k) × P n → (k : ℕ) → k < suc n → P k
     there h k lt = at k h.0 h.1 lt (cases_lt k n)
+
     back : ((k : ℕ) → k < suc n → P k) → ((k : ℕ) → k < n → P k) × P n
     back h = (λ k lt. h k (omega (arith, lt)), h n (omega arith))
 
@@ -106,6 +109,7 @@ some_below P told (suc n) = next (told n) (some_below P told n)
     above : (k : ℕ) → ¬ P n → ((j : ℕ) → j < n → ¬ P j) → k < suc n → P k → (k < n) ⊎ (n ≤ k) → ⊥
     above k wrong none lt p (inl below) = none k below p
     above k wrong none lt p (inr high) = let e : k ≡ n = omega (arith, lt, high) in wrong (subst P e p)
+
     next : Told (P n) → ((k : ℕ) × (k < n) × P k) ⊎ ((k : ℕ) → k < n → ¬ P k) → ((k : ℕ) × (k < suc n) × P k) ⊎ ((k : ℕ) → k < suc n → ¬ P k)
     next (inl p) rest = inl (n, omega arith, p)
     next (inr wrong) (inl found) = inl (found.0, omega (arith, found.1), found.2)

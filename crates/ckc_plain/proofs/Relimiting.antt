@@ -27,6 +27,12 @@ text_of tree main = record { tree = tree; main = main }
 same_text : (n m : NamedText) → n.tree ≡ m.tree → n.main ≡ m.main → n ≡ m
 same_text n m t h = ap (λ x. text_of x n.main) t ∙ ap (λ k. text_of m.tree k) h
 
+made_or_first : (text : NamedText) →
+    ((tree : NamedTree) × (limiting {N = Name} {A = Unit {0}}).Makes text.tree tree) ⊎ ((r : Refusal) × (limiting {N = Name} {A = Unit {0}}).Refuses text.tree r) →
+    ((b : NamedText) × relimiting.Makes text b) ⊎ ((r : Refusal) × relimiting.Refuses text r)
+made_or_first text (inl made) = inl (record { tree = made.0; main = text.main }, (made.1, refl))
+made_or_first text (inr f) = inr f
+
 pub relimiting_exact : IsExact relimiting
 relimiting_exact =
     let exact = limiting_exact {N = Name} {A = Unit {0}} in
@@ -34,8 +40,7 @@ relimiting_exact =
       made_once = λ text b other m n. same_text b other (exact.made_once text.tree b.tree other.tree m.0 n.0) (m.1 ∙ sym n.1);
       refused_once = λ text r other f g. exact.refused_once text.tree r other f g;
       never_both = λ text b r m f. exact.never_both text.tree b.tree r m.0 f;
-      never_neither = λ text no_made no_refused. exact.never_neither text.tree
-          (λ tree made. no_made (record { tree = tree; main = text.main }) (made, refl)) no_refused;
+      one_of_both = λ text. made_or_first text (exact.one_of_both text.tree);
     }
 
 pub plaining_exact : IsExact plaining

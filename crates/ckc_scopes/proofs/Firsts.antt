@@ -121,19 +121,16 @@ module _ (p : Typed) where
   never_both : (same : Typed) (r : Refusal) → scoping.Makes p same → scoping.Refuses p r → ⊥
   never_both same r m f = ok_or_err _ r (scoped_is.0 m.0) (err_of_fault r.code r.pos f)
 
-  never_neither : ((same : Typed) → ¬ scoping.Makes p same) → ((r : Refusal) → ¬ scoping.Refuses p r) → ⊥
-  never_neither no_made no_refused = by_verdict (verdict p.tree.items (walk p)) refl
-    where
-      by_verdict : (v : Verdict) → verdict p.tree.items (walk p) ≡ v → ⊥
-      by_verdict (Ok u) e = no_made p (scoped_is.1 e, refl)
-      by_verdict (Err r) e = no_refused r (fault_of_err r e)
+  made_or_fault : (v : Verdict) → verdict p.tree.items (walk p) ≡ v → ((same : Typed) × scoping.Makes p same) ⊎ ((r : Refusal) × scoping.Refuses p r)
+  made_or_fault (Ok u) e = inl (p, (scoped_is.1 e, refl))
+  made_or_fault (Err r) e = inr (r, fault_of_err r e)
 
 pub scoping_exact : IsExact scoping
 scoping_exact = record {
   made_once = λ p same other m n. m.1 ∙ sym n.1;
   refused_once = fault_once;
   never_both = never_both;
-  never_neither = never_neither;
+  one_of_both = λ p. made_or_fault p (verdict p.tree.items (walk p)) refl;
 }
 
 -- a verdict on a typed text is the answer of the phase

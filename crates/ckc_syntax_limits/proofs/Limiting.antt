@@ -1,5 +1,5 @@
 -- Each tree is small or has one first refusal, and the codes of the refusals.
-use Rattle.std.proofs.Common.{refl, ◌≡◌, ◌≤◌, lit≤, ℕ, List, [], ◌∷◌, ◌++◌, Bool, true, false, cond, sym, ap, subst, ◌∙◌, Result, Ok, Err}
+use Rattle.std.proofs.Common.{refl, ◌⊎◌, inl, inr, ◌≡◌, ◌≤◌, lit≤, ℕ, List, [], ◌∷◌, ◌++◌, Bool, true, false, cond, sym, ap, subst, ◌∙◌, Result, Ok, Err}
 use Rattle.std.specs.Prelude.{flat_map, nat_lt}
 use Rattle.ckc_base.specs.declared.places.Pos.{Pos}
 use Rattle.ckc_base.specs.declared.places.Refusal.{Refusal}
@@ -20,17 +20,23 @@ use Rattle.ckc_syntax_limits.proofs.Smalls.{small_is, small_none, same_first}
 same_tree : {X : Type 0} (x y z : X) → y ≡ x → z ≡ x → y ≡ z
 same_tree x y z e f = e ∙ sym f
 
-none_or_first : {X : Type 0} (xs : List X) → (¬ (xs ≡ [])) → ((x : X) → ¬ IsFirst x xs) → ⊥
-none_or_first [] some first = some refl
-none_or_first (x ∷ xs) some first = first x (xs, refl)
+-- a list is empty or has a first element
+none_or_first : {X : Type 0} (xs : List X) → (xs ≡ []) ⊎ ((x : X) × IsFirst x xs)
+none_or_first [] = inl refl
+none_or_first (x ∷ xs) = inr (x, (xs, refl))
+
+-- a tree without faults is made of itself
+made_or_first : {N A : Type 0} (tree : Tree N A) → (faults_of tree ≡ []) ⊎ ((r : Refusal) × IsFirst r (faults_of tree)) →
+    ((b : Tree N A) × (limiting {N = N} {A = A}).Makes tree b) ⊎ ((r : Refusal) × (limiting {N = N} {A = A}).Refuses tree r)
+made_or_first tree (inl e) = inl (tree, ((small_is tree).1 e, refl))
+made_or_first tree (inr f) = inr f
 
 pub limiting_exact : {N A : Type 0} → IsExact (limiting {N = N} {A = A})
 limiting_exact = record {
   made_once = λ tree b other m n. same_tree tree b other m.1 n.1;
   refused_once = λ tree r other f g. same_first r other (faults_of tree) f g;
   never_both = λ tree b r m f. small_none tree r m.0 f;
-  never_neither = λ tree no_made no_refused. none_or_first (faults_of tree)
-      (λ e. no_made tree ((small_is tree).1 e, refl)) no_refused;
+  one_of_both = λ tree. made_or_first tree (none_or_first (faults_of tree));
 }
 
 -- the codes of refusals
