@@ -1,5 +1,5 @@
 -- The answers of a lexer that reads forward are those that the cut of the text gives, and the phase is exact.
-use Rattle.std.proofs.Common.{◌≡◌, ℕ, ◌≤◌, ◌<◌, false, List, length, Result, Ok, Err, sym, refl, ◌∙◌, inl, inr, ⊎_elim, arith}
+use Rattle.std.proofs.Common.{◌≡◌, ◌⊎◌, ℕ, ◌≤◌, ◌<◌, false, List, length, Result, Ok, Err, sym, refl, ◌∙◌, inl, inr, ⊎_elim, arith}
 use Rattle.std.proofs.lemmas.Bool.{cases_lt}
 use Rattle.ckc_base.specs.declared.places.Refusal.{Refusal}
 use Rattle.ckc_base.specs.declared.fault.Fault.{Fault}
@@ -38,19 +38,20 @@ fault_once text a b (inr x) (inr y) = err_same {A = List Spelled} a b (reads_onc
 never_both : (text : List ℕ) (a : Tokens) (b : Refusal) → lexing.Makes text a → FirstFault text b → ⊥
 never_both text a b x y = err_is_ok b a.list (reads_once (fault_read text b (broken_of text b x.0 y)) (lexes_read text a.list x.1))
 
-module _ (text : List ℕ) (no_made : (a : Tokens) → ¬ lexing.Makes text a) (no_refused : (b : Refusal) → ¬ FirstFault text b) where
-  no_outcome : length text ≤ longest_text → (o : Outcome (List Spelled)) → ¬ Reads start false text o
-  no_outcome le (Ok found) r = no_made (record { list = found; end = place_after text }) (le, read_lexes text found r, refl)
-  no_outcome le (Err fault) r = no_refused fault (inr (le, read_fault text fault r))
+-- how a text of this length ends when it is read
+read_so : (text : List ℕ) → length text ≤ longest_text → (o : Outcome (List Spelled)) → Reads start false text o → ((a : Tokens) × lexing.Makes text a) ⊎ ((b : Refusal) × FirstFault text b)
+read_so text le (Ok found) r = inl (record { list = found; end = place_after text }, (le, read_lexes text found r, refl))
+read_so text le (Err fault) r = inr (fault, inr (le, read_fault text fault r))
 
-  never_neither : ⊥
-  never_neither = ⊎_elim
-      (λ (more : longest_text < length text). no_refused (at_start 201) (inl (more, refl)))
-      (λ (le : length text ≤ longest_text). reads_some start false text (no_outcome le))
-      (cases_lt longest_text (length text))
+-- each text has tokens or a first fault
+one_of_both : (text : List ℕ) → ((a : Tokens) × lexing.Makes text a) ⊎ ((b : Refusal) × FirstFault text b)
+one_of_both text = ⊎_elim
+    (λ (more : longest_text < length text). inr (at_start 201, inl (more, refl)))
+    (λ (le : length text ≤ longest_text). let x = reads_some start false text in read_so text le x.0 x.1)
+    (cases_lt longest_text (length text))
 
 pub lexing_exact : IsExact lexing
-lexing_exact = record { made_once = made_once; refused_once = fault_once; never_both = never_both; never_neither = never_neither }
+lexing_exact = record { made_once = made_once; refused_once = fault_once; never_both = never_both; one_of_both = one_of_both }
 
 -- a reading of a text is the answer of the phase
 answers_of : (text : List ℕ) → length text ≤ longest_text → (r : Result (List tokens.Token) Fault) → IsReading text r → Answers lexing text (viewed (tokens_in text) r)

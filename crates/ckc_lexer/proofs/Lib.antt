@@ -5,13 +5,16 @@ pub mod Classes
 pub mod FaultCodes
 pub mod CommentFronts
 pub mod CutLaw
+pub mod Decisions
 pub mod DirectiveFronts
 pub mod DirectiveLaw
 pub mod Fronts
 pub mod Keywords
+pub mod LiteralDecisions
 pub mod LiteralFronts
 pub mod MarkFronts
 pub mod OneItem
 pub mod PlaceLaw
 pub mod Reading
+pub mod Searches
 pub mod Total

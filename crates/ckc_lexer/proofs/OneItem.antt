@@ -1,5 +1,5 @@
 -- Bytes spell one item.
-use Rattle.std.proofs.Common.{◌≡◌, ℕ, ◌+◌, ◌-◌, ◌<◌, ◌⊎◌, ◌||◌, ◌^◌, nat_le, Bool, true, false, Some, List, [], ◌∷◌, length, get_or, sym, refl, ap, ◌∙◌, ⊎_elim, inl, inr, arith, length-drop, get_or-take, append-nil}
+use Rattle.std.proofs.Common.{◌≡◌, ℕ, ◌+◌, ◌-◌, ◌<◌, ◌⊎◌, ◌||◌, ◌^◌, nat_le, Bool, true, false, Some, List, [], ◌∷◌, length, get_or, sym, refl, ap, ◌∙◌, ⊎_elim, inl, inr, arith, length-drop, append-nil}
 use Rattle.ckc_syntax.specs.declared.tokens.TokenKind.TheVariants.{Name, Keyword, Number, Character, Text}
 use Rattle.ckc_syntax.specs.declared.tokens.TokenKind.TheVariants as kinds
 use Rattle.ckc_syntax.specs.declared.tokens.Directive.{Directive}

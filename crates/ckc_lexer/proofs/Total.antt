@@ -1,5 +1,5 @@
 -- Each text is read to an end: some item stands at each place.
-use Rattle.std.proofs.Common.{◌≡◌, ℕ, suc, ◌+◌, ◌<◌, ◌≤◌, ◌||◌, ◌==◌, not, Bool, true, false, cond, zero, Some, is_none, Ok, Err, List, [], ◌∷◌, length, take, drop, sym, refl, ap, ◌∙◌, subst, ⊎_elim, arith, length-drop, length-append}
+use Rattle.std.proofs.Common.{◌≡◌, ℕ, suc, ◌<◌, ◌≤◌, ◌||◌, ◌==◌, not, Bool, true, false, cond, zero, Some, is_none, Ok, Err, List, [], ◌∷◌, length, take, drop, sym, refl, ap, ◌∙◌, subst, ⊎_elim, arith, length-drop, length-append}
 use Rattle.std.proofs.lemmas.Bool.{false≢true, cases_lt}
 use Rattle.std.proofs.lemmas.List.{nil_from_length}
 use Rattle.ckc_syntax.specs.declared.tokens.TokenKind.TheVariants.{Number}
@@ -27,8 +27,10 @@ use Rattle.ckc_lexer.specs.Spelling.{SpelledBy, Spells}
 use Rattle.ckc_lexer.specs.Words.{word_item}
 use Rattle.ckc_lexer.proofs.Ascii.{large_class}
 use Rattle.ckc_lexer.proofs.ByteLists.{all_nil, all_cons}
+use Rattle.ckc_lexer.proofs.Decisions.{some_number, spells_told}
 use Rattle.ckc_lexer.proofs.DirectiveLaw.{body_complete}
 use Rattle.ckc_lexer.proofs.MarkFronts.{single}
+use Rattle.ckc_lexer.proofs.Searches.{longest_told}
 
 -- what the class of a byte says of it
 abbrev Says : Class → Bool → Bool → Bool → Bool → Type 0
@@ -97,66 +99,59 @@ mark_alone b class is = ⊎_elim
 
 -- a first byte alone spells something
 module _ (context : Context) (b : ℕ) where
-  by_class : (c : Class) → class_of b ≡ c → ((item : Item) → ¬ SpelledBy c context (b ∷ []) item) → ⊥
-  by_class Blank e never = never Gap (refl, refl)
-  by_class Letter e never =
+  -- `#` alone: a bad line, or no token
+  by_fresh : (fresh : Bool) → is_space b || is_feed b ≡ false → (item : Item) × HashCases fresh (b ∷ []) item
+  by_fresh true none = (Broken 105, (refl, omega arith, alone (λ b. not (is_feed b)) b (no_feed (is_space b) (is_feed b) none), no_line b))
+  by_fresh false none = (Broken 101, (refl, refl))
+
+  -- by the class of the byte
+  by_class : (c : Class) → class_of b ≡ c → (item : Item) × SpelledBy c context (b ∷ []) item
+  by_class Blank e = (Gap, (refl, refl))
+  by_class Letter e =
       let word = letter_is_word (is_letter b) (is_digit b) (class_says b Letter e) in
-      never (word_item context.checked (b ∷ [])) (alone is_word_byte b word, refl)
-  by_class Digit e never =
+      (word_item context.checked (b ∷ []), (alone is_word_byte b word, refl))
+  by_class Digit e =
       let word = alone is_word_byte b (digit_is_word (is_letter b) (is_digit b) (class_says b Digit e)) in
-      never (Broken 103) (word, (refl, λ n u is. never (Token (Number n u)) (word, is)))
-  by_class Apostrophe e never = never (Broken 103) (refl, refl)
-  by_class Quotation e never = never (Broken 103) (refl, refl)
-  by_class Slash e never = never (Token kinds.Mark) (mark refl refl)
-  by_class Hash e never = by_fresh context.fresh never
-    where
-      by_fresh : (fresh : Bool) → ((item : Item) → ¬ HashCases fresh (b ∷ []) item) → ⊥
-      by_fresh true never = never (Broken 105) (refl, omega arith, alone (λ b. not (is_feed b)) b (no_feed (is_space b) (is_feed b) (class_says b Hash e)), no_line b)
-      by_fresh false never = never (Broken 101) (refl, refl)
-  by_class Mark e never = never (Token kinds.Mark) (mark_alone b e (class_says b Mark e), refl)
-  by_class Other e never = never (Broken 101) (refl, refl)
+      let x = some_number (b ∷ []) in
+      (x.0, (word, x.1))
+  by_class Apostrophe e = (Broken 103, (refl, refl))
+  by_class Quotation e = (Broken 103, (refl, refl))
+  by_class Slash e = (Token kinds.Mark, mark refl refl)
+  by_class Hash e = by_fresh context.fresh (class_says b Hash e)
+  by_class Mark e = (Token kinds.Mark, (mark_alone b e (class_says b Mark e), refl))
+  by_class Other e = (Broken 101, (refl, refl))
 
-  some_item : ((item : Item) → ¬ Spells context (b ∷ []) item) → ⊥
-  some_item never = by_class (class_of b) refl never
+  -- so does each byte
+  some_item : (item : Item) × Spells context (b ∷ []) item
+  some_item = by_class (class_of b) refl
 
--- a front that is spelled has a longest one
-module _ {A : Type 0} (P : List ℕ → A → Type 0) (text : List ℕ) (never : (n : ℕ) (a : A) → ¬ Longest P text n a) where
-  no_front : (k n : ℕ) (a : A) → length text ≤ n + k → 0 < n → n ≤ length text → ¬ P (take n text) a
-  no_front zero n a bound some within p = never n a (record {
-    some = some;
-    within = within;
-    spelled = p;
-    longest = λ m other lt le s. omega (arith, bound, lt, le);
-  })
-  no_front (suc k) n a bound some within p = never n a (record {
-    some = some;
-    within = within;
-    spelled = p;
-    longest = λ m other lt le s. no_front k m other (omega (arith, bound, lt)) (omega (arith, some, lt)) le s;
-  })
-
-no_longest : (context : Context) (b : ℕ) (bs : List ℕ) → ((n : ℕ) (item : Item) → ¬ Longest (Spells context) (b ∷ bs) n item) → ⊥
-no_longest context b bs never =
-    some_item context b (λ item s. no_front (Spells context) (b ∷ bs) never (length (b ∷ bs)) 1 item (omega arith) (omega arith) (omega arith) s)
+-- a text that is not empty has a longest front that is spelled
+some_longest : (context : Context) (b : ℕ) (bs : List ℕ) → (n : ℕ) × (item : Item) × Longest (Spells context) (b ∷ bs) n item
+some_longest context b bs = ⊎_elim
+    (λ found. found)
+    (λ none. let x = some_item context b in absurd (none 1 x.0 (omega arith) (omega arith) x.1))
+    (longest_told (Spells context) (spells_told context) (b ∷ bs))
 
 -- how the rest of a text ends, after its first item, is how the text ends
-module _ (here : Here) (checked : Bool) (text : List ℕ) (never : (o : Outcome (List Spelled)) → ¬ Reads here checked text o) where
+module _ (here : Here) (checked : Bool) (text : List ℕ) where
+  -- by the first item
   step_on : (n : ℕ) (item : Item) → Longest (Spells (context_at here checked)) text n item →
-      ((there : Here) (said : Bool) → ((o : Outcome (List Spelled)) → ¬ Reads there said (drop n text) o) → ⊥) → ⊥
-  step_on n Gap l rest = rest (moved here (take n text)) checked (λ o r. never o (skips l r))
+      ((there : Here) (said : Bool) → (o : Outcome (List Spelled)) × Reads there said (drop n text) o) → (o : Outcome (List Spelled)) × Reads here checked text o
+  step_on n Gap l rest = let r = rest (moved here (take n text)) checked in (r.0, skips l r.1)
   step_on n (Token kind) l rest =
-      rest (moved here (take n text)) (checked || is_stdchecked (Token kind))
-      (λ o r. never (ahead (record { kind = kind; text = take n text; pos = pos_at here } ∷ []) o) (takes l r refl))
-  step_on n (Broken code) l rest = never (Err (record { code = code; pos = pos_at here })) (breaks l)
+      let r = rest (moved here (take n text)) (checked || is_stdchecked (Token kind)) in
+      (ahead (record { kind = kind; text = take n text; pos = pos_at here } ∷ []) r.0, takes l r.1 refl)
+  step_on n (Broken code) l rest = (Err (record { code = code; pos = pos_at here }), breaks l)
 
 -- Each text ends somehow when it is read.
-reads_within : (k : ℕ) (here : Here) (checked : Bool) (text : List ℕ) → length text ≤ k → ((o : Outcome (List Spelled)) → ¬ Reads here checked text o) → ⊥
-reads_within k here checked [] le never = never (Ok []) ends
-reads_within zero here checked (b ∷ bs) le never = omega (arith, le)
-reads_within (suc k) here checked (b ∷ bs) le never =
-    no_longest (context_at here checked) b bs
-    (λ n item l. step_on here checked (b ∷ bs) never n item l
-    (λ there said none. reads_within k there said (drop n (b ∷ bs)) (let e = length-drop n (b ∷ bs) in omega (arith, le, l.some)) none))
+reads_within : (k : ℕ) (here : Here) (checked : Bool) (text : List ℕ) → length text ≤ k → (o : Outcome (List Spelled)) × Reads here checked text o
+reads_within k here checked [] le = (Ok [], ends)
+reads_within zero here checked (b ∷ bs) le = absurd (omega (arith, le))
+reads_within (suc k) here checked (b ∷ bs) le =
+    let x = some_longest (context_at here checked) b bs in
+    step_on here checked (b ∷ bs) x.0 x.1 x.2
+    (λ there said. reads_within k there said (drop x.0 (b ∷ bs)) (let e = length-drop x.0 (b ∷ bs) in omega (arith, le, x.2.some)))
 
-pub reads_some : (here : Here) (checked : Bool) (text : List ℕ) → ((o : Outcome (List Spelled)) → ¬ Reads here checked text o) → ⊥
-reads_some here checked text never = reads_within (length text) here checked text (omega arith) never
+-- each text ends somehow
+pub reads_some : (here : Here) (checked : Bool) (text : List ℕ) → (o : Outcome (List Spelled)) × Reads here checked text o
+reads_some here checked text = reads_within (length text) here checked text (omega arith)
