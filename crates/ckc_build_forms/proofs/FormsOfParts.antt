@@ -1,6 +1,6 @@
 -- What is made of parts that have the form has the form.
 use Rattle.std.proofs.Common.{◌≡◌, ◌⊎◌, ◌∙◌, inl, inr, refl, sym, ap, subst, arith, ℕ, ◌+◌, ◌<◌, ◌≤◌, ◌^◌, Bool, true, false, List, [], ◌∷◌}
-use Rattle.std.specs.Prelude.{◌==◌, not, ◌&&◌, ◌||◌, nat_lt, find, if◌then◌else◌, Option, Some, None}
+use Rattle.std.specs.Prelude.{◌==◌, not, ◌&&◌, ◌||◌, nat_lt, find, if◌then◌else◌, Option, Some, None, IfSome}
 use Rattle.std.specs.List.{list_any}
 use Rattle.std.specs.Option.{option_map}
 use Rattle.std.proofs.Math.Nat.{mod-le}
@@ -28,11 +28,12 @@ use Rattle.ckc_source.specs.declared.expr.Access.{Access}
 use Rattle.ckc_source.specs.declared.expr.Count.{Count}
 use Rattle.ckc_source.specs.declared.expr.Integer.{Integer}
 use Rattle.ckc_source.specs.declared.expr.Operation.TheVariants as operation
+use Rattle.ckc_source.specs.declared.expr.Pointee.{Pointee}
 use Rattle.ckc_source.specs.declared.expr.Shift.{Shift}
 use Rattle.ckc_source.specs.Code.{Expr, Number, Array, Moved, Added, Binary, And, Or, Choice, Narrow, Bare, Tested, Trusted}
 use Rattle.ckc_source.specs.Eval.{place_in}
 use Rattle.ckc_checks_operands.specs.Cases.{casts_one, is_named, is_static, is_ranged}
-use Rattle.ckc_checks_operands.specs.Compilable.{IsZero, EndsLow, IsTestedSize}
+use Rattle.ckc_checks_operands.specs.Compilable.{IsZero, IsCount, EndsLow, IsTestedSize}
 use Rattle.ckc_build_values.specs.Kinds.{is_signed, size_behind, through_kind}
 use Rattle.ckc_build_values.specs.Members.{has_member, offset_of}
 use Rattle.ckc_build_values.specs.Operators.{converted, cast, unary, binary, is_signed_at, shift, distance, of_operands, elements_in}
@@ -57,22 +58,30 @@ pub record PlaceMeans (n : ℕ) (q : Place) : Type 0 where
   pub pointer : ExprForm n q.pointer
   pub index : ExprForm n q.index
 
--- what lies at a place that is named ends low: a whole object, or an integer or pointer in it
+-- what lies at a place is a whole object or element, or an integer or pointer in one
 abbrev pub IsNear : Place → CType → Type 0
 IsNear q t = (q.access.offset ≡ 0) ⊎ ((is_scalar t ≡ true) × (q.access.offset < 2 ^ 31))
 
-abbrev pub IsLow : Place → CType → Type 0
-IsLow q t = is_static q.access q.pointer ≡ true → (a : ℕ) × (q.pointer ≡ Number a) × (a ≤ statics_end) × IsNear q t
+-- what lies at a place that is named begins low
+abbrev pub IsLow : Place → Type 0
+IsLow q = is_static q.access q.pointer ≡ true → (a : ℕ) × (q.pointer ≡ Number a) × (a ≤ statics_end)
 
 not_ranged : {X : Type 0} → false ≡ true → X
 not_ranged e = absurd cc
 
+-- the size of a type is a word, and far from being too large for one
+pub size_fits : (structs : Structs) (t : CType) → size_of structs t < 2 ^ 32
+size_fits structs t = let small = sizes_are_small structs t in omega (arith, small)
+
 module _ (n : ℕ) where
-  pub number_means : (m : ℕ) → Means n (Number m)
-  number_means m = record { form = tt; range = tt; ranged = λ e. not_ranged e }
+  pub number_means : (m : ℕ) → m < 2 ^ 32 → Means n (Number m)
+  number_means m small = record { form = small; range = tt; ranged = λ e. not_ranged e }
+
+  pub zero_means : Means n (Number 0)
+  zero_means = number_means 0 (omega arith)
 
   pub array_means : (at bytes : ℕ) → at + bytes < 2 ^ 32 → Means n (Array at bytes)
-  array_means at bytes h = record { form = tt; range = tt; ranged = λ e. h }
+  array_means at bytes h = record { form = (omega (arith, h), omega (arith, h)); range = omega (arith, h); ranged = λ e. h }
 
   bounded : (v : Expr) → Means n v → BoundedForm n (is_ranged v) v
   bounded v m = by (is_ranged v) refl
@@ -84,12 +93,15 @@ module _ (n : ℕ) where
   pub choice_means : (c a b : Expr) → Means n c → Means n a → Means n b → Means n (Choice c a b)
   choice_means c a b l h i = record { form = (l.form, h.form, i.form); range = (h.range, i.range); ranged = λ e. not_ranged e }
 
-  pub trusted_means : (to : _) (form : Integer) (v k : Expr) → Means n v → ExprForm n k → Means n (Trusted to form v k)
-  trusted_means to form v k m h = record { form = (m.form, h); range = tt; ranged = λ e. not_ranged e }
+  pub trusted_means : (to : Pointee) (form : Integer) (v k : Expr) → to.size < 2 ^ 32 → Means n v → ExprForm n k → Means n (Trusted to form v k)
+  trusted_means to form v k small m h = record { form = (small, m.form, h); range = small; ranged = λ e. not_ranged e }
+
+  small_size : (size : ℕ) → IsTestedSize size → size < 2 ^ 32
+  small_size size s = let h = s.1 in omega (arith, h)
 
   pub tested_means : (size : ℕ) (form : Integer) (at : Pos) (v k : Expr) → IsTestedSize size → Means n v → ExprForm n k → Means n (Tested size form at v k)
   tested_means size form at v k s m h = record {
-    form = (by (casts_one size v k), m.form, h);
+    form = (small_size size s, by (casts_one size v k), m.form, h);
     range = (s, m.range);
     ranged = λ e. not_ranged e;
   }
@@ -105,8 +117,12 @@ module _ (n : ℕ) where
 
   -- ---- places
 
-  nowhere_static : (q : Place) → is_named q.access.through ≡ false → (t : CType) → IsLow q t
-  nowhere_static q h t e = absurd (not_static q.access q.pointer h e)
+  near_fits : (q : Place) (t : CType) → IsNear q t → q.access.offset < 2 ^ 32
+  near_fits q t (inl z) = omega (arith, z)
+  near_fits q t (inr z) = let far = z.1 in omega (arith, far)
+
+  nowhere_static : (q : Place) → is_named q.access.through ≡ false → IsLow q
+  nowhere_static q h e = absurd (not_static q.access q.pointer h e)
     where
       not_static : (access : Access) (p : Expr) → is_named access.through ≡ false → is_static access p ≡ true → ⊥
       not_static access (Number a) h e = different (sym h ∙ e)
@@ -126,10 +142,14 @@ module _ (n : ℕ) where
 
     pub element_means : (t : CType) (at : Pos) (index : Integer) (e f : Expr) → IsSound structs t → (kind_of t ≡ Some kind.One → IsZero f) → Means n e → ExprForm n f
         → PlaceMeans n (element_place structs t at index e f)
-    element_means t at index e f s zero m h = record { access = judged_by t e f s zero m (kind_of t) refl; pointer = m.form; index = h }
+    element_means t at index e f s zero m h = record {
+      access = (size_fits structs (element_of t), omega arith, judged_by t e f s zero m (kind_of t) refl);
+      pointer = m.form;
+      index = h;
+    }
 
     pub target_means : (t : CType) (at : Pos) (e : Expr) → IsSound structs t → Means n e → PlaceMeans n (target_place structs t at e)
-    target_means t at e s m = element_means t at _ e (Number 0) s (λ h. refl) m tt
+    target_means t at e s m = element_means t at _ e (Number 0) s (λ h. refl) m (omega arith)
 
     unnamed : (k : Option Kind) → is_named (through_kind k) ≡ false
     unnamed None = refl
@@ -138,20 +158,20 @@ module _ (n : ℕ) where
     unnamed (Some kind.Arr) = refl
     unnamed (Some kind.Nt) = refl
 
-    pub element_low : (t : CType) (at : Pos) (index : Integer) (e f : Expr) (u : CType) → IsLow (element_place structs t at index e f) u
-    element_low t at index e f u = nowhere_static (element_place structs t at index e f) (unnamed (kind_of t)) u
+    pub element_low : (t : CType) (at : Pos) (index : Integer) (e f : Expr) → IsLow (element_place structs t at index e f)
+    element_low t at index e f = nowhere_static (element_place structs t at index e f) (unnamed (kind_of t))
 
-    pub arrow_low : (tag : ℕ) (m : Name) (t : CType) (at : Pos) (e : Expr) (u : CType) → IsLow (member_place structs tag m (target_place structs t at e)) u
-    arrow_low tag m t at e u = nowhere_static (member_place structs tag m (target_place structs t at e)) (unnamed (kind_of t)) u
+    pub arrow_low : (tag : ℕ) (m : Name) (t : CType) (at : Pos) (e : Expr) → IsLow (member_place structs tag m (target_place structs t at e))
+    arrow_low tag m t at e = nowhere_static (member_place structs tag m (target_place structs t at e)) (unnamed (kind_of t))
 
-    pub member_means : (tag : ℕ) (m : Name) (q : Place) → PlaceMeans n q → PlaceMeans n (member_place structs tag m q)
-    member_means tag m q h = record { access = h.access; pointer = h.pointer; index = h.index }
+    pub member_means : (tag : ℕ) (m : Name) (q : Place) (t : CType) → IsNear (member_place structs tag m q) t → PlaceMeans n q → PlaceMeans n (member_place structs tag m q)
+    member_means tag m q t near h = record { access = (h.access.0, near_fits (member_place structs tag m q) t near, h.access.2); pointer = h.pointer; index = h.index }
 
     pub nowhere_means : (at : Pos) → PlaceMeans n (nowhere at)
-    nowhere_means at = record { access = tt; pointer = tt; index = tt }
+    nowhere_means at = record { access = (omega arith, omega arith, tt); pointer = omega arith; index = omega arith }
 
-    pub nowhere_low : (at : Pos) (t : CType) → IsLow (nowhere at) t
-    nowhere_low at t e = (0, refl, omega arith, inl refl)
+    pub nowhere_low : (at : Pos) → IsLow (nowhere at)
+    nowhere_low at e = (0, refl, omega arith)
 
     -- ---- members
 
@@ -175,22 +195,23 @@ module _ (n : ℕ) where
         absent : ◌≡◌ {A = Option CType} None (Some t) → ⊥
         absent f = cc
 
-    pub member_low : (tag : ℕ) (m : Name) (q : Place) (u t : CType) → member_type structs tag m ≡ Some t → is_scalar t ≡ true → (is_scalar u ≡ true → ⊥) → IsLow q u
-        → IsLow (member_place structs tag m q) t
-    member_low tag (name.Member k) q u t e scalar apart low static =
-        let l = low static in
-        let far = offset_by tag k t e (has_member structs tag k) refl in
-        (l.0, l.1, l.2, by l.3 far)
+    -- a member of what is no member itself lies near
+    pub member_near : (tag : ℕ) (m : Name) (q : Place) (u t : CType) → member_type structs tag m ≡ Some t → is_scalar t ≡ true → (is_scalar u ≡ true → ⊥) → IsNear q u
+        → IsNear (member_place structs tag m q) t
+    member_near tag (name.Member k) q u t e scalar apart near = by near (offset_by tag k t e (has_member structs tag k) refl)
       where
         by : IsNear q u → offset_of structs tag k < 2 ^ 31 → IsNear (member_place structs tag (name.Member k) q) t
         by (inl z) far = inr (scalar, (let less : q.access.offset + offset_of structs tag k < 2 ^ 31 = omega (arith, z, far) in less))
         by (inr z) far = absurd (apart z.0)
-    member_low tag (name.Local k) q u t e scalar apart low static = absurd (no_member tag (name.Local k) t (λ j. refl) e)
-    member_low tag (name.Static k) q u t e scalar apart low static = absurd (no_member tag (name.Static k) t (λ j. refl) e)
-    member_low tag (name.Function k) q u t e scalar apart low static = absurd (no_member tag (name.Function k) t (λ j. refl) e)
-    member_low tag (name.Tag k) q u t e scalar apart low static = absurd (no_member tag (name.Tag k) t (λ j. refl) e)
-    member_low tag name.Getchar q u t e scalar apart low static = absurd (no_member tag name.Getchar t (λ j. refl) e)
-    member_low tag name.Putchar q u t e scalar apart low static = absurd (no_member tag name.Putchar t (λ j. refl) e)
+    member_near tag (name.Local k) q u t e scalar apart near = absurd (no_member tag (name.Local k) t (λ j. refl) e)
+    member_near tag (name.Static k) q u t e scalar apart near = absurd (no_member tag (name.Static k) t (λ j. refl) e)
+    member_near tag (name.Function k) q u t e scalar apart near = absurd (no_member tag (name.Function k) t (λ j. refl) e)
+    member_near tag (name.Tag k) q u t e scalar apart near = absurd (no_member tag (name.Tag k) t (λ j. refl) e)
+    member_near tag name.Getchar q u t e scalar apart near = absurd (no_member tag name.Getchar t (λ j. refl) e)
+    member_near tag name.Putchar q u t e scalar apart near = absurd (no_member tag name.Putchar t (λ j. refl) e)
+
+    pub member_low : (tag : ℕ) (m : Name) (q : Place) → IsLow q → IsLow (member_place structs tag m q)
+    member_low tag m q low = low
 
     -- ---- what lies at a place
 
@@ -215,16 +236,20 @@ module _ (n : ℕ) where
         by (inl z) = omega (arith, less, small, low, z)
         by (inr z) = let four = scalar_form (out-CType t) z.0 in let far = z.1 in omega (arith, less, four, low, far)
 
-    pub address_means : (t : CType) (q : Place) → PlaceMeans n q → IsLow q t → Means n (address_at structs t q)
-    address_means t q m low = record {
-      form = (m.access, m.pointer, m.index);
-      range = tt;
-      ranged = λ e. (let l = low e in ends_low q t l.0 l.1 l.2 l.3);
+    pub address_means : (t : CType) (q : Place) → PlaceMeans n q → IsLow q → IsNear q t → Means n (address_at structs t q)
+    address_means t q m low near = record {
+      form = (size_fits structs t, m.access, m.pointer, m.index);
+      range = size_fits structs t;
+      ranged = λ e. (let l = low e in ends_low q t l.0 l.1 l.2 near);
     }
 
-    pub read_means : (t : CType) (c : Option Count) (q : Place) → PlaceMeans n q → Means n (read_at structs t c q)
-    read_means t (Some c) q m = record { form = (m.access, m.pointer, m.index); range = tt; ranged = λ e. tt }
-    read_means t None q m = record { form = (m.access, m.pointer, m.index); range = tt; ranged = λ e. not_ranged e }
+    pub read_means : (t : CType) (c : Option Count) (q : Place) → IfSome c IsCount → PlaceMeans n q → Means n (read_at structs t c q)
+    read_means t (Some c) q small m = record {
+      form = (size_fits structs (element_of t), small, m.access, m.pointer, m.index);
+      range = (size_fits structs (element_of t), small);
+      ranged = λ e. (size_fits structs (element_of t), small);
+    }
+    read_means t None q small m = record { form = (m.access, m.pointer, m.index); range = tt; ranged = λ e. not_ranged e }
 
   -- ---- operators
 
@@ -246,11 +271,11 @@ module _ (n : ℕ) where
   plain_means o s at a b h i = record { form = (h, i); range = tt; ranged = λ e. not_ranged e }
 
   pub unary_means : (o : TreeOp) (at : Pos) (e : Expr) → Means n e → Means n (unary o at e)
-  unary_means op.Minus at e m = plain_means operation.Sub true at (Number 0) e tt m.form
+  unary_means op.Minus at e m = plain_means operation.Sub true at (Number 0) e (omega arith) m.form
   unary_means op.Plus at e m = m
-  unary_means op.Not at e m = plain_means operation.Eq true at e (Number 0) m.form tt
-  unary_means op.Flip at e m = plain_means operation.Xor true at e (Number 0xFFFFFFFF) m.form tt
-  unary_means o at e m = number_means 0
+  unary_means op.Not at e m = plain_means operation.Eq true at e (Number 0) m.form (omega arith)
+  unary_means op.Flip at e m = plain_means operation.Xor true at e (Number 0xFFFFFFFF) m.form (omega arith)
+  unary_means o at e m = zero_means
 
   both_means : (a b : Expr) → Means n a → Means n b → Means n (And a b) × Means n (Or a b)
   both_means a b h i = (
@@ -277,7 +302,7 @@ module _ (n : ℕ) where
   binary_means op.Mul s at e f h i = plain_means operation.Mul s at e f h.form i.form
   binary_means op.Div s at e f h i = plain_means operation.Div s at e f h.form i.form
   binary_means op.Rem s at e f h i = plain_means operation.Rem s at e f h.form i.form
-  binary_means o s at e f h i = number_means 0
+  binary_means o s at e f h i = zero_means
 
   -- ---- pointer arithmetic
 
@@ -285,11 +310,11 @@ module _ (n : ℕ) where
   ranged_inside true b e = e
   ranged_inside false b e = absurd cc
 
-  moved_means : (s : Shift) (p i : Expr) → ShiftForm s.checked s.size → Means n p → ExprForm n i → Means n (Moved s p i)
-  moved_means s p i h m f = record { form = (h, m.form, f); range = m.range; ranged = λ e. m.ranged (ranged_inside s.checked (is_ranged p) e) }
+  moved_means : (s : Shift) (p i : Expr) → s.size < 2 ^ 32 → ShiftForm s.checked s.size → Means n p → ExprForm n i → Means n (Moved s p i)
+  moved_means s p i small h m f = record { form = (small, h, m.form, f); range = m.range; ranged = λ e. m.ranged (ranged_inside s.checked (is_ranged p) e) }
 
-  added_means : (s : Shift) (i p : Expr) → ShiftForm s.checked s.size → Means n p → ExprForm n i → Means n (Added s i p)
-  added_means s i p h m f = record { form = (h, f, m.form); range = m.range; ranged = λ e. m.ranged (ranged_inside s.checked (is_ranged p) e) }
+  added_means : (s : Shift) (i p : Expr) → s.size < 2 ^ 32 → ShiftForm s.checked s.size → Means n p → ExprForm n i → Means n (Added s i p)
+  added_means s i p small h m f = record { form = (small, h, f, m.form); range = m.range; ranged = λ e. m.ranged (ranged_inside s.checked (is_ranged p) e) }
 
   module _ (structs : Structs) where
     shift_by : (t : CType) → IsSound structs t → (k : Option Kind) → kind_of t ≡ k → is_moved_kind k ≡ true → ShiftForm (is_checked_kind k) (size_behind structs t)
@@ -309,8 +334,8 @@ module _ (n : ℕ) where
     add_by : (left right : Bool) (t u : CType) (at : Pos) (e f : Expr) → is_pointer t ≡ left → is_pointer u ≡ right → IsSound structs t → IsSound structs u → Moves t → Moves u → Means n e → Means n f
         → Means n (if left then Moved (shift structs t u at false) e f
         else (if right then Added (shift structs u t at false) e f else binary op.Add (is_signed_at op.Add t u) at e f))
-    add_by true right t u at e f l r s v moves more h i = moved_means (shift structs t u at false) e f (shift_form t s (moves l)) h i.form
-    add_by false true t u at e f l r s v moves more h i = added_means (shift structs u t at false) e f (shift_form u v (more r)) i h.form
+    add_by true right t u at e f l r s v moves more h i = moved_means (shift structs t u at false) e f (size_fits structs (element_of t)) (shift_form t s (moves l)) h i.form
+    add_by false true t u at e f l r s v moves more h i = added_means (shift structs u t at false) e f (size_fits structs (element_of u)) (shift_form u v (more r)) i h.form
     add_by false false t u at e f l r s v moves more h i = binary_means op.Add (is_signed_at op.Add t u) at e f h i
 
     pub add_means : (t u : CType) (at : Pos) (e f : Expr) → IsSound structs t → IsSound structs u → Moves t → Moves u → Means n e → Means n f → Means n (of_operands structs op.Add t u at e f)
@@ -319,8 +344,8 @@ module _ (n : ℕ) where
     sub_by : (left right : Bool) (t u : CType) (at : Pos) (e f : Expr) → is_pointer t ≡ left → is_pointer u ≡ right → IsSound structs t → (is_pointer t ≡ true → is_pointer u ≡ false → is_moved t ≡ true)
         → Means n e → Means n f
         → Means n (if left then (if right then distance structs t at e f else Moved (shift structs t u at true) e f) else binary op.Sub (is_signed_at op.Sub t u) at e f)
-    sub_by true true t u at e f l r s moves h i = record { form = ((h.form, i.form), tt); range = tt; ranged = λ e. not_ranged e }
-    sub_by true false t u at e f l r s moves h i = moved_means (shift structs t u at true) e f (shift_form t s (moves l r)) h i.form
+    sub_by true true t u at e f l r s moves h i = record { form = ((h.form, i.form), size_fits structs (element_of t)); range = tt; ranged = λ e. not_ranged e }
+    sub_by true false t u at e f l r s moves h i = moved_means (shift structs t u at true) e f (size_fits structs (element_of t)) (shift_form t s (moves l r)) h i.form
     sub_by false right t u at e f l r s moves h i = binary_means op.Sub (is_signed_at op.Sub t u) at e f h i
 
     -- ---- what the rows say of pointers
@@ -380,9 +405,9 @@ module _ (n : ℕ) where
     pub other_means : (o : TreeOp) (s : Bool) (at : Pos) (e f : Expr) → Means n e → Means n f → Means n (binary o s at e f)
     other_means = binary_means
 
-  elements_by : (one : Bool) (s : Bool) (at : Pos) (e : Expr) (size : ℕ) → ExprForm n e → ExprForm n (if one then e else Binary operation.Div s at e (Number size))
-  elements_by true s at e size h = h
-  elements_by false s at e size h = (h, tt)
+  elements_by : (one : Bool) (s : Bool) (at : Pos) (e : Expr) (size : ℕ) → size < 2 ^ 32 → ExprForm n e → ExprForm n (if one then e else Binary operation.Div s at e (Number size))
+  elements_by true s at e size small h = h
+  elements_by false s at e size small h = (h, small)
 
-  pub elements_form : (size : ℕ) (t : CType) (at : Pos) (e : Expr) → ExprForm n e → ExprForm n (elements_in size t at e)
-  elements_form size t at e h = elements_by (size == 1) (is_signed t) at e size h
+  pub elements_form : (size : ℕ) (t : CType) (at : Pos) (e : Expr) → size < 2 ^ 32 → ExprForm n e → ExprForm n (elements_in size t at e)
+  elements_form size t at e small h = elements_by (size == 1) (is_signed t) at e size small h

@@ -1,6 +1,6 @@
 -- What assignments, calls and declarations of a judged text become has the form.
 use Rattle.std.proofs.Common.{◌≡◌, ◌∙◌, refl, sym, ap, subst, arith, ℕ, suc, ◌+◌, ◌<◌, ◌≤◌, Bool, true, false, List, [], ◌∷◌, map, length}
-use Rattle.std.specs.Prelude.{Option, Some, None, slice_get, if◌then◌else◌}
+use Rattle.std.specs.Prelude.{◌^◌, Option, Some, None, slice_get, if◌then◌else◌}
 use Rattle.ckc_base.specs.declared.arithmetic.Mode.{Mode}
 use Rattle.ckc_base.specs.declared.places.Pos.{Pos}
 use Rattle.ckc_types.specs.declared.types.CType.{CType}
@@ -34,7 +34,8 @@ use Rattle.ckc_blame_steps.proofs.Down.{AllDown, Down, each_parts}
 use Rattle.ckc_build_forms.proofs.DepthsOfParts.{converted_deep}
 use Rattle.ckc_build_forms.proofs.DepthsOfValues.{value_deep, place_deep}
 use Rattle.ckc_build_forms.proofs.Forms.{ExprForm, PartForm, TargetForm, RightForm, PartsForm, KeptForm, CodeForm}
-use Rattle.ckc_build_forms.proofs.FormsOfValues.{IsFitting, Good, IsReady, value_form, place_form}
+use Rattle.ckc_build_forms.proofs.FormsOfParts.{size_fits}
+use Rattle.ckc_build_forms.proofs.FormsOfValues.{IsFitting, Good, IsReady, address_fits, value_form, place_form}
 
 -- ---- depths
 
@@ -79,8 +80,8 @@ module _ (p : Typed) (globals : Globals) (s : Setting) (js : List Item) (ready :
       let v = expr_elaborated p s.variables k e in
       (narrow_form (is_char t) v (value_form p globals s ready e g.fit k), (let d = value_deep p s.variables k e in let h = g.deep in let c = converted_deep t v in omega (arith, d, h, c)))
 
-  pub number_form : (m : ℕ) → PartForm n (Number m)
-  number_form m = (tt, omega arith)
+  pub number_form : (m : ℕ) → m < 2 ^ 32 → PartForm n (Number m)
+  number_form m small = (small, omega arith)
 
   -- ---- targets
 
@@ -109,7 +110,7 @@ module _ (p : Typed) (globals : Globals) (s : Setting) (js : List Item) (ready :
     where
       by : (x : NotedLayer) → out-Node Name Note e.node ≡ x → KeptForm n (kept_form p e.note.ctype x)
       by (Node-F.Name (name.Local j)) is = named_there j e g is
-      by (Node-F.Name (name.Static j)) is = tt
+      by (Node-F.Name (name.Static j)) is = address_fits p globals s ready j
       by (Node-F.Name m) is = tt
       by x is = tt
 
@@ -125,7 +126,7 @@ module _ (p : Typed) (globals : Globals) (s : Setting) (js : List Item) (ready :
 
   pub local_arrives : (t : CType) (m : Name) → ((k : ℕ) → m ≡ name.Local k → k < n) → Arrives (destination_for p t m)
   local_arrives t (name.Local k) h = record { target = h k refl; kept = h k refl }
-  local_arrives t (name.Static k) h = record { target = tt; kept = tt }
+  local_arrives t (name.Static k) h = record { target = tt; kept = address_fits p globals s ready k }
   local_arrives t m h = record { target = tt; kept = tt }
 
   -- ---- right sides
@@ -137,7 +138,7 @@ module _ (p : Typed) (globals : Globals) (s : Setting) (js : List Item) (ready :
   right_is terminated e g k = by (out-Node Name Note e.node) (each_parts Fit e g.fit) (λ c w d. inner_good e c g w d)
     where
       by : (x : NotedLayer) → Down (EachExpr Fit) (EachLimits Fit) x → ((c : NotedExpr) → EachExpr Fit c → depth_of_expr c ≤ InsideDepth x → Fine c) → RightForm n (right_form p s.variables k terminated e x)
-      by (Node-F.Calloc w c x) h good = part_form c (good c h (omega arith)) k
+      by (Node-F.Calloc w c x) h good = (size_fits p.layout (type_written w), part_form c (good c h (omega arith)) k)
       by x h good = part_form e g k
 
   -- ---- calls
@@ -167,7 +168,7 @@ module _ (p : Typed) (globals : Globals) (s : Setting) (js : List Item) (ready :
   as_many mode (q ∷ ps) (e ∷ es) h = ap suc (as_many mode ps es h.1)
 
   first_form : (es : List NotedExpr) → AllGood es → (k : ℕ) → PartForm n (first_of p s.variables k es)
-  first_form [] g k = number_form 0
+  first_form [] g k = number_form 0 (omega arith)
   first_form (e ∷ es) g k = part_form e g.0 k
 
   abbrev deepest : List NotedExpr → ℕ
@@ -195,10 +196,10 @@ module _ (p : Typed) (globals : Globals) (s : Setting) (js : List Item) (ready :
         )
     called_form mode name.Getchar es at t row g = (arrives.target, behind)
     called_form mode name.Putchar es at t row g = (arrives.target, first_form es g k, behind)
-    called_form mode (name.Local x) es at t row g = (arrives.target, number_form 0, behind)
-    called_form mode (name.Static x) es at t row g = (arrives.target, number_form 0, behind)
-    called_form mode (name.Tag x) es at t row g = (arrives.target, number_form 0, behind)
-    called_form mode (name.Member x) es at t row g = (arrives.target, number_form 0, behind)
+    called_form mode (name.Local x) es at t row g = (arrives.target, number_form 0 (omega arith), behind)
+    called_form mode (name.Static x) es at t row g = (arrives.target, number_form 0 (omega arith), behind)
+    called_form mode (name.Tag x) es at t row g = (arrives.target, number_form 0 (omega arith), behind)
+    called_form mode (name.Member x) es at t row g = (arrives.target, number_form 0 (omega arith), behind)
 
     pub assigned_form_is : (e : NotedExpr) → Fine e → CodeForm fs n looped (assigned p s.variables spot to k e rest)
     assigned_form_is e g =
@@ -214,14 +215,14 @@ module _ (p : Typed) (globals : Globals) (s : Setting) (js : List Item) (ready :
         by x row w d = (arrives.target, right_is to.terminated e g k, behind)
 
     pub started_form : (i : NotedInit) → InitGood i → CodeForm fs n looped (started p s.variables spot to k i rest)
-    started_form init.Nothing g = (arrives.target, number_form 0, behind)
+    started_form init.Nothing g = (arrives.target, number_form 0 (omega arith), behind)
     started_form (init.One e) g = assigned_form_is e g
-    started_form (init.Many es) g = (arrives.target, number_form 0, behind)
+    started_form (init.Many es) g = (arrives.target, number_form 0 (omega arith), behind)
 
   pub returned_form : (t : CType) (e : Option NotedExpr) → ((f : NotedExpr) → e ≡ Some f → Fine f) → (k : ℕ) → PartForm n (returned p s.variables t k e)
-  returned_form t None g k = number_form 0
+  returned_form t None g k = number_form 0 (omega arith)
   returned_form t (Some e) g k = converted_form t e (g e refl) k
 
   pub condition_form : (e : Option NotedExpr) → ((f : NotedExpr) → e ≡ Some f → Fine f) → (k : ℕ) → PartForm n (condition p s.variables k e)
-  condition_form None g k = number_form 1
+  condition_form None g k = number_form 1 (omega arith)
   condition_form (Some e) g k = part_form e (g e refl) k

@@ -1,6 +1,6 @@
 -- What an expression of a judged text means has the form.
-use Rattle.std.proofs.Common.{◌≡◌, ◌∙◌, inl, refl, sym, ap, subst, rules, arith, ℕ, ◌+◌, ◌<◌, ◌≤◌, Bool, true, false, length}
-use Rattle.std.specs.Prelude.{◌||◌, Option, Some, None, is_some}
+use Rattle.std.proofs.Common.{◌≡◌, ◌∙◌, inl, refl, sym, ap, subst, rules, arith, ints, ℕ, ◌+◌, ◌<◌, ◌≤◌, Bool, true, false, length}
+use Rattle.std.specs.Prelude.{◌^◌, ◌||◌, Option, Some, None, IfSome, is_some}
 use Rattle.std.proofs.lemmas.Bool.{and_parts}
 use Rattle.ckc_base.specs.declared.places.Pos.{Pos}
 use Rattle.ckc_base.specs.MemoryMap.{statics_end}
@@ -31,7 +31,7 @@ use Rattle.ckc_typed.specs.Types.{type_written, is_pointer, is_pointer_form, is_
 use Rattle.ckc_typed_welltyped.specs.Expressions.{AnyLimits, AnyNode}
 use Rattle.ckc_source.specs.declared.expr.Integer.TheVariants as integer
 use Rattle.ckc_source.specs.Code.{Expr, Number, Array, Choice, Tested, Trusted}
-use Rattle.ckc_checks_operands.specs.Compilable.{IsTestedSize}
+use Rattle.ckc_checks_operands.specs.Compilable.{IsCount, IsTestedSize}
 use Rattle.ckc_build_values.specs.Kinds.{integer_of, count_of_kind, size_behind, pointee_of, tag_of, tag_in}
 use Rattle.ckc_build_values.specs.Ends.{limits_at}
 use Rattle.ckc_build_values.specs.Members.{count_of_member}
@@ -44,7 +44,7 @@ use Rattle.ckc_blame_steps.specs.ckc_blame_sound.specs.Typed.{IsRow}
 use Rattle.ckc_blame_steps.specs.ckc_blame_sound.proofs.Every.{LimitsLayer, ExprLayer, EachLimits, EachNode, EachExpr, LimitsParts, NodeParts, limits_hold, node_hold, inside, each_follows}
 use Rattle.ckc_blame_steps.proofs.ObjectTypes.{element_is_object}
 use Rattle.ckc_build_forms.proofs.Forms.{LimitsForm, ExprForm}
-use Rattle.ckc_build_forms.proofs.FormsOfParts.{Means, PlaceMeans, IsLow, number_means, array_means, choice_means, trusted_means, tested_means, tested_size, element_means, target_means, element_low, member_means, member_low, nowhere_means, nowhere_low, address_means, read_means, cast_means, unary_means, add_means, index_moves, sum_means, difference_means, other_means, elements_form, arrow_low}
+use Rattle.ckc_build_forms.proofs.FormsOfParts.{Means, PlaceMeans, IsLow, IsNear, number_means, zero_means, size_fits, array_means, choice_means, trusted_means, tested_means, tested_size, element_means, target_means, element_low, member_means, member_near, member_low, nowhere_means, nowhere_low, address_means, read_means, cast_means, unary_means, add_means, index_moves, sum_means, difference_means, other_means, elements_form, arrow_low}
 use Rattle.ckc_build_forms.proofs.RangesNoted.{IsRangeOf, NamesRange, HasItsRange}
 use Rattle.ckc_build_forms.proofs.SoundTypes.{IsSound, AreSound, WritesTagged, HasSizes, typed_sound, tagged, object_sized, tagged_element}
 
@@ -70,6 +70,8 @@ pub record IsReady (p : Typed) (globals : Globals) (s : Setting) : Type 0 where
   pub sound : AreSound p.layout globals s.variables
   pub locals : (k : ℕ) (t : CType) → type_of_name globals s.variables (name.Local k) ≡ Some t → k < length s.variables
   pub limits : (t : CType) (k : ℕ) (low high : Form) → IsRangeOf s.frame k (range.Known low high) → LimitsForm (length s.variables) (limits_at p s.variables t k low high)
+  pub counts : (t : CType) (k : ℕ) → IfSome (count_of_static p t (name.Static k)) IsCount
+  pub members : (tag : ℕ) (m : Name) → IfSome (count_of_member p.layout tag m) IsCount
   pub addresses : (k : ℕ) → address_of p k ≤ statics_end
   pub arrays : (k : ℕ) → address_of p k + bytes_of p k ≤ statics_end
   pub structs : globals.structs ≡ p.layout
@@ -117,7 +119,8 @@ module _ (p : Typed) (globals : Globals) (s : Setting) (ready : IsReady p global
   record Holds (v : Expr) (q : Place) (t : CType) (a : Expr) : Type 0 where
     pub value : Means n v
     pub place : PlaceMeans n q
-    pub low : IsLow q t
+    pub low : IsLow q
+    pub near : IsNear q t
     pub address : Means n a
 
   abbrev NodeClaims : NodePart → Note → Pos → ℕ → Type 0
@@ -127,7 +130,7 @@ module _ (p : Typed) (globals : Globals) (s : Setting) (ready : IsReady p global
   ExprClaims e k = Holds ((part_of e).value p s.variables k) ((part_of e).place p s.variables k) e.note.ctype ((part_of e).address p s.variables k)
 
   record LimitsHold (l : NotedLimits) : Type 0 where
-    pub holds : EachLimits Fit l → (size k : ℕ) → ExprForm n ((part_of_limits l).elements size p s.variables k)
+    pub holds : EachLimits Fit l → (size k : ℕ) → size < 2 ^ 32 → ExprForm n ((part_of_limits l).elements size p s.variables k)
 
   record NodeHolds (x : NotedNode) : Type 0 where
     pub holds : EachNode Fit x → (a : Note) (at : Pos) → NodeFits (out-Node Name Note x) a → (k : ℕ) → NodeClaims (part_of_node x) a at k
@@ -173,13 +176,14 @@ module _ (p : Typed) (globals : Globals) (s : Setting) (ready : IsReady p global
   bare_holds a at v m = record {
     value = m;
     place = nowhere_means n p.layout at;
-    low = nowhere_low n p.layout at a.ctype;
-    address = address_means n p.layout a.ctype (nowhere at) (nowhere_means n p.layout at) (nowhere_low n p.layout at a.ctype);
+    low = nowhere_low n p.layout at;
+    near = inl refl;
+    address = address_means n p.layout a.ctype (nowhere at) (nowhere_means n p.layout at) (nowhere_low n p.layout at) (inl refl);
   }
 
   -- what lies at a place
-  there_holds : (a : Note) (v : Expr) (q : Place) → Means n v → PlaceMeans n q → IsLow q a.ctype → Holds v q a.ctype (address_at p.layout a.ctype q)
-  there_holds a v q m h low = record { value = m; place = h; low = low; address = address_means n p.layout a.ctype q h low }
+  there_holds : (a : Note) (v : Expr) (q : Place) → Means n v → PlaceMeans n q → IsLow q → IsNear q a.ctype → Holds v q a.ctype (address_at p.layout a.ctype q)
+  there_holds a v q m h low near = record { value = m; place = h; low = low; near = near; address = address_means n p.layout a.ctype q h low near }
 
   -- ---- names
 
@@ -188,13 +192,16 @@ module _ (p : Typed) (globals : Globals) (s : Setting) (ready : IsReady p global
   local_means t k range.Missing h is = record { form = h; range = tt; ranged = λ e. different e }
   local_means t k range.Any h is = record { form = h; range = tt; ranged = λ e. different e }
 
+  pub address_fits : (k : ℕ) → address_of p k < 2 ^ 32
+  address_fits k = let h = ready.addresses k in omega (arith, h)
+
   object_means : (t : CType) (at : Pos) (k : ℕ) → PlaceMeans n (object_place p t at k)
-  object_means t at k = record { access = tt; pointer = tt; index = tt }
+  object_means t at k = record { access = (size_fits p.layout t, omega arith, tt); pointer = address_fits k; index = omega arith }
 
   static_means : (t : CType) (at : Pos) (k : ℕ) (array : Option Kind) → Means n (static_in p t at k array)
-  static_means t at k None = read_means n p.layout t (count_of_static p t (name.Static k)) (object_place p t at k) (object_means t at k)
-  static_means t at k (Some kind.Raw) = number_means n (address_of p k)
-  static_means t at k (Some kind.One) = number_means n (address_of p k)
+  static_means t at k None = read_means n p.layout t (count_of_static p t (name.Static k)) (object_place p t at k) (ready.counts t k) (object_means t at k)
+  static_means t at k (Some kind.Raw) = number_means n (address_of p k) (address_fits k)
+  static_means t at k (Some kind.One) = number_means n (address_of p k) (address_fits k)
   static_means t at k (Some kind.Arr) = array_means n (address_of p k) (bytes_of p k) (let h = ready.arrays k in omega (arith, h))
   static_means t at k (Some kind.Nt) = array_means n (address_of p k) (bytes_of p k) (let h = ready.arrays k in omega (arith, h))
 
@@ -202,8 +209,8 @@ module _ (p : Typed) (globals : Globals) (s : Setting) (ready : IsReady p global
   name_holds (name.Local k) a at f = bare_holds a at (local_in p s.variables a.ctype k a.range) (local_means a.ctype k a.range (ready.locals k a.ctype f.row.row) f.range)
   name_holds (name.Static k) a at f =
       there_holds a (static_in p a.ctype at k (array_of p k)) (object_place p a.ctype at k) (static_means a.ctype at k (array_of p k)) (object_means a.ctype at k)
-      (λ e. (address_of p k, refl, ready.addresses k, inl refl))
-  name_holds m a at f = bare_holds a at outside (number_means n 0)
+      (λ e. (address_of p k, refl, ready.addresses k)) (inl refl)
+  name_holds m a at f = bare_holds a at outside (zero_means n)
 
   -- ---- bounds casts
 
@@ -229,12 +236,27 @@ module _ (p : Typed) (globals : Globals) (s : Setting) (ready : IsReady p global
 
   -- ---- nodes
 
+  member_scalar : (m : Name) (t : CType) (x : CType-F CType) → member_in globals.structs m x ≡ Some t → is_scalar t ≡ true
+  member_scalar m t (CType-F.Struct tag) e = (ready.sound.members tag m t e).1
+  member_scalar m t CType-F.Int e = absurd cc
+  member_scalar m t CType-F.Unsigned e = absurd cc
+  member_scalar m t CType-F.Char e = absurd cc
+  member_scalar m t CType-F.Void e = absurd cc
+  member_scalar m t (CType-F.Pointer k u) e = absurd cc
+
+  kind_counts : (k : Option Kind) → IfSome (count_of_kind k) IsCount
+  kind_counts (Some kind.Raw) = tt
+  kind_counts (Some kind.One) = (omega (arith, ints), omega (arith, ints))
+  kind_counts (Some kind.Arr) = tt
+  kind_counts (Some kind.Nt) = (omega (arith, ints), omega (arith, ints))
+  kind_counts None = tt
+
   node_step : (y : Node-F Name Note KeptLimits KeptNode KeptExpr) → NodeParts Fit (inner_node y) → (a : Note) (at : Pos) → NodeFits (inner_node y) a → (k : ℕ)
       → NodeClaims (node_parts (part_node (inner_node y))) a at k
-  node_step (Node-F.Number m u) w a at f k = bare_holds a at (Number m) (number_means n m)
+  node_step (Node-F.Number m u) w a at f k = bare_holds a at (Number m) (number_means n m f.row.word)
   node_step (Node-F.Text bytes) w a at f k =
       bare_holds a at (Array (address_of p k) (length bytes)) (array_means n (address_of p k) (length bytes) (let h = ready.addresses k in let g = f.short in omega (arith, h, g)))
-  node_step Node-F.Null w a at f k = bare_holds a at (Number 0) (number_means n 0)
+  node_step Node-F.Null w a at f k = bare_holds a at (Number 0) (zero_means n)
   node_step (Node-F.Name m) w a at f k = name_holds m a at f
   node_step (Node-F.Un op.Deref e) w a at f k =
       let h = e.1.holds w k in
@@ -242,9 +264,10 @@ module _ (p : Typed) (globals : Globals) (s : Setting) (ready : IsReady p global
       let q = target_place p.layout (part_of e.0).ctype at v in
       let m = target_means n p.layout (part_of e.0).ctype at v (sound_there e w) h.value in
       record {
-        value = read_means n p.layout a.ctype (count_of_kind (kind_of a.ctype)) q m;
+        value = read_means n p.layout a.ctype (count_of_kind (kind_of a.ctype)) q (kind_counts (kind_of a.ctype)) m;
         place = m;
-        low = element_low n p.layout (part_of e.0).ctype at integer.Int v (Number 0) a.ctype;
+        low = element_low n p.layout (part_of e.0).ctype at integer.Int v (Number 0);
+        near = inl refl;
         address = h.value;
       }
   node_step (Node-F.Un op.Address e) w a at f k = bare_holds a at ((part_of e.0).address p s.variables k) (e.1.holds w k).address
@@ -274,9 +297,10 @@ module _ (p : Typed) (globals : Globals) (s : Setting) (ready : IsReady p global
       let q = element_place p.layout t at (integer_of u) v x in
       let m = element_means n p.layout t at (integer_of u) v x (sound_there e w.0) (λ is. single_moved t moves.0 is) left right.form in
       record {
-        value = read_means n p.layout a.ctype (count_of_kind (kind_of a.ctype)) q m;
+        value = read_means n p.layout a.ctype (count_of_kind (kind_of a.ctype)) q (kind_counts (kind_of a.ctype)) m;
         place = m;
-        low = element_low n p.layout t at (integer_of u) v x a.ctype;
+        low = element_low n p.layout t at (integer_of u) v x;
+        near = inl refl;
         address = add_means n p.layout t u at v x (sound_there e w.0) (sound_there g w.1) (λ e. moves.0) moves.1 left right;
       }
   node_step (Node-F.Dot e m spot) w a at f k =
@@ -288,67 +312,67 @@ module _ (p : Typed) (globals : Globals) (s : Setting) (ready : IsReady p global
       let struct = struct_by p.layout m a.ctype (out-CType e.0.note.ctype) row in
       let scalar : is_scalar a.ctype ≡ true = member_scalar m a.ctype (out-CType e.0.note.ctype) f.row.row in
       let typed : member_type p.layout tag m ≡ Some a.ctype = subst (λ z. member_type p.layout (tag_of z) m ≡ Some a.ctype) (sym e.1.parted) struct.1 in
-      let place = member_means n p.layout tag m inner h.place in
-      there_holds a (read_at p.layout a.ctype (count_of_member p.layout tag m) q) q (read_means n p.layout a.ctype (count_of_member p.layout tag m) q place) place
-      (member_low n p.layout tag m inner e.0.note.ctype a.ctype typed scalar struct.0 h.low)
-    where
-      member_scalar : (m : Name) (t : CType) (x : CType-F CType) → member_in globals.structs m x ≡ Some t → is_scalar t ≡ true
-      member_scalar m t (CType-F.Struct tag) e = (ready.sound.members tag m t e).1
-      member_scalar m t CType-F.Int e = absurd cc
-      member_scalar m t CType-F.Unsigned e = absurd cc
-      member_scalar m t CType-F.Char e = absurd cc
-      member_scalar m t CType-F.Void e = absurd cc
-      member_scalar m t (CType-F.Pointer k u) e = absurd cc
+      let near : IsNear q a.ctype = member_near n p.layout tag m inner e.0.note.ctype a.ctype typed scalar struct.0 h.near in
+      let place = member_means n p.layout tag m inner a.ctype near h.place in
+      there_holds a (read_at p.layout a.ctype (count_of_member p.layout tag m) q) q (read_means n p.layout a.ctype (count_of_member p.layout tag m) q (ready.members tag m) place) place
+      (member_low n p.layout tag m inner h.low) near
   node_step (Node-F.Arrow e m spot) w a at f k =
       let h = e.1.holds w k in
       let t = (part_of e.0).ctype in
       let v = (part_of e.0).value p s.variables k in
       let tag = tag_of (element_of t) in
       let q = member_place p.layout tag m (target_place p.layout t at v) in
-      let place = member_means n p.layout tag m (target_place p.layout t at v) (target_means n p.layout t at v (sound_there e w) h.value) in
-      there_holds a (read_at p.layout a.ctype (count_of_member p.layout tag m) q) q (read_means n p.layout a.ctype (count_of_member p.layout tag m) q place) place
-      (arrow_low n p.layout tag m t at v a.ctype)
+      let row : dot_type p.layout (element_of e.0.note.ctype) m ≡ Some a.ctype = subst (λ z. dot_type z (element_of e.0.note.ctype) m ≡ Some a.ctype) ready.structs f.row.row in
+      let struct = struct_by p.layout m a.ctype (out-CType (element_of e.0.note.ctype)) row in
+      let scalar : is_scalar a.ctype ≡ true = member_scalar m a.ctype (out-CType (element_of e.0.note.ctype)) f.row.row in
+      let typed : member_type p.layout tag m ≡ Some a.ctype = subst (λ z. member_type p.layout (tag_of (element_of z)) m ≡ Some a.ctype) (sym e.1.parted) struct.1 in
+      let near : IsNear q a.ctype = member_near n p.layout tag m (target_place p.layout t at v) (element_of e.0.note.ctype) a.ctype typed scalar struct.0 (inl refl) in
+      let place = member_means n p.layout tag m (target_place p.layout t at v) a.ctype near (target_means n p.layout t at v (sound_there e w) h.value) in
+      there_holds a (read_at p.layout a.ctype (count_of_member p.layout tag m) q) q (read_means n p.layout a.ctype (count_of_member p.layout tag m) q (ready.members tag m) place) place
+      (arrow_low n p.layout tag m t at v) near
   node_step (Node-F.Cast x e) w a at f k =
       bare_holds a at (cast (type_written x) (part_of e.0).ctype ((part_of e.0).value p s.variables k))
       (cast_means n (type_written x) (part_of e.0).ctype ((part_of e.0).value p s.variables k) (e.1.holds w k).value)
-  node_step (Node-F.Size x) w a at f k = bare_holds a at (Number (size_of p.layout (type_written x))) (number_means n (size_of p.layout (type_written x)))
+  node_step (Node-F.Size x) w a at f k = bare_holds a at (Number (size_of p.layout (type_written x))) (number_means n (size_of p.layout (type_written x)) (size_fits p.layout (type_written x)))
   node_step (Node-F.Trusted x e None) w a at f k =
       bare_holds a at (Trusted (pointee_of p.layout (type_written x)) (form_if None) ((part_of e.0).value p s.variables k) (Number 1))
-      (trusted_means n (pointee_of p.layout (type_written x)) (form_if None) ((part_of e.0).value p s.variables k) (Number 1) (e.1.holds w.0 k).value tt)
+      (trusted_means n (pointee_of p.layout (type_written x)) (form_if None) ((part_of e.0).value p s.variables k) (Number 1)
+      (size_fits p.layout (element_of (type_written x))) (e.1.holds w.0 k).value (omega arith))
   node_step (Node-F.Trusted x e (Some l)) w a at f k =
       let j = k + (part_of e.0).literals in
       let size = size_behind p.layout (type_written x) in
       let v = (part_of e.0).value p s.variables k in
       let c = (part_of_limits l.0).elements size p s.variables j in
       bare_holds a at (Trusted (pointee_of p.layout (type_written x)) (part_of_limits l.0).form v c)
-      (trusted_means n (pointee_of p.layout (type_written x)) (part_of_limits l.0).form v c (e.1.holds w.0 k).value (l.1.holds w.1 size j))
+      (trusted_means n (pointee_of p.layout (type_written x)) (part_of_limits l.0).form v c (size_fits p.layout (element_of (type_written x)))
+      (e.1.holds w.0 k).value (l.1.holds w.1 size j (size_fits p.layout (element_of (type_written x)))))
   node_step (Node-F.Tested x e None) w a at f k =
       bare_holds a at (Tested (size_behind p.layout (type_written x)) (form_if None) at ((part_of e.0).value p s.variables k) (Number 1))
       (tested_means n (size_behind p.layout (type_written x)) (form_if None) at ((part_of e.0).value p s.variables k) (Number 1)
-      (tested_there x None f.tagged f.row.row.0) (e.1.holds w.0 k).value tt)
+      (tested_there x None f.tagged f.row.row.0) (e.1.holds w.0 k).value (omega arith))
   node_step (Node-F.Tested x e (Some l)) w a at f k =
       let j = k + (part_of e.0).literals in
       let size = size_behind p.layout (type_written x) in
       let v = (part_of e.0).value p s.variables k in
       let c = (part_of_limits l.0).elements size p s.variables j in
       bare_holds a at (Tested size (part_of_limits l.0).form at v c)
-      (tested_means n size (part_of_limits l.0).form at v c (tested_there x (Some l.0) f.tagged f.row.row.0) (e.1.holds w.0 k).value (l.1.holds w.1 size j))
-  node_step (Node-F.Call m es) w a at f k = bare_holds a at outside (number_means n 0)
-  node_step (Node-F.Calloc x e u) w a at f k = bare_holds a at outside (number_means n 0)
+      (tested_means n size (part_of_limits l.0).form at v c (tested_there x (Some l.0) f.tagged f.row.row.0) (e.1.holds w.0 k).value (l.1.holds w.1 size j (size_fits p.layout (element_of (type_written x)))))
+  node_step (Node-F.Call m es) w a at f k = bare_holds a at outside (zero_means n)
+  node_step (Node-F.Calloc x e u) w a at f k = bare_holds a at outside (zero_means n)
 
-  limits_step : (y : Limits-F Name Note KeptLimits KeptNode KeptExpr) → LimitsParts Fit (inner_limits y) → (size k : ℕ)
+  limits_step : (y : Limits-F Name Note KeptLimits KeptNode KeptExpr) → LimitsParts Fit (inner_limits y) → (size k : ℕ) → size < 2 ^ 32
       → ExprForm n ((limits_parts (part_limits (inner_limits y))).elements size p s.variables k)
-  limits_step (Limits-F.Count e at) w size k = (e.1.holds w k).value.form
-  limits_step (Limits-F.ByteCount e at) w size k = elements_form n size (part_of e.0).ctype at ((part_of e.0).value p s.variables k) (e.1.holds w k).value.form
-  limits_step (Limits-F.Between e g at) w size k = tt
-  limits_step (Limits-F.Unknown at) w size k = tt
+  limits_step (Limits-F.Count e at) w size k small = (e.1.holds w k).value.form
+  limits_step (Limits-F.ByteCount e at) w size k small = elements_form n size (part_of e.0).ctype at ((part_of e.0).value p s.variables k) small (e.1.holds w k).value.form
+  limits_step (Limits-F.Between e g at) w size k small = omega arith
+  limits_step (Limits-F.Unknown at) w size k small = omega arith
 
   limits_by : (x : LimitsLayer) (y : Limits-F Name Note KeptLimits KeptNode KeptExpr) → inner_limits y ≡ x → LimitsHold (roll-Limits Name Note x)
   limits_by x y is = record {
-    holds = λ w size k.
+    holds = λ w size k small.
         subst (λ (q : LimitsPart). ExprForm n (q.elements size p s.variables k))
         (sym (fold-roll-Limits Name Note LimitsPart NodePart Part limits_parts node_parts expr_parts x ∙ ap (λ z. limits_parts (part_limits z)) (sym is)))
-        (limits_step y (subst (LimitsParts Fit) (sym is) (limits_hold Fit x w)) size k);
+        (limits_step y (subst (LimitsParts Fit) (sym is) (limits_hold Fit x w)) size k small);
   }
 
   node_out : (x : NotedLayer) → out-Node Name Note (roll-Node Name Note x) ≡ x

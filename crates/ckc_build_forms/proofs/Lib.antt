@@ -6,6 +6,7 @@ pub mod DepthsOfParts
 pub mod DepthsOfValues
 pub mod Forms
 pub mod Merge
+pub mod NumbersOfForms
 pub mod SoundTypes
 pub mod TaggedTypes
 pub mod SoundNames

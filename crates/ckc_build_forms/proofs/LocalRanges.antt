@@ -1,6 +1,6 @@
--- The ranges that are noted at the names of locals name locals that are there.
+-- The ranges that are noted at the names of locals name locals that are there, and have small numbers.
 use Rattle.std.proofs.Common.{◌≡◌, ◌⊎◌, ⊎_elim, inl, inr, refl, sym, ap, subst, ◌∙◌, arith, ℕ, zero, suc, ◌-◌, ◌<◌, ◌≤◌, Bool, true, false, List, [], ◌∷◌, ◌++◌, length, replicate}
-use Rattle.std.specs.Prelude.{◌==◌, ◌&&◌, ◌+ℤ◌, if◌then◌else◌, pos, Option, None, Some, slice_get}
+use Rattle.std.specs.Prelude.{◌^◌, ◌==◌, ◌&&◌, ◌+ℤ◌, if◌then◌else◌, pos, Option, None, Some, slice_get}
 use Rattle.std.proofs.lemmas.Bool.Decides.{nat_tests}
 use Rattle.ckc_types.specs.declared.types.CType.{CType}
 use Rattle.ckc_types.specs.declared.types.CType.TheVariants as ctype
@@ -12,7 +12,7 @@ use Rattle.ckc_typed.specs.declared.typed.Range.TheVariants as range
 use Rattle.ckc_typed.specs.declared.typed.Typed.{Typed}
 use Rattle.ckc_typed.specs.Environment.{variables_of}
 use Rattle.ckc_typed.specs.Trees.{NotedHead, NotedStmt}
-use Rattle.ckc_typed.specs.Types.{is_integer, is_integer_form, is_pointer, is_pointer_form}
+use Rattle.ckc_typed.specs.Types.{element_of, is_integer, is_integer_form, is_pointer, is_pointer_form}
 use Rattle.ckc_blame_steps.specs.ckc_bounds.specs.Declarations.{few_of, first_of, head_bounds}
 use Rattle.ckc_blame_steps.specs.ckc_bounds.specs.Frames.{first_fresh, fresh_needed, nameless, locals_frame, function_frame}
 use Rattle.ckc_blame_steps.specs.ckc_bounds_points.specs.declared.frame.Bounds.{Bounds}
@@ -23,7 +23,8 @@ use Rattle.ckc_blame_steps.specs.ckc_bounds_points.specs.Forms.{is_small, moved_
 use Rattle.ckc_blame_steps.specs.ckc_bounds_points.specs.Frames.{local_at}
 use Rattle.ckc_blame_steps.specs.ckc_bounds_ranges.specs.Rows.{range_moved, range_of_bounds, range_widened, range_by}
 use Rattle.ckc_source.specs.Code.{Function}
-use Rattle.ckc_checks_operands.specs.Compilable.{IsVariable}
+use Rattle.ckc_checks_operands.specs.Compilable.{IsVariable, IsSmall}
+use Rattle.ckc_build_values.specs.Names.{address_of}
 use Rattle.ckc_build_values.specs.Ends.{base_at, variable_at, local_variable, end_at, limits_at}
 use Rattle.ckc_blame_steps.specs.ckc_blame_sound.specs.Ends.{IsBase, IsCounted, IsEnd, AreEnds}
 use Rattle.ckc_blame_steps.specs.ckc_blame_sound.specs.JudgedTexts.{IsJudged}
@@ -32,7 +33,10 @@ use Rattle.ckc_blame_steps.specs.ckc_blame_sound.proofs.Frames.{first_at, locals
 use Rattle.ckc_blame_steps.specs.ckc_blame_declared.proofs.HaveEnds.{locals_have_ends}
 use Rattle.ckc_source.specs.declared.expr.Base.TheVariants as ends
 use Rattle.ckc_build_forms.proofs.Forms.{BaseForm, EndForm, LimitsForm}
+use Rattle.ckc_build_forms.proofs.FormsOfParts.{size_fits}
+use Rattle.ckc_build_forms.proofs.ObjectsLow.{addresses_low}
 use Rattle.ckc_build_forms.proofs.RangesNoted.{IsRangeOf}
+use Rattle.ckc_build_forms.proofs.SmallLimits.{limits_small}
 use Rattle.ckc_build_forms.proofs.SoundTypes.{void_out}
 
 -- ---- the locals of a frame that are declared
@@ -149,13 +153,16 @@ module _ (p : Typed) (s : Setting) (f : Function) (j : IsJudged p) (is : IsFunct
 
   -- ---- ends as a program has them
 
+  address_fits : (k : ℕ) → address_of p k < 2 ^ 32
+  address_fits k = let h = addresses_low p j k in omega (arith, h)
+
   base_form : (own : ℕ) (b : Option Base) → BaseThere n b → BaseForm n (base_at p own b)
   base_form own (Some (base.Local k)) h = by (k == own)
     where
       by : (b : Bool) → BaseForm n (if b then ends.Own else ends.Local k)
       by true = tt
       by false = h
-  base_form own (Some (base.Array k)) h = tt
+  base_form own (Some (base.Array k)) h = address_fits k
   base_form own (Some (base.Value k)) h = tt
   base_form own None h = tt
 
@@ -166,10 +173,12 @@ module _ (p : Typed) (s : Setting) (f : Function) (j : IsJudged p) (is : IsFunct
       not_zero : (suc k == 0) ≡ false
       not_zero = grind (arith, nat_tests)
 
-  end_form : (own : ℕ) (g : Form) → FormThere n g → EndForm n (end_at p s.variables own g)
-  end_form own g h = (base_form own g.base h.base, variable_form g.var h.variable)
+  end_form : (own : ℕ) (g : Form) → FormThere n g → IsSmall g.add → EndForm n (end_at p s.variables own g)
+  end_form own g h small = (base_form own g.base h.base, variable_form g.var h.variable, small)
 
   -- the limits of a local that is read within its range
   pub limits_form : (t : CType) (k : ℕ) (low high : Form) → IsRangeOf s.frame k (range.Known low high) → LimitsForm n (limits_at p s.variables t k low high)
   limits_form t k low high h =
-      let there = range_there k (range.Known low high) h in (end_form k low there.0, end_form k high there.1)
+      let there = range_there k (range.Known low high) h in
+      let small = limits_small p s f j is k low high h in
+      (size_fits p.layout (element_of t), end_form k low there.0 small.0, end_form k high there.1 small.1)

@@ -1,6 +1,6 @@
 -- The static objects of a judged text lie low, and its string literals are short.
 use Rattle.std.proofs.Common.{◌≡◌, refl, sym, subst, arith, ℕ, ◌+◌, ◌*◌, ◌≤◌, Bool, true, false, List, [], ◌∷◌, map, length}
-use Rattle.std.specs.Prelude.{All, Option, Some, None, slice_get, if◌then◌else◌, ◌-◌}
+use Rattle.std.specs.Prelude.{◌<◌, ◌^◌, All, Option, Some, None, slice_get, if◌then◌else◌, ◌-◌}
 use Rattle.std.specs.List.{Contains, flat_map}
 use Rattle.std.proofs.Math.Nat.{mul-le-mul_left, mul-le-mul_right}
 use Rattle.std.proofs.lemmas.List.Elements.{All-nil, All-cons, All-head, All-tail, All-contains}
@@ -31,6 +31,8 @@ use Rattle.ckc_blame_steps.specs.ckc_blame_sound.proofs.Ranges.{contains_at}
 use Rattle.ckc_blame_steps.specs.ckc_blame_walk.proofs.Placed.{IsLaid, placed_laid}
 use Rattle.ckc_blame_steps.specs.ckc_blame_walk.proofs.Starts.{IsBegun, blocks_begun}
 use Rattle.ckc_build_forms.proofs.SoundTypes.{char_out}
+use Rattle.ckc_build_words.specs.Numbers.{ObjectFits}
+use Rattle.ckc_build_forms.proofs.FormsOfParts.{size_fits}
 use Rattle.ckc_build_forms.proofs.FormsOfExprs.{IsShort, AreShort, left_of, right_of}
 
 abbrev AreLaid : Structs → List StaticObject → Type 0
@@ -65,6 +67,23 @@ all_low structs (flag ∷ flags) (o ∷ os) l =
 
 pub objects_low : (p : Typed) → IsJudged p → All BeginsLow (objects_elaborated p)
 objects_low p j = all_low p.layout (flat_map run_in p.tree.items) p.statics (statics_laid p j)
+
+-- ---- the numbers of objects
+
+object_fits : (structs : Structs) (flag : Option Bool) (o : StaticObject) → IsLaid structs o → ObjectFits (object_elaborated structs flag o)
+object_fits structs flag o l = let below = l.below in (omega (arith, below), size_fits structs o.element)
+
+all_fit : (structs : Structs) (flags : List Bool) (os : List StaticObject) → AreLaid structs os → All ObjectFits (beside (object_elaborated structs) flags os)
+all_fit structs flags [] l = All-nil ObjectFits
+all_fit structs [] (o ∷ os) l =
+    All-cons ObjectFits (object_elaborated structs None o) (beside (object_elaborated structs) [] os)
+    (object_fits structs None o (All-head (IsLaid structs) o os l)) (all_fit structs [] os (All-tail (IsLaid structs) o os l))
+all_fit structs (flag ∷ flags) (o ∷ os) l =
+    All-cons ObjectFits (object_elaborated structs (Some flag) o) (beside (object_elaborated structs) flags os)
+    (object_fits structs (Some flag) o (All-head (IsLaid structs) o os l)) (all_fit structs flags os (All-tail (IsLaid structs) o os l))
+
+pub objects_fit : (p : Typed) → IsJudged p → All ObjectFits (objects_elaborated p)
+objects_fit p j = all_fit p.layout (flat_map run_in p.tree.items) p.statics (statics_laid p j)
 
 -- ---- addresses
 

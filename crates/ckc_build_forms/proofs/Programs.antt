@@ -1,4 +1,4 @@
--- The program of a judged text can be compiled, if the numbers in it fit in their words.
+-- The program of a judged text can be compiled, if the places in it fit in their words, and its numbers fit.
 use Rattle.std.proofs.Common.{◌≡◌, ◌∙◌, refl, sym, ap, subst, arith, ℕ, ◌+◌, ◌<◌, ◌≤◌, true, false, List, [], ◌∷◌, map, length}
 use Rattle.std.specs.Prelude.{All, Some, slice_get, Ok}
 use Rattle.std.specs.List.{Contains}
@@ -31,7 +31,8 @@ use Rattle.ckc_checks_operands.specs.Compilable.{HasParams, IsCompilableFunction
 use Rattle.ckc_build_elaborate.specs.Elaborated.{elaborated}
 use Rattle.ckc_build_elaborate.specs.Functions.{literals_of_head, function_elaborated, functions_elaborated}
 use Rattle.ckc_build_elaborate.specs.Objects.{count_declared}
-use Rattle.ckc_build_words.specs.Words.{FunctionsFit, WordsFit}
+use Rattle.ckc_build_words.specs.Numbers.{FunctionFits, NumbersFit}
+use Rattle.ckc_build_words.specs.Places.{FunctionsPlaces, PlacesFit}
 use Rattle.ckc_blame_steps.specs.ckc_blame_sound.specs.JudgedTexts.{IsJudged, IsBodyJudged, globals_in}
 use Rattle.ckc_blame_steps.specs.ckc_blame_sound.specs.Settings.{Setting, IsFunction, setting_of, frame_of_text}
 use Rattle.ckc_blame_steps.specs.ckc_blame_sound.specs.Words.{HaveWords, HasWords, exprs_in}
@@ -53,7 +54,11 @@ use Rattle.ckc_build_forms.proofs.FormsOfValues.{IsReady}
 use Rattle.ckc_build_forms.proofs.FunctionsSmall.{KeepsLimits, each_function, functions_are_small, functions_are_few, main_there}
 use Rattle.ckc_build_forms.proofs.LocalRanges.{limits_form}
 use Rattle.ckc_build_forms.proofs.Merge.{code_is}
-use Rattle.ckc_build_forms.proofs.ObjectsLow.{objects_low, addresses_low, arrays_low, bodies_short}
+use Rattle.ckc_build_forms.proofs.NumbersOfForms.{code_fits}
+use Rattle.ckc_build_forms.proofs.ObjectsLow.{objects_low, objects_fit, addresses_low, arrays_low, bodies_short}
+use Rattle.ckc_build_forms.proofs.SmallCounts.{member_count}
+use Rattle.ckc_build_forms.proofs.SmallResults.{result_fits, interfaces_fit}
+use Rattle.ckc_build_forms.proofs.SmallStatics.{static_count}
 use Rattle.ckc_build_forms.proofs.SoundNames.{members_there, layout_is, tags_pass, names_sound}
 
 each : {X : Type 0} (P : X → Type 0) (all : List X) → ((x : X) → Contains all x → P x) → (xs : List X) → All (Contains all) xs → All P xs
@@ -114,6 +119,8 @@ module _ (p : Typed) (j : IsJudged p) where
         sound = names_sound p j given small s f is_function;
         locals = local_there;
         limits = λ t m low high is. limits_form p s f j is_function t m low high is;
+        counts = static_count p j;
+        members = member_count p j given small;
         addresses = addresses_low p j;
         arrays = arrays_low p j;
         structs = structs_are;
@@ -180,15 +187,25 @@ module _ (p : Typed) (j : IsJudged p) where
       unfolding setting_of
       function_form = code_form (bodies_are_typed p j h body there)
 
+      function_fits : FunctionFits f
+      function_fits = record {
+        body = code_fits f.locals (functions_elaborated p) false f.body function_form;
+        result = result_fits p j h body there;
+        interfaces = interfaces_fit p j h body there;
+      }
+
     abbrev pub HasForm : Function → Type 0
     HasForm f = CodeForm (functions_elaborated p) f.locals false f.body
 
     pub have_form : All HasForm (functions_elaborated p)
     have_form = each_function p HasForm function_form
 
+    pub functions_fit : All FunctionFits (functions_elaborated p)
+    functions_fit = each_function p FunctionFits function_fits
+
 -- ---- programs
 
-compilable : (fs all : List Function) → All KeepsLimits fs → All (λ (f : Function). CodeForm all f.locals false f.body) fs → FunctionsFit fs → All (IsCompilableFunction all) fs
+compilable : (fs all : List Function) → All KeepsLimits fs → All (λ (f : Function). CodeForm all f.locals false f.body) fs → FunctionsPlaces fs → All (IsCompilableFunction all) fs
 compilable [] all l h w = All-nil (IsCompilableFunction all)
 compilable (f ∷ fs) all l h w =
     let P : Function → Type 0 = λ g. CodeForm all g.locals false g.body in
@@ -197,10 +214,16 @@ compilable (f ∷ fs) all l h w =
     (record { params = limits.params; locals = limits.locals; nodes = limits.nodes; body = code_is f.locals all false f.body (All-head P f fs h) w.0 })
     (compilable fs all (All-tail KeepsLimits f fs l) (All-tail P f fs h) w.1)
 
-pub form_by : (p : Typed) (j : IsJudged p) → given_tree j.named.tree ≡ true → Small j.named.tree → Small j.typed.tree → HaveWords p → WordsFit (elaborated p) → IsCompilable (elaborated p)
-form_by p j given small typed_small literals words = record {
+pub form_by : (p : Typed) (j : IsJudged p) → given_tree j.named.tree ≡ true → Small j.named.tree → Small j.typed.tree → HaveWords p → PlacesFit (elaborated p) → IsCompilable (elaborated p)
+form_by p j given small typed_small literals places = record {
   objects = objects_low p j;
-  functions = compilable (functions_elaborated p) (functions_elaborated p) (functions_are_small p j small) (have_form p j given small typed_small literals) words;
+  functions = compilable (functions_elaborated p) (functions_elaborated p) (functions_are_small p j small) (have_form p j given small typed_small literals) places;
   few = functions_are_few p j small;
   main = main_there p j;
+}
+
+pub numbers_by : (p : Typed) (j : IsJudged p) → given_tree j.named.tree ≡ true → Small j.named.tree → Small j.typed.tree → HaveWords p → NumbersFit (elaborated p)
+numbers_by p j given small typed_small literals = record {
+  objects = objects_fit p j;
+  functions = functions_fit p j given small typed_small literals;
 }

@@ -11,7 +11,8 @@ ghost use Rattle.ckc_checks_operands.specs.Compilable.{code_nodes, IsCompilable}
 ghost use Rattle.ckc_blame_steps.specs.Accepted.{IsAccepted};
 ghost use Rattle.ckc_build_elaborate.specs.Elaborated.{elaborated};
 ghost use Rattle.ckc_build_elaborate.specs.Statements.{alone, stmt_elaborated};
-ghost use Rattle.ckc_build_words.specs.Words.{WordsFit};
+ghost use Rattle.ckc_build_words.specs.Numbers.{NumbersFit};
+ghost use Rattle.ckc_build_words.specs.Places.{PlacesFit};
 
 use ckc_typed_welltyped::{counts_stay, texts_exactly};
 
@@ -22,10 +23,18 @@ pub fn statements_have_few_nodes()
         ≤ 6 * how_many is_node (marks_of_stmt s) }
 {}
 
-/// The program of a text that the phases accept can be compiled, if the numbers in it fit in their words.
+/// The program of a text that the phases accept can be compiled, if the places in it fit in their words.
 pub fn accepted_texts_have_the_form()
-    ensures { (text : List ℕ) (p : Typed) → IsAccepted text p → WordsFit (elaborated p)
+    ensures { (text : List ℕ) (p : Typed) → IsAccepted text p → PlacesFit (elaborated p)
         → IsCompilable (elaborated p) }
+{
+    texts_exactly();
+    counts_stay();
+}
+
+/// The numbers in the program of a text that the phases accept fit in 32 bits.
+pub fn accepted_numbers_fit()
+    ensures { (text : List ℕ) (p : Typed) → IsAccepted text p → NumbersFit (elaborated p) }
 {
     texts_exactly();
     counts_stay();
