@@ -13,7 +13,7 @@ use crate::laws::{
 use crate::meanings::program;
 use ckc_base::Fault;
 use ckc_build_compile::compile;
-use ckc_build_words::words_fit;
+use ckc_build_words::places_fit;
 use ckc_image::write;
 use ckc_source::Program;
 use std::alloc::Global;
@@ -43,7 +43,7 @@ fn image_of(alloc: Global, text: &[u8], p: &Program) -> Result<Vec<u8>, Fault>
     ensures answers { Answers building text.now (viewed bytes_of result) }
     ensures short { IfOk result (λ image. HasShortCode text.now image.items) }
 {
-    words_fit(p);
+    places_fit(p);
     programs_have_the_form();
     programs_fit();
     unchecked_code_is_to_blame();

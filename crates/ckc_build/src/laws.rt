@@ -16,14 +16,15 @@ ghost use Rattle.ckc_build_wellformed.specs.ckc_blame_steps.specs.Unchecked.{Are
 ghost use Rattle.ckc_build_elaborate.specs.Elaborated.{elaborated};
 ghost use Rattle.ckc_build_wellformed.specs.ckc_source_causes.specs.Causes.{IsStuckForCauseAlone};
 ghost use Rattle.ckc_build_wellformed.specs.ckc_source_causes.specs.WellFormed.{IsWellFormed};
-ghost use Rattle.ckc_build_words.specs.Words.{WordsFit};
+ghost use Rattle.ckc_build_words.specs.Numbers.{NumbersFit};
+ghost use Rattle.ckc_build_words.specs.Places.{PlacesFit};
 ghost use Rattle.ckc_typed.specs.declared.typed.Typed.{Typed};
 ghost use Rattle.ckc_build.specs.Codes.{IsTextCode};
 ghost use Rattle.ckc_build.specs.Meanings.{HasMeaning, IsWhollyChecked, judging, reading};
 
 use ckc_build_wellformed::{
-    accepted_stores_lie, accepted_texts_are_blamed, accepted_texts_are_well_formed,
-    accepted_texts_have_the_form, marks_stay, programs_are_small, runs_are_stuck_for_a_cause,
+    accepted_numbers_fit, accepted_stores_lie, accepted_texts_are_blamed,
+    accepted_texts_are_well_formed, accepted_texts_have_the_form, marks_stay, programs_are_small, runs_are_stuck_for_a_cause,
     stores_are_to_blame,
 };
 use ckc_source::laws::states_are_orderly;
@@ -95,10 +96,19 @@ pub fn programs_fit()
     programs_are_small();
 }
 
-/// The program of a text that has a meaning can be compiled, if the numbers in it fit in their words: those of each program
+/// The numbers in the program of a text that has a meaning fit in 32 bits: the rules and the size limits of texts see to it.
+/// So no phase answers that memory ran out for such a number.
+pub fn numbers_fit()
+    ensures { (text : List ℕ) (p : Program) → HasMeaning text p → NumbersFit p }
+{
+    texts_exactly();
+    accepted_numbers_fit();
+}
+
+/// The program of a text that has a meaning can be compiled, if the places in it fit in their words: those of each program
 /// that is there do. So `build` refuses no such text for the form of its program.
 pub fn programs_have_the_form()
-    ensures { (text : List ℕ) (p : Program) → HasMeaning text p → WordsFit p → IsCompilable p }
+    ensures { (text : List ℕ) (p : Program) → HasMeaning text p → PlacesFit p → IsCompilable p }
 {
     texts_exactly();
     accepted_texts_have_the_form();

@@ -5,8 +5,8 @@
 mod laws;
 
 pub use ckc_build_forms::{
-    accepted_stores_lie, accepted_texts_are_blamed, accepted_texts_have_the_form, marks_stay,
-    programs_are_small, stores_are_to_blame,
+    accepted_numbers_fit, accepted_stores_lie, accepted_texts_are_blamed,
+    accepted_texts_have_the_form, marks_stay, programs_are_small, stores_are_to_blame,
 };
 pub use ckc_source_causes::{
     checked_accesses_lie, expressions_are_stuck_for_a_cause, ranges_are_given,

@@ -4,7 +4,7 @@ use Rattle.ckc_build.proofs.images.image_of.Goals as goal
 
 pub compile-requires-clause-form : goal.compile-requires-clause-form
 compile-requires-clause-form c =
-    c.programs_have_the_form.ensures c.args.text.now (program_of c.args.p.now) c.requires.means.answers c.words_fit.ensures
+    c.programs_have_the_form.ensures c.args.text.now (program_of c.args.p.now) c.requires.means.answers c.places_fit.ensures
 
 pub compile-requires-clause-small : goal.compile-requires-clause-small
 compile-requires-clause-small c = c.programs_fit.ensures c.args.text.now (program_of c.args.p.now) c.requires.means.answers
