@@ -6,7 +6,9 @@ use Rattle.std.proofs.lemmas.Option.{same_Some}
 use Rattle.ckc_base.specs.declared.places.Pos.{Pos}
 use Rattle.ckc_base.specs.declared.places.Refusal.{Refusal}
 use Rattle.ckc_base.specs.Phases.{IsExact}
+use Rattle.ckc_base.specs.MemoryMap.{longest_code, longest_data}
 use Rattle.ckc_base.specs.Places.{start, longest_text}
+use Rattle.ckc_base.proofs.Told.{Told, SomeTold, stays, equal, at_most}
 use Rattle.ckc_image.specs.Image.{EntryFits, word_bytes}
 use Rattle.ckc_rv.specs.Machine.{Parts}
 use Rattle.ckc_asm.specs.declared.items.Operand.{Operand}
@@ -17,35 +19,31 @@ use Rattle.ckc_asm.specs.Items.{Statement}
 use Rattle.ckc_asm.specs.code.Found.{reading}
 use Rattle.ckc_asm.specs.Grammar.{HaveStatements}
 use Rattle.ckc_asm.specs.Program as program
-use Rattle.ckc_asm.specs.Program.{width_of, size_of, address_of, IsValue, IsBytes, no_place, of_word, data_bytes, IsEntry, IsEntryOf, Enters, AreSingle, AreStatements, AsmOf}
+use Rattle.ckc_asm.specs.Program.{width_of, size_of, address_of, IsLabelAt, IsValue, IsBytes, no_place, of_word, data_bytes, IsEntry, IsEntryOf, Enters, AreSingle, AreStatements, AsmOf}
 use Rattle.ckc_asm.specs.Faults as faults
-use Rattle.ckc_asm.specs.Faults.{line_front, place_of, IsFirstWith, NoneHas, HasNoForm, HasOldLabel, NamesNothing, HasNoWord, IsNoImage, AreFormed, WholeFault, NumberFault, NameFault, LabelFault, IsFirstFault}
+use Rattle.ckc_asm.specs.Faults.{line_front, place_of, IsFirstWith, NoneHas, HasNoForm, HasOldLabel, NamesNothing, HasNoWord, IsNoImage, NumberFault, NameFault, LabelFault, IsFirstFault}
 use Rattle.ckc_asm.specs.Phase.{assembling}
 use Rattle.ckc_asm.specs.code.Reading.{HaveTargets, HasTarget, AreRead}
 use Rattle.ckc_asm.proofs.Answer.{parts_once, fault_once, parts_or_fault}
+use Rattle.ckc_asm.proofs.Decisions.{first_or_none, Stands, stands_told, is_entry, has_no_form, has_old_label, label_told, names_nothing, word_told, has_no_word, entry_told, not_at_most}
 use Rattle.ckc_asm.proofs.Grammatical.{entry_statement, reading_found, reading_made, lines_made, none_unread}
 use Rattle.ckc_asm.proofs.Judging.{width_is, code_words, are_single}
 use Rattle.ckc_asm.proofs.LabelUses.{four_bytes, AreWordsBelow, words_none, words_next, words_all}
 
 -- ---- lists
 
--- if nothing is the first with a property, nothing has it
-none_of : {A : Type 0} (P : ℕ → A → Type 0) (xs : List A) → ((k : ℕ) (x : A) → IsFirstWith P xs k x → ⊥) → NoneHas P xs
-none_of {A} P xs never k x at p = below (suc k) k x (omega arith) at p
-  where
-    below : (n k : ℕ) (x : A) → k < n → slice_get xs k ≡ Some x → P k x → ⊥
-    below zero k x l at p = absurd (omega arith)
-    below (suc n) k x l at p = never k x (record { stands = at; holds = p; none_before = λ j y m at' p'. below n j y (omega arith) at' p' })
-
+-- a place below the length has an element
 element : {A : Type 0} (xs : List A) (k : ℕ) → k < length xs → (x : A) × (slice_get xs k ≡ Some x)
 element [] k h = absurd (omega arith)
 element (x ∷ xs) zero h = (x, refl)
 element (x ∷ xs) (suc k) h = element xs k (omega arith)
 
+-- what is not nothing is something
 some_of : (o : Option Statement) → (o ≡ None → ⊥) → (s : Statement) × (o ≡ Some s)
 some_of None h = absurd (h refl)
 some_of (Some s) h = (s, refl)
 
+-- if no line has no reading, the lines have statements
 read_all : (lines : List (List ℕ)) → ((k : ℕ) (line : List ℕ) → slice_get lines k ≡ Some line → reading line ≡ None → ⊥)
     → (statements : List Statement) × HaveStatements lines statements
 read_all [] h = ([], tt)
@@ -54,6 +52,7 @@ read_all (line ∷ lines) h =
     let rest = read_all lines (λ k l at. h (suc k) l at) in
     (s.0 ∷ rest.0, (reading_found line s.0 s.1, rest.1))
 
+-- what `.entry` says in a text is a number or a label
 targets_of : (lines : List (List ℕ)) (statements : List Statement) → HaveStatements lines statements → HaveTargets statements
 targets_of [] [] h k s at = absurd (let z : None ≡ Some s = at in cc)
 targets_of [] (t ∷ statements) h k s at = absurd h
@@ -65,119 +64,158 @@ targets_of (line ∷ lines) (t ∷ statements) h (suc k) s at = targets_of lines
 
 -- ---- from statements without a fault to parts
 
-module _ (statements : List Statement) (targets : HaveTargets statements) (names : NoneHas (NamesNothing statements) statements)
+module _ (text : List ℕ) (statements : List Statement) (form : AreStatements text statements) (names : NoneHas (NamesNothing statements) statements)
     (numbers : NoneHas (HasNoWord statements) statements) where
-  value : (k : ℕ) (s : Statement) → slice_get statements k ≡ Some s
-      → ((z : ℤ) → IsValue statements (address_of statements k) s.operand.text s.item.operand z → ⊥) → ⊥
-  value k s at none = go s.item.operand refl
+  -- a label that a statement names stands at an address
+  label : (k : ℕ) (s : Statement) → slice_get statements k ≡ Some s → s.item.operand ≡ Named → (address : ℕ) × IsLabelAt statements s.operand.text address
+  label k s at e = go (label_told statements s.operand.text)
     where
-      go : (o : Operand) → s.item.operand ≡ o → ⊥
-      go Nothing e = let P : Operand → Type 0 = λ o. IsValue statements (address_of statements k) s.operand.text o (pos 0) in none (pos 0) (subst P (sym e) refl)
-      go (Number n) e = let P : Operand → Type 0 = λ o. IsValue statements (address_of statements k) s.operand.text o n in none n (subst P (sym e) refl)
-      go Named e = names k s at (
-        e,
-        λ address stands.
-            (let z = distance (address_of statements k) address in
-            let P : Operand → Type 0 = λ o. IsValue statements (address_of statements k) s.operand.text o z in
-            none z (subst P (sym e) (address, stands, refl))),
-      )
+      go : SomeTold (λ address. IsLabelAt statements s.operand.text address) → (address : ℕ) × IsLabelAt statements s.operand.text address
+      go (inl found) = found
+      go (inr none) = absurd (names k s at (e, none))
 
-  bytes : (k : ℕ) (s : Statement) → slice_get statements k ≡ Some s
-      → ((found : List ℕ) → IsBytes statements (address_of statements k) s found → length found ≡ size_of s → ⊥) → ⊥
-  bytes k s at none = ⊎_elim
-      (λ (z : width_of s.item.form ≡ 0). none [] (no_place z refl) (sym z))
-      (λ (four : width_of s.item.form ≡ 4). value k s at (λ z v. numbers k s at (z, four, v, λ word w. none (word_bytes word) (of_word z word v w refl) (four_bytes word ∙ sym four))))
+  -- a statement has a number
+  value : (k : ℕ) (s : Statement) → slice_get statements k ≡ Some s → (z : ℤ) × IsValue statements (address_of statements k) s.operand.text s.item.operand z
+  value k s at = go s.item.operand refl
+    where
+      go : (o : Operand) → s.item.operand ≡ o → (z : ℤ) × IsValue statements (address_of statements k) s.operand.text o z
+      go Nothing e = (pos 0, refl)
+      go (Number n) e = (n, refl)
+      go Named e = let l = label k s at e in (distance (address_of statements k) l.0, (l.0, l.1, refl))
+
+  -- a statement has bytes
+  bytes : (k : ℕ) (s : Statement) → slice_get statements k ≡ Some s → (found : List ℕ) × IsBytes statements (address_of statements k) s found × (length found ≡ size_of s)
+  bytes k s at = ⊎_elim
+      (λ (z : width_of s.item.form ≡ 0). ([], no_place z refl, sym z))
+      (λ (four : width_of s.item.form ≡ 4).
+      let v = value k s at in
+      let w = stays (word_told text statements form k s at v.0 four) (λ wrong. numbers k s at (v.0, four, v.1, λ word w. wrong (word, w))) in
+      (word_bytes w.0, of_word v.0 w.0 v.1 w.1 refl, four_bytes w.0 ∙ sym four))
       (width_is s.item.form)
 
-  code : (k : ℕ) → k ≤ length statements → ((found : List ℕ) → AreWordsBelow statements k found → ⊥) → ⊥
-  code zero h none = none [] (words_none statements)
-  code (suc k) h none = code k (omega arith) (λ found below. next found below (element statements k (omega arith)))
+  -- the first statements have code
+  code : (k : ℕ) → k ≤ length statements → (found : List ℕ) × AreWordsBelow statements k found
+  code zero h = ([], words_none statements)
+  code (suc k) h =
+      let below = code k (omega (arith, h)) in
+      let s = element statements k (omega (arith, h)) in
+      let more = bytes k s.0 s.1 in
+      let after = words_next statements k s.0 below.0 more.0 (below.0 ++ more.0) s.1 refl more.2 more.1 (λ bad. numbers k s.0 s.1 bad) below.1 in
+      let e : k + 1 ≡ suc k = omega arith in
+      (below.0 ++ more.0, subst (λ n. AreWordsBelow statements n (below.0 ++ more.0)) e after)
+
+  -- the program begins at an address
+  enters : (z : ℤ) × Enters statements z
+  enters = at_entry (stands_told (λ k s. IsEntry s.item.form) statements (λ k s at. is_entry s.item.form))
     where
-      next : (found : List ℕ) → AreWordsBelow statements k found → (s : Statement) × (slice_get statements k ≡ Some s) → ⊥
-      next found below s = bytes k s.0 s.1 (λ more is len.
-          (let after = words_next statements k s.0 found more (found ++ more) s.1 refl len is (λ bad. numbers k s.0 s.1 bad) below in
-          let e : k + 1 ≡ suc k = omega arith in
-          none (found ++ more) (subst (λ n. AreWordsBelow statements n (found ++ more)) e after)))
+      there : (k : ℕ) (s : Statement) → slice_get statements k ≡ Some s → IsEntry s.item.form → (o : Operand) → s.item.operand ≡ o → (z : ℤ) × IsEntryOf statements s.operand.text o z
+      there k s at is Nothing e = absurd (targets_of (lines_of text) statements form k s at is e)
+      there k s at is (Number n) e = (n, refl)
+      there k s at is Named e = let l = label k s at e in (pos l.0, (l.0, l.1, refl))
 
-  enters : ((z : ℤ) → Enters statements z → ⊥) → ⊥
-  enters none = none (pos 0x1000) (program.first here refl)
+      at_entry : Told (Stands (λ k s. IsEntry s.item.form) statements) → (z : ℤ) × Enters statements z
+      at_entry (inl h) = let e = there h.0 h.1 h.2 h.3 h.1.item.operand refl in (e.0, program.there h.0 h.1 h.2 h.3 e.1)
+      at_entry (inr none) = (pos 0x1000, program.first (λ k s at is. none (k, s, at, is)) refl)
+
+  -- the initial bytes of the statements
+  abbrev initial : List ℕ
+  initial = flat_map (λ s. data_bytes s.item.form) statements
+
+  -- parts of the statements, if each size and the entry are right
+  made : AreSingle statements → (found : List ℕ) → AreWordsBelow statements (length statements) found → (z : ℤ) → Enters statements z → (entry : ℕ) → z ≡ pos entry
+      → EntryFits entry (sum_by size_of statements) → ¬ (sum_by size_of statements ≡ 0) → sum_by size_of statements ≤ longest_code → length initial ≤ longest_data
+      → AsmOf text entry found initial
+  made single found below z e entry is fits some few short =
+      let whole = (words_all statements (length statements) found (omega arith) below).0 in
+      let size : length found ≡ sum_by size_of statements = whole.whole in
+      let four : 4 ≤ length found = ⊎_elim
+      (λ (none : length found < 4). absurd (some (omega (arith, none, size, code_words statements found whole))))
+      (λ (h : 4 ≤ length found). h) (cases_lt (length found) 4) in
+      record {
+        statements = statements;
+        form = form;
+        single = single;
+        image = record { enters = subst (λ (y : ℤ). Enters statements y) is e; whole = whole.whole; each = whole.each; data_is = refl };
+        proper = ((code_words statements found whole, four, omega (arith, few, size), short), subst (λ (n : ℕ). EntryFits entry n) (sym size) fits);
+      }
+
+  -- the statements are not those of an image, or they have parts
+  parts : AreSingle statements → IsNoImage statements ⊎ ((entry : ℕ) × (found : List ℕ) × AsmOf text entry found initial)
+  parts single = by_code (equal (sum_by size_of statements) 0) (at_most (sum_by size_of statements) longest_code) (at_most (length initial) longest_data)
     where
-      here : (k : ℕ) (s : Statement) → slice_get statements k ≡ Some s → IsEntry s.item.form → ⊥
-      here k s at is = go s.item.operand refl
-        where
-          go : (o : Operand) → s.item.operand ≡ o → ⊥
-          go Nothing e = targets k s at is e
-          go (Number n) e = let P : Operand → Type 0 = λ o. IsEntryOf statements s.operand.text o n in none n (program.there k s at is (subst P (sym e) refl))
-          go Named e = names k s at (
-            e,
-            λ address stands.
-                (let P : Operand → Type 0 = λ o. IsEntryOf statements s.operand.text o (pos address) in
-                none (pos address) (program.there k s at is (subst P (sym e) (address, stands, refl)))),
-          )
+      z : (z : ℤ) × Enters statements z
+      z = enters
 
-  parts : (text : List ℕ) → AreStatements text statements → AreSingle statements → ¬ IsNoImage statements
-      → ((entry : ℕ) (found initial : List ℕ) → AsmOf text entry found initial → ⊥) → ⊥
-  parts text form single fine none = code (length statements) (omega arith) (λ found below. enters (λ z e. fine (faults.bad_entry z e (λ entry is fits. made found below z e entry is fits))))
+      found : (found : List ℕ) × AreWordsBelow statements (length statements) found
+      found = code (length statements) (omega arith)
+
+      by_entry : ¬ (sum_by size_of statements ≡ 0) → sum_by size_of statements ≤ longest_code → length initial ≤ longest_data
+          → Told ((entry : ℕ) × (z.0 ≡ pos entry) × EntryFits entry (sum_by size_of statements)) → IsNoImage statements ⊎ ((entry : ℕ) × (found : List ℕ) × AsmOf text entry found initial)
+      by_entry some few short (inr wrong) = inl (faults.bad_entry z.0 z.1 (λ entry is fits. wrong (entry, is, fits)))
+      by_entry some few short (inl e) = inr (e.0, found.0, made single found.0 found.1 z.0 z.1 e.0 e.1 e.2 some few short)
+
+      by_code : Told (sum_by size_of statements ≡ 0) → Told (sum_by size_of statements ≤ longest_code) → Told (length initial ≤ longest_data)
+          → IsNoImage statements ⊎ ((entry : ℕ) × (found : List ℕ) × AsmOf text entry found initial)
+      by_code (inl none) few short = inl (faults.no_code none)
+      by_code (inr some) (inr long) short = inl (faults.long_code (not_at_most (sum_by size_of statements) longest_code long))
+      by_code (inr some) (inl few) (inr long) = inl (faults.long_data (not_at_most (length initial) longest_data long))
+      by_code (inr some) (inl few) (inl short) = by_entry some few short (entry_told z.0 (sum_by size_of statements))
+
+-- ---- from a text to its parts or its first fault
+
+-- parts that the text makes, or a refusal
+abbrev OneOfBoth : List ℕ → Type 0
+OneOfBoth text = ((parts' : Parts) × assembling.Makes text parts') ⊎ ((r : Refusal) × assembling.Refuses text r)
+
+module _ (text : List ℕ) (short : length text ≤ longest_text) (formed : NoneHas (HasNoForm (lines_of text)) (lines_of text)) (ss : List Statement)
+    (have : AreStatements text ss) where
+  refuse : (code : ℕ) (place : Pos) → LabelFault ss code place → OneOfBoth text
+  refuse code place f = inr (record { code = code; pos = place }, faults.in_whole short ss (record { form = have; entries = formed }) f)
+
+  -- no fault of labels, names and numbers: parts or E805
+  in_whole : NoneHas (HasOldLabel ss) ss → NoneHas (NamesNothing ss) ss → NoneHas (HasNoWord ss) ss → OneOfBoth text
+  in_whole labels names numbers = go (parts text ss have names numbers (are_single (map reading (lines_of text)) ss read labels))
     where
-      initial : List ℕ
-      initial = flat_map (λ s. data_bytes s.item.form) statements
+      read : AreRead (map reading (lines_of text)) ss
+      read = record {
+        form = lines_made (lines_of text) ss have;
+        entries = none_unread (lines_of text) formed;
+        targets = targets_of (lines_of text) ss have;
+      }
 
-      made : (found : List ℕ) → AreWordsBelow statements (length statements) found → (z : ℤ) → Enters statements z → (entry : ℕ) → z ≡ pos entry
-          → EntryFits entry (sum_by size_of statements) → ⊥
-      made found below z e entry is fits =
-          let whole = (words_all statements (length statements) found (omega arith) below).0 in
-          let size : length found ≡ sum_by size_of statements = whole.whole in
-          let some : 4 ≤ length found = ⊎_elim
-          (λ (few : length found < 4). absurd (fine (faults.no_code (omega (arith, few, size, code_words statements found whole)))))
-          (λ (h : 4 ≤ length found). h) (cases_lt (length found) 4) in
-          let few : length found ≤ 16773120 = ⊎_elim
-          (λ (long : 16773120 < length found). absurd (fine (faults.long_code (omega (arith, long, size)))))
-          (λ (h : length found ≤ 16773120). h) (cases_lt 16773120 (length found)) in
-          let short : length initial ≤ 16777216 = ⊎_elim
-          (λ (long : 16777216 < length initial). absurd (fine (faults.long_data long)))
-          (λ (h : length initial ≤ 16777216). h) (cases_lt 16777216 (length initial)) in
-          none entry found initial (record {
-            statements = statements;
-            form = form;
-            single = single;
-            image = record { enters = subst (λ (y : ℤ). Enters statements y) is e; whole = whole.whole; each = whole.each; data_is = refl };
-            proper = ((code_words statements found whole, some, few, short), subst (λ (n : ℕ). EntryFits entry n) (sym size) fits);
-          })
+      go : IsNoImage ss ⊎ ((entry : ℕ) × (found : List ℕ) × AsmOf text entry found (flat_map (λ s. data_bytes s.item.form) ss)) → OneOfBoth text
+      go (inl f) = refuse 805 start (inr (labels, inr (names, inr (numbers, (f, refl, refl)))))
+      go (inr p) = inl (record { entry = p.0; code = p.1; initial = flat_map (λ s. data_bytes s.item.form) ss }, (short, p.2))
 
--- ---- from a text without a fault to parts
+  -- no fault of labels and names: E804 or the next
+  in_numbers : NoneHas (HasOldLabel ss) ss → NoneHas (NamesNothing ss) ss → ((k : ℕ) × (s : Statement) × IsFirstWith (HasNoWord ss) ss k s) ⊎ NoneHas (HasNoWord ss) ss → OneOfBoth text
+  in_numbers labels names (inl f) = refuse 804 (place_of f.0 f.1.operand) (inr (labels, inr (names, inl ((f.0, f.1, f.1.operand, f.2, refl, refl), refl))))
+  in_numbers labels names (inr numbers) = in_whole labels names numbers
 
-never_neither : (text : List ℕ) → ((parts' : Parts) → ¬ assembling.Makes text parts') → ((r : Refusal) → ¬ assembling.Refuses text r) → ⊥
-never_neither text no_made no_refused = ⊎_elim
-    (λ (more : longest_text < length text). no_refused (record { code = 201; pos = start }) (faults.too_long more refl refl))
-    (λ (short : length text ≤ longest_text). in_lines short)
+  -- no fault of labels: E802 or the next
+  in_names : NoneHas (HasOldLabel ss) ss → ((k : ℕ) × (s : Statement) × IsFirstWith (NamesNothing ss) ss k s) ⊎ NoneHas (NamesNothing ss) ss → OneOfBoth text
+  in_names labels (inl f) = refuse 802 (place_of f.0 f.1.operand) (inr (labels, inl ((f.0, f.1, f.1.operand, f.2, refl, refl), refl)))
+  in_names labels (inr names) = in_numbers labels names (first_or_none (HasNoWord ss) ss (λ k s at. has_no_word text ss have k s at))
+
+  -- E803 or the next
+  in_labels : ((k : ℕ) × (s : Statement) × IsFirstWith (HasOldLabel ss) ss k s) ⊎ NoneHas (HasOldLabel ss) ss → OneOfBoth text
+  in_labels (inl f) = refuse 803 (place_of f.0 f.2.holds.6.0) (inl ((f.0, f.1, f.2.holds.6.0, f.2, f.2.holds.6.1, refl), refl))
+  in_labels (inr labels) = in_names labels (first_or_none (NamesNothing ss) ss (λ k s at. names_nothing ss k s))
+
+-- E801 or the next
+in_forms : (text : List ℕ) → length text ≤ longest_text
+    → ((k : ℕ) × (line : List ℕ) × IsFirstWith (HasNoForm (lines_of text)) (lines_of text) k line) ⊎ NoneHas (HasNoForm (lines_of text)) (lines_of text) → OneOfBoth text
+in_forms text short (inl f) = inr (record { code = 801; pos = line_front f.0 }, faults.in_form short (f.0, f.1, f.2, refl, refl))
+in_forms text short (inr formed) =
+    let read = read_all (lines_of text) (λ k line at none. formed k line at (inl (λ s has. (let z : None ≡ Some s = sym none ∙ reading_made line s has in cc)))) in
+    in_labels text short formed read.0 read.1 (first_or_none (HasOldLabel read.0) read.0 (λ k s at. has_old_label read.0 k s))
+
+-- a text has parts, or a first fault
+one_of_both : (text : List ℕ) → OneOfBoth text
+one_of_both text = ⊎_elim
+    (λ (more : longest_text < length text). inr (record { code = 201; pos = start }, faults.too_long more refl refl))
+    (λ (short : length text ≤ longest_text). in_forms text short (first_or_none (HasNoForm (lines_of text)) (lines_of text) (λ k line at. has_no_form (lines_of text) k line)))
     (cases_lt longest_text (length text))
-  where
-    lines : List (List ℕ)
-    lines = lines_of text
-
-    in_statements : length text ≤ longest_text → NoneHas (HasNoForm (lines_of text)) (lines_of text) → (ss : List Statement) → HaveStatements (lines_of text) ss → ⊥
-    in_statements short formed ss have =
-        let refuse : (code : ℕ) (place : Pos) → LabelFault ss code place → ⊥ =
-        λ code place f. no_refused (record { code = code; pos = place }) (faults.in_whole short ss (record { form = have; entries = formed }) f) in
-        let labels : NoneHas (HasOldLabel ss) ss =
-        none_of (HasOldLabel ss) ss (λ k s f. refuse 803 (place_of k f.holds.6.0) (inl ((k, s, f.holds.6.0, f, f.holds.6.1, refl), refl))) in
-        let names : NoneHas (NamesNothing ss) ss =
-        none_of (NamesNothing ss) ss (λ k s f. refuse 802 (place_of k s.operand) (inr (labels, inl ((k, s, s.operand, f, refl, refl), refl)))) in
-        let numbers : NoneHas (HasNoWord ss) ss =
-        none_of (HasNoWord ss) ss (λ k s f. refuse 804 (place_of k s.operand) (inr (labels, inr (names, inl ((k, s, s.operand, f, refl, refl), refl))))) in
-        let fine : IsNoImage ss → ⊥ = λ f. refuse 805 start (inr (labels, inr (names, inr (numbers, (f, refl, refl))))) in
-        let targets = targets_of (lines_of text) ss have in
-        let read : AreRead (map reading (lines_of text)) ss =
-        record { form = lines_made (lines_of text) ss have; entries = none_unread (lines_of text) formed; targets = targets } in
-        parts ss targets names numbers text have (are_single (map reading (lines_of text)) ss read labels) fine
-        (λ entry code initial asm. no_made (record { entry = entry; code = code; initial = initial }) (short, asm))
-
-    in_lines : length text ≤ longest_text → ⊥
-    in_lines short =
-        let formed : NoneHas (HasNoForm (lines_of text)) (lines_of text) =
-        none_of (HasNoForm (lines_of text)) (lines_of text) (λ k line f. no_refused (record { code = 801; pos = line_front k }) (faults.in_form short (k, line, f, refl, refl))) in
-        let read = read_all (lines_of text) (λ k line at none. formed k line at (inl (λ s has. (let z : None ≡ Some s = sym none ∙ reading_made line s has in cc)))) in
-        in_statements short formed read.0 read.1
 
 made_once : (text : List ℕ) (a b : Parts) → assembling.Makes text a → assembling.Makes text b → a ≡ b
 made_once text a b x y =
@@ -194,7 +232,7 @@ assembling_exact = record {
   made_once = made_once;
   refused_once = refused_once;
   never_both = λ text p r m f. parts_or_fault text p.entry p.code p.initial r.code r.pos m.0 m.1 f;
-  never_neither = never_neither;
+  one_of_both = one_of_both;
 }
 
 -- ---- the codes

@@ -3,6 +3,7 @@ pub mod Numbers
 pub mod KindNames
 pub mod Spelling
 pub mod Grammatical
+pub mod Decisions
 pub mod Exactness
 pub mod Cutting
 pub mod Digits
