@@ -10,6 +10,7 @@ pub mod SoundTypes
 pub mod TaggedTypes
 pub mod SoundNames
 pub mod RangesNoted
+pub mod SmallBounds
 pub mod LocalRanges
 pub mod FormsOfParts
 pub mod FormsOfValues
