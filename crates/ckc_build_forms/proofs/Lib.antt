@@ -11,6 +11,8 @@ pub mod SoundTypes
 pub mod TaggedTypes
 pub mod SoundNames
 pub mod RangesNoted
+pub mod SmallBounds
+pub mod SmallLimits
 pub mod LocalRanges
 pub mod FormsOfParts
 pub mod FormsOfValues
