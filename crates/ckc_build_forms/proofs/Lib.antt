@@ -21,6 +21,8 @@ pub mod FormsOfSteps
 pub mod StatementParts
 pub mod FormsOfStatements
 pub mod FunctionsSmall
+pub mod SmallAmounts
+pub mod SmallStatics
 pub mod ObjectsLow
 pub mod Programs
 pub mod Accepted
