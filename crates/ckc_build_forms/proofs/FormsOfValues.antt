@@ -189,7 +189,7 @@ module _ (p : Typed) (globals : Globals) (s : Setting) (ready : IsReady p global
   -- ---- names
 
   local_means : (t : CType) (k : ℕ) (r : Range) → k < n → IsRangeOf s.frame k r → Means n (local_in p s.variables t k r)
-  local_means t k (range.Known l u) h is = let f = ready.limits t k l u is in record { form = h; range = f; ranged = λ e. f }
+  local_means t k (range.Known l u) h is = let f = ready.limits t k l u is in record { form = (h, f); range = f; ranged = λ e. f }
   local_means t k range.Missing h is = record { form = h; range = tt; ranged = λ e. different e }
   local_means t k range.Any h is = record { form = h; range = tt; ranged = λ e. different e }
 

@@ -119,7 +119,7 @@ module _ (p : Typed) (j : IsJudged p) where
         sound = names_sound p j given small s f is_function;
         locals = local_there;
         limits = λ t m low high is. limits_form p s f j is_function t m low high is;
-        counts = static_count p j;
+        counts = λ t m. static_count p j t (name.Static m);
         members = member_count p j given small;
         addresses = addresses_low p j;
         arrays = arrays_low p j;
