@@ -120,7 +120,7 @@ module _ (p : Typed) (j : IsJudged p) where
         locals = local_there;
         limits = λ t m low high is. limits_form p s f j is_function t m low high is;
         counts = λ t m. static_count p j t (name.Static m);
-        members = member_count p j given small;
+        members = member_count p j;
         addresses = addresses_low p j;
         arrays = arrays_low p j;
         structs = structs_are;
