@@ -23,6 +23,9 @@ pub mod FormsOfStatements
 pub mod FunctionsSmall
 pub mod SmallAmounts
 pub mod SmallStatics
+pub mod SameAmounts
+pub mod SmallCounts
 pub mod ObjectsLow
+pub mod SmallResults
 pub mod Programs
 pub mod Accepted

@@ -1,6 +1,6 @@
 -- The amounts in the declared bounds of a judged text are at most 2^24 either way.
 use Rattle.std.proofs.Common.{◌≡◌, refl, sym, subst, arith, ℕ, suc, div-le_self, Bool, true, false, List, [], ◌∷◌}
-use Rattle.std.specs.Prelude.{All, ◌^◌, ◌==◌, ◌&&◌, if◌then◌else◌, ℤ, pos, negsuc, neg_ℤ, ◌≤ℤ◌, int_le, int_div, Option, None, Some, IfSome, Ok, Err}
+use Rattle.std.specs.Prelude.{All, ◌^◌, ◌==◌, if◌then◌else◌, ℤ, pos, negsuc, neg_ℤ, ◌≤ℤ◌, int_le, int_div, Option, None, Some, IfSome, Ok, Err}
 use Rattle.std.proofs.lemmas.Bool.{and_parts}
 use Rattle.std.proofs.lemmas.Int.{ints}
 use Rattle.std.proofs.lemmas.List.Elements.{All-nil, All-cons}
