@@ -24,8 +24,8 @@ ghost use Rattle.ckc_build.specs.Meanings.{HasMeaning, IsWhollyChecked, judging,
 
 use ckc_build_wellformed::{
     accepted_numbers_fit, accepted_stores_lie, accepted_texts_are_blamed,
-    accepted_texts_are_well_formed, accepted_texts_have_the_form, marks_stay, programs_are_small, runs_are_stuck_for_a_cause,
-    stores_are_to_blame,
+    accepted_texts_are_well_formed, accepted_texts_have_the_form, marks_stay, programs_are_small,
+    runs_are_stuck_for_a_cause, stores_are_to_blame,
 };
 use ckc_source::laws::states_are_orderly;
 use ckc_typed_plain::plain_texts_are_within;

@@ -11,7 +11,8 @@ pub use front::judge;
 pub use images::build;
 pub use laws::{
     checked_stores_lie_in_blocks, codes, judging_is_exact, numbers_fit, one_tree,
-    programs_are_laid_out, programs_are_well_formed, programs_fit, programs_have_the_form, states_of_texts_are_orderly,
-    stuck_runs_have_a_cause, unchecked_code_is_to_blame, unchecked_stores_are_to_blame,
+    programs_are_laid_out, programs_are_well_formed, programs_fit, programs_have_the_form,
+    states_of_texts_are_orderly, stuck_runs_have_a_cause, unchecked_code_is_to_blame,
+    unchecked_stores_are_to_blame,
 };
 pub use meanings::{meanings_are_exact, program};

@@ -6,6 +6,4 @@ mod laws;
 
 pub use ckc_blame_steps::{accepted_stores_lie, accepted_texts_are_blamed, stores_are_to_blame};
 pub use ckc_build_sizes::{marks_stay, programs_are_small};
-pub use laws::{
-    accepted_numbers_fit, accepted_texts_have_the_form, statements_have_few_nodes,
-};
+pub use laws::{accepted_numbers_fit, accepted_texts_have_the_form, statements_have_few_nodes};
