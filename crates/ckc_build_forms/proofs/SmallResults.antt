@@ -40,7 +40,6 @@ use Rattle.ckc_blame_steps.specs.ckc_bounds_points.specs.Codes.{bad_limits}
 use Rattle.ckc_blame_steps.specs.ckc_bounds_points.specs.Forms.{base_form, sum_of_forms, elements}
 use Rattle.ckc_blame_steps.specs.ckc_bounds_points.specs.Shown.{is_within}
 use Rattle.ckc_blame_steps.specs.ckc_blame_sound.specs.ckc_bounds_declared.specs.declared.limits.Holder.TheVariants as holder
-use Rattle.ckc_blame_steps.specs.ckc_blame_sound.specs.ckc_bounds_declared.specs.declared.limits.Pieces.{Pieces}
 use Rattle.ckc_blame_steps.specs.ckc_blame_sound.specs.ckc_bounds_declared.specs.Written.{amount_with, amount_form, counted, named_base, bound_with, bound, node_pieces, known_between, bounds_written, takes_bounds, bounds_of_kind, bounds_by_type, place_of_limits, bounds_taken, bounds_declared}
 use Rattle.ckc_blame_steps.specs.ckc_bounds_statements.specs.DeclBounds.{holder_of}
 use Rattle.ckc_blame_steps.specs.ckc_bounds.specs.Declarations.{types_in, params_frame, head_bounds}
@@ -92,7 +91,7 @@ module _ (types : Frame) (k : ℕ) where
   amount_same None = refl
   amount_same (Some a) = ap (λ o. if is_within (2 ^ 24) a.number then o else None) (with_same a.variable a.number)
 
-  bound_same : (t : CType) (o : Option Pieces) → bound_with types (holder.Local k) t o ≡ bound_with types holder.Result t o
+  bound_same : (t : CType) (o : _) → bound_with types (holder.Local k) t o ≡ bound_with types holder.Result t o
   bound_same t None = refl
   bound_same t (Some x) = ap (sum_of_forms (named_base types t x.name)) (amount_same x.by)
 
