@@ -1,26 +1,22 @@
 -- What is made of parts that have the form has the form.
 use Rattle.std.proofs.Common.{◌≡◌, ◌⊎◌, ◌∙◌, inl, inr, refl, sym, ap, subst, arith, ℕ, ◌+◌, ◌<◌, ◌≤◌, ◌^◌, Bool, true, false, List, [], ◌∷◌}
-use Rattle.std.specs.Prelude.{◌==◌, not, ◌&&◌, ◌||◌, nat_lt, find, if◌then◌else◌, Option, Some, None, IfSome}
-use Rattle.std.specs.List.{list_any}
-use Rattle.std.specs.Option.{option_map}
+use Rattle.std.specs.Prelude.{◌==◌, not, ◌&&◌, ◌||◌, if◌then◌else◌, Option, Some, None, IfSome}
 use Rattle.std.proofs.Math.Nat.{mod-le}
-use Rattle.std.proofs.lemmas.Bool.{ltb-true, and_parts}
+use Rattle.std.proofs.lemmas.Bool.{and_parts}
 use Rattle.ckc_base.specs.declared.places.Pos.{Pos}
 use Rattle.ckc_base.specs.MemoryMap.{statics_end}
 use Rattle.ckc_types.specs.declared.types.Kind.{Kind}
 use Rattle.ckc_types.specs.declared.types.Kind.TheVariants as kind
 use Rattle.ckc_types.specs.declared.types.CType.{CType, CType-F, out-CType}
 use Rattle.ckc_types.specs.declared.types.CType.TheVariants as ctype
-use Rattle.ckc_types.specs.declared.types.MemberShape.{MemberShape}
 use Rattle.ckc_types.specs.declared.types.Structs.{Structs}
-use Rattle.ckc_types.specs.Layout.{members_of, offset, size_by_form}
+use Rattle.ckc_types.specs.Layout.{size_by_form}
 use Rattle.ckc_syntax.specs.declared.tree.Name.{Name}
-use Rattle.ckc_syntax.specs.declared.tree.Name.TheVariants as name
 use Rattle.ckc_syntax.specs.declared.tree.TreeOp.{TreeOp}
 use Rattle.ckc_syntax.specs.declared.tree.TreeOp.TheVariants as op
 use Rattle.ckc_typed.specs.Constants.{is_laid_out_form, size_of}
 use Rattle.ckc_typed.specs.Declarations.{is_checked_kind}
-use Rattle.ckc_typed.specs.Environment.{is_member_named, member_type}
+use Rattle.ckc_typed.specs.Layouts.{member_number}
 use Rattle.ckc_typed.specs.Operands.{common, arithmetic_type, distance_type, is_moved, is_moved_kind, same_element, sum_type, difference_type, index_type}
 use Rattle.ckc_typed.specs.Types.{element_of, is_char, is_integer, is_integer_form, is_pointer, is_pointer_form, is_scalar, is_void, kind_of}
 use Rattle.ckc_blame_steps.specs.ckc_bounds_views.specs.Judged.{is_counted_kind}
@@ -35,15 +31,13 @@ use Rattle.ckc_source.specs.Eval.{place_in}
 use Rattle.ckc_checks_operands.specs.Cases.{casts_one, is_named, is_static, is_ranged}
 use Rattle.ckc_checks_operands.specs.Compilable.{IsZero, IsCount, EndsLow, IsTestedSize}
 use Rattle.ckc_build_values.specs.Kinds.{is_signed, size_behind, through_kind}
-use Rattle.ckc_build_values.specs.Members.{has_member, offset_of}
+use Rattle.ckc_build_values.specs.Members.{offset_of}
 use Rattle.ckc_build_values.specs.Operators.{converted, cast, unary, binary, is_signed_at, shift, distance, of_operands, elements_in}
 use Rattle.ckc_build_values.specs.Places.{Place, element_place, target_place, member_place, nowhere, read_at, address_at}
-use Rattle.ckc_blame_steps.specs.ckc_blame_sound.proofs.Accesses.{member_part}
-use Rattle.ckc_blame_steps.specs.ckc_blame_sound.proofs.Parts.{part_lies}
 use Rattle.ckc_blame_steps.specs.ckc_blame_sound.proofs.Sizes.{sizes_are_small}
 use Rattle.ckc_blame_steps.specs.ckc_blame_sound.proofs.Types.{no_pointer}
-use Rattle.ckc_build_values.specs.Kinds.{width_of}
 use Rattle.ckc_build_forms.proofs.Forms.{RangedForm, RangeForm, BoundedForm, JudgedForm, AccessForm, ShiftForm, CastForm, ExprForm}
+use Rattle.ckc_build_forms.proofs.SmallCounts.{offset_small}
 use Rattle.ckc_build_forms.proofs.SoundTypes.{IsSound, counted_sized}
 
 -- a value has the form, and so have its ranges, however they are computed
@@ -175,40 +169,13 @@ module _ (n : ℕ) where
 
     -- ---- members
 
-    offset_by : (tag k : ℕ) (t : CType) → member_type structs tag (name.Member k) ≡ Some t → (b : Bool) → has_member structs tag k ≡ b → offset_of structs tag k < 2 ^ 31
-    offset_by tag k t e false h = subst (λ b. (if b then offset structs tag k else 0) < 2 ^ 31) (sym h) (omega arith)
-    offset_by tag k t e true h =
-        let size : 0 < size_of structs (ctype.Struct tag) =
-        ltb-true 0 (size_of structs (ctype.Struct tag)) (and_parts (nat_lt 0 (size_of structs (ctype.Struct tag))) (list_any (λ (m : MemberShape). m.name == k) (members_of structs tag)) h).0 in
-        let lies = part_lies structs (ctype.Struct tag) (offset_of structs tag k) (width_of t) size (member_part structs tag k t e) in
-        let small = sizes_are_small structs (ctype.Struct tag) in
-        let within = lies.within in
-        omega (arith, within, small)
-
-    none_found : (p : MemberShape → Bool) → ((m : MemberShape) → p m ≡ false) → (ms : List MemberShape) → find p ms ≡ None
-    none_found p h [] = refl
-    none_found p h (m ∷ ms) = ap (λ b. if b then Some m else find p ms) (h m) ∙ none_found p h ms
-
-    no_member : (tag : ℕ) (m : Name) (t : CType) → ((k : ℕ) → is_member_named m k ≡ false) → member_type structs tag m ≡ Some t → ⊥
-    no_member tag m t h e = absent (sym (ap (λ o. option_map (λ (x : MemberShape). x.ctype) o) (none_found (λ (x : MemberShape). is_member_named m x.name) (λ x. h x.name) (members_of structs tag))) ∙ e)
-      where
-        absent : ◌≡◌ {A = Option CType} None (Some t) → ⊥
-        absent f = cc
-
     -- a member of what is no member itself lies near
-    pub member_near : (tag : ℕ) (m : Name) (q : Place) (u t : CType) → member_type structs tag m ≡ Some t → is_scalar t ≡ true → (is_scalar u ≡ true → ⊥) → IsNear q u
-        → IsNear (member_place structs tag m q) t
-    member_near tag (name.Member k) q u t e scalar apart near = by near (offset_by tag k t e (has_member structs tag k) refl)
-      where
-        by : IsNear q u → offset_of structs tag k < 2 ^ 31 → IsNear (member_place structs tag (name.Member k) q) t
-        by (inl z) far = inr (scalar, (let less : q.access.offset + offset_of structs tag k < 2 ^ 31 = omega (arith, z, far) in less))
-        by (inr z) far = absurd (apart z.0)
-    member_near tag (name.Local k) q u t e scalar apart near = absurd (no_member tag (name.Local k) t (λ j. refl) e)
-    member_near tag (name.Static k) q u t e scalar apart near = absurd (no_member tag (name.Static k) t (λ j. refl) e)
-    member_near tag (name.Function k) q u t e scalar apart near = absurd (no_member tag (name.Function k) t (λ j. refl) e)
-    member_near tag (name.Tag k) q u t e scalar apart near = absurd (no_member tag (name.Tag k) t (λ j. refl) e)
-    member_near tag name.Getchar q u t e scalar apart near = absurd (no_member tag name.Getchar t (λ j. refl) e)
-    member_near tag name.Putchar q u t e scalar apart near = absurd (no_member tag name.Putchar t (λ j. refl) e)
+    pub member_near : (tag : ℕ) (m : Name) (q : Place) (u t : CType) → is_scalar t ≡ true → (is_scalar u ≡ true → ⊥) → IsNear q u → IsNear (member_place structs tag m q) t
+    member_near tag m q u t scalar apart (inl z) =
+        let far = offset_small structs tag (member_number m) in
+        let less : q.access.offset + offset_of structs tag (member_number m) < 2 ^ 31 = omega (arith, z, far) in
+        inr (scalar, less)
+    member_near tag m q u t scalar apart (inr z) = absurd (apart z.0)
 
     pub member_low : (tag : ℕ) (m : Name) (q : Place) → IsLow q → IsLow (member_place structs tag m q)
     member_low tag m q low = low

@@ -2,7 +2,6 @@
 use Rattle.std.proofs.Common.{◌≡◌, ◌∙◌, inl, refl, sym, ap, subst, rules, arith, ℕ, ◌+◌, ◌<◌, ◌≤◌, Bool, true, false, length}
 use Rattle.std.specs.Prelude.{◌^◌, ◌||◌, Option, Some, None, IfSome, is_some}
 use Rattle.std.proofs.lemmas.Bool.{and_parts}
-use Rattle.std.proofs.lemmas.Int.{ints}
 use Rattle.ckc_base.specs.declared.places.Pos.{Pos}
 use Rattle.ckc_base.specs.MemoryMap.{statics_end}
 use Rattle.ckc_types.specs.declared.types.Kind.{Kind}
@@ -47,6 +46,7 @@ use Rattle.ckc_blame_steps.proofs.ObjectTypes.{element_is_object}
 use Rattle.ckc_build_forms.proofs.Forms.{LimitsForm, ExprForm}
 use Rattle.ckc_build_forms.proofs.FormsOfParts.{Means, PlaceMeans, IsLow, IsNear, number_means, zero_means, size_fits, array_means, choice_means, trusted_means, tested_means, tested_size, element_means, target_means, element_low, member_means, member_near, member_low, nowhere_means, nowhere_low, address_means, read_means, cast_means, unary_means, add_means, index_moves, sum_means, difference_means, other_means, elements_form, arrow_low}
 use Rattle.ckc_build_forms.proofs.RangesNoted.{IsRangeOf, NamesRange, HasItsRange}
+use Rattle.ckc_build_forms.proofs.SmallAmounts.{kind_count}
 use Rattle.ckc_build_forms.proofs.SoundTypes.{IsSound, AreSound, WritesTagged, HasSizes, typed_sound, tagged, object_sized, tagged_element}
 
 -- a string literal is no longer than the objects of a text
@@ -245,13 +245,6 @@ module _ (p : Typed) (globals : Globals) (s : Setting) (ready : IsReady p global
   member_scalar m t CType-F.Void e = absurd cc
   member_scalar m t (CType-F.Pointer k u) e = absurd cc
 
-  kind_counts : (k : Option Kind) → IfSome (count_of_kind k) IsCount
-  kind_counts (Some kind.Raw) = tt
-  kind_counts (Some kind.One) = (omega (arith, ints), omega (arith, ints))
-  kind_counts (Some kind.Arr) = tt
-  kind_counts (Some kind.Nt) = (omega (arith, ints), omega (arith, ints))
-  kind_counts None = tt
-
   node_step : (y : Node-F Name Note KeptLimits KeptNode KeptExpr) → NodeParts Fit (inner_node y) → (a : Note) (at : Pos) → NodeFits (inner_node y) a → (k : ℕ)
       → NodeClaims (node_parts (part_node (inner_node y))) a at k
   node_step (Node-F.Number m u) w a at f k = bare_holds a at (Number m) (number_means n m f.row.word)
@@ -265,7 +258,7 @@ module _ (p : Typed) (globals : Globals) (s : Setting) (ready : IsReady p global
       let q = target_place p.layout (part_of e.0).ctype at v in
       let m = target_means n p.layout (part_of e.0).ctype at v (sound_there e w) h.value in
       record {
-        value = read_means n p.layout a.ctype (count_of_kind (kind_of a.ctype)) q (kind_counts (kind_of a.ctype)) m;
+        value = read_means n p.layout a.ctype (count_of_kind (kind_of a.ctype)) q (kind_count (kind_of a.ctype)) m;
         place = m;
         low = element_low n p.layout (part_of e.0).ctype at integer.Int v (Number 0);
         near = inl refl;
@@ -298,7 +291,7 @@ module _ (p : Typed) (globals : Globals) (s : Setting) (ready : IsReady p global
       let q = element_place p.layout t at (integer_of u) v x in
       let m = element_means n p.layout t at (integer_of u) v x (sound_there e w.0) (λ is. single_moved t moves.0 is) left right.form in
       record {
-        value = read_means n p.layout a.ctype (count_of_kind (kind_of a.ctype)) q (kind_counts (kind_of a.ctype)) m;
+        value = read_means n p.layout a.ctype (count_of_kind (kind_of a.ctype)) q (kind_count (kind_of a.ctype)) m;
         place = m;
         low = element_low n p.layout t at (integer_of u) v x;
         near = inl refl;
@@ -312,8 +305,7 @@ module _ (p : Typed) (globals : Globals) (s : Setting) (ready : IsReady p global
       let row : dot_type p.layout e.0.note.ctype m ≡ Some a.ctype = subst (λ z. dot_type z e.0.note.ctype m ≡ Some a.ctype) ready.structs f.row.row in
       let struct = struct_by p.layout m a.ctype (out-CType e.0.note.ctype) row in
       let scalar : is_scalar a.ctype ≡ true = member_scalar m a.ctype (out-CType e.0.note.ctype) f.row.row in
-      let typed : member_type p.layout tag m ≡ Some a.ctype = subst (λ z. member_type p.layout (tag_of z) m ≡ Some a.ctype) (sym e.1.parted) struct.1 in
-      let near : IsNear q a.ctype = member_near n p.layout tag m inner e.0.note.ctype a.ctype typed scalar struct.0 h.near in
+      let near : IsNear q a.ctype = member_near n p.layout tag m inner e.0.note.ctype a.ctype scalar struct.0 h.near in
       let place = member_means n p.layout tag m inner a.ctype near h.place in
       there_holds a (read_at p.layout a.ctype (count_of_member p.layout tag m) q) q (read_means n p.layout a.ctype (count_of_member p.layout tag m) q (ready.members tag m) place) place
       (member_low n p.layout tag m inner h.low) near
@@ -326,8 +318,7 @@ module _ (p : Typed) (globals : Globals) (s : Setting) (ready : IsReady p global
       let row : dot_type p.layout (element_of e.0.note.ctype) m ≡ Some a.ctype = subst (λ z. dot_type z (element_of e.0.note.ctype) m ≡ Some a.ctype) ready.structs f.row.row in
       let struct = struct_by p.layout m a.ctype (out-CType (element_of e.0.note.ctype)) row in
       let scalar : is_scalar a.ctype ≡ true = member_scalar m a.ctype (out-CType (element_of e.0.note.ctype)) f.row.row in
-      let typed : member_type p.layout tag m ≡ Some a.ctype = subst (λ z. member_type p.layout (tag_of (element_of z)) m ≡ Some a.ctype) (sym e.1.parted) struct.1 in
-      let near : IsNear q a.ctype = member_near n p.layout tag m (target_place p.layout t at v) (element_of e.0.note.ctype) a.ctype typed scalar struct.0 (inl refl) in
+      let near : IsNear q a.ctype = member_near n p.layout tag m (target_place p.layout t at v) (element_of e.0.note.ctype) a.ctype scalar struct.0 (inl refl) in
       let place = member_means n p.layout tag m (target_place p.layout t at v) a.ctype near (target_means n p.layout t at v (sound_there e w) h.value) in
       there_holds a (read_at p.layout a.ctype (count_of_member p.layout tag m) q) q (read_means n p.layout a.ctype (count_of_member p.layout tag m) q (ready.members tag m) place) place
       (arrow_low n p.layout tag m t at v) near

@@ -38,29 +38,7 @@ use Rattle.ckc_blame_steps.specs.ckc_bounds.specs.Frames.{text_frame}
 use Rattle.ckc_blame_steps.specs.ckc_bounds.specs.Texts.{outside, members_judged, object_judged, body_judged, head_kept, item_judged, items_judged}
 use Rattle.ckc_blame_steps.specs.ckc_blame_sound.specs.JudgedTexts.{IsJudged}
 use Rattle.ckc_blame_steps.specs.ckc_blame_sound.proofs.Bounded.{is_bounded, anything}
-
--- ---- numbers
-
--- a number at most 2^24 either way
-abbrev pub IsClose : ℤ → Type 0
-IsClose c = (neg_ℤ (pos (2 ^ 24)) ≤ℤ c) × (c ≤ℤ pos (2 ^ 24))
-
--- such a number is one of 32 bits
-pub small_of_close : (c : ℤ) → IsClose c → IsSmall c
-small_of_close c h = let l = h.0 in let u = h.1 in (omega (arith, ints, l), omega (arith, ints, u))
-
-least : (x y : ℤ) → int_le x y ≡ true → x ≤ℤ y
-least x y e = grind (arith, ints)
-
-within_close : (c : ℤ) → is_within (2 ^ 24) c ≡ true → IsClose c
-within_close c e =
-    let b = and_parts (int_le (neg_ℤ (pos (2 ^ 24))) c) (int_le c (pos (2 ^ 24))) e in
-    (least (neg_ℤ (pos (2 ^ 24))) c b.0, least c (pos (2 ^ 24)) b.1)
-
--- a quotient is no larger
-quotient_close : (c : ℤ) (size : ℕ) → IsClose c → IsClose (int_div c (pos size))
-quotient_close (pos n) size h = let u = h.1 in let less = div-le_self n size in (omega (arith, ints), omega (arith, ints, less, u))
-quotient_close (negsuc n) size h = let l = h.0 in let less = div-le_self (suc n) size in (omega (arith, ints, less, l), omega (arith, ints))
+use Rattle.ckc_build_forms.proofs.SmallBounds.{IsClose, within_close, quotient_close}
 
 -- ---- amounts
 

@@ -69,13 +69,13 @@ both : (a b : Bool) → (a && b) ≡ true → (a ≡ true) × (b ≡ true)
 both true b e = (refl, e)
 both false b e = absurd cc
 
-within_close : (c : ℤ) → is_within (2 ^ 24) c ≡ true → IsClose c
+pub within_close : (c : ℤ) → is_within (2 ^ 24) c ≡ true → IsClose c
 within_close c e =
     let b = both (int_le (neg_ℤ (pos (2 ^ 24))) c) (int_le c (pos (2 ^ 24))) e in
     (least (neg_ℤ (pos (2 ^ 24))) c b.0, least c (pos (2 ^ 24)) b.1)
 
 -- a quotient is no larger
-quotient_close : (c : ℤ) (size : ℕ) → IsClose c → IsClose (int_div c (pos size))
+pub quotient_close : (c : ℤ) (size : ℕ) → IsClose c → IsClose (int_div c (pos size))
 quotient_close (pos n) size h = let u = h.1 in let less = div-le_self n size in (omega (arith, ints), omega (arith, ints, less, u))
 quotient_close (negsuc n) size h = let l = h.0 in let less = div-le_self (suc n) size in (omega (arith, ints, less, l), omega (arith, ints))
 

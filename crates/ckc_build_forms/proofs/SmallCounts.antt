@@ -40,7 +40,8 @@ use Rattle.ckc_blame_steps.specs.ckc_blame_sound.proofs.Parts.{part_lies}
 use Rattle.ckc_blame_steps.specs.ckc_blame_sound.proofs.Sizes.{sizes_are_small}
 use Rattle.ckc_blame_steps.proofs.SmallNames.{members_have, members_of_item, shapes_have}
 use Rattle.ckc_build_forms.proofs.SameAmounts.{amount_same, sizes_same}
-use Rattle.ckc_build_forms.proofs.SmallAmounts.{IsClose, HasClose, AmountsClose, LimitsClose, DeclClose, AreClose, small_of_close, bytes_close, kind_count, text_close}
+use Rattle.ckc_build_forms.proofs.SmallAmounts.{HasClose, AmountsClose, LimitsClose, DeclClose, AreClose, bytes_close, kind_count, text_close}
+use Rattle.ckc_build_forms.proofs.SmallBounds.{IsClose, small_of_close}
 
 -- ---- offsets
 

@@ -17,7 +17,8 @@ use Rattle.ckc_build_values.specs.Kinds.{size_behind}
 use Rattle.ckc_build_values.specs.Names.{declares, limits_in, limits_declared, fixed_by, fixed_count, count_declared, count_of_static}
 use Rattle.ckc_blame_steps.specs.ckc_blame_sound.specs.JudgedTexts.{IsJudged}
 use Rattle.ckc_blame_steps.specs.ckc_blame_sound.proofs.Lists.{found}
-use Rattle.ckc_build_forms.proofs.SmallAmounts.{IsClose, HasClose, AmountsClose, LimitsClose, AreClose, small_of_close, bytes_close, kind_count, text_close}
+use Rattle.ckc_build_forms.proofs.SmallAmounts.{HasClose, AmountsClose, LimitsClose, AreClose, bytes_close, kind_count, text_close}
+use Rattle.ckc_build_forms.proofs.SmallBounds.{IsClose, small_of_close}
 
 -- ---- what bounds count
 
